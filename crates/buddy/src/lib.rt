@@ -1,0 +1,8 @@
+// Blocks of storage: what they are stands in specs/.
+
+// The numbers of a set-up: the largest size, and the first and last address. All zero: no set-up yet.
+pub struct SetUp {
+    pub d: u16,
+    pub s1: u16,
+    pub s2: u16,
+}

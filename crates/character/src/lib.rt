@@ -1,0 +1,1 @@
+// Six-bit characters: the definitions are in specs/.

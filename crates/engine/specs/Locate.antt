@@ -1,0 +1,69 @@
+-- References: from a bug along the fields, link by link, to the location of the last one.
+-- Document 01: "Fields and references". Assumes nothing.
+use Prim.Native.Nat.{ℕ, _+_}
+use mathlib.Core.Bool.{Bool, not, cond}
+use mathlib.Core.List.{List, [], _∷_}
+use lib.Dec.{eqb, ltb}
+use lib.ListN.{getD}
+use Rattle.word.specs.Field.{width, fieldOf}
+use Rattle.buddy.specs.Blocks.{Block, sizeAt}
+use Rattle.buddy.specs.Map.{live}
+use Rattle.table.specs.declared.BugLetter.{BugLetter}
+use Rattle.table.specs.declared.FieldName.{FieldName}
+use Rattle.table.specs.declared.Pair.{Pair}
+use Rattle.table.specs.Reference.{Reference, referenceOf}
+use Rattle.engine.specs.declared.Definition.{Definition}
+use Rattle.engine.specs.declared.Location.{Location}
+use Rattle.engine.specs.declared.Location.the-variants.{Bug, Field}
+use Rattle.engine.specs.declared.Refusal.the-variants.{UndefinedField, NotABlock, OutsideBlock}
+use Rattle.engine.specs.Answer.{Checked, refused, passed, _>>=_, _>>_, need}
+use Rattle.engine.specs.State.{undefined}
+use Rattle.engine.specs.Storage.{wordAt}
+use Rattle.engine.specs.Sound.{Engine}
+
+-- the live blocks of an engine
+abbrev pub liveBlocks : Engine → List Block
+liveBlocks e = live (e .state .core .setup) (e .state .map)
+
+-- the definition of a field
+unfoldable pub definitionOf : FieldName → Engine → Definition
+definitionOf f e = getD (e .state .core .definitions) (f .0) undefined
+
+-- what stands at a location: a bug's word, or a field's bits
+unfoldable pub contents : ℕ → Engine → Location → ℕ
+contents b e (Bug x) = getD (e .state .core .bugs) (x .0) 0
+contents b e (Field address left right) = fieldOf b left right (wordAt (e .state .core .setup .s1) address (e .storage))
+
+-- the bits of a location: a bug is a whole word
+unfoldable pub widthOf : ℕ → Location → ℕ
+widthOf b (Bug x) = b
+widthOf b (Field address left right) = width left right
+
+-- one link, in this order: field defined (14), pointer is the start of a live block (15), word inside that block (16)
+unfoldable pub link : Engine → ℕ → FieldName → Checked Location
+link e pointer f = do
+  need (definitionOf f e .defined) UndefinedField
+  need (not (eqb (sizeAt pointer (liveBlocks e)) 0)) NotABlock
+  need (ltb (definitionOf f e .word) (sizeAt pointer (liveBlocks e))) OutsideBlock
+  passed (Field (pointer + definitionOf f e .word) (definitionOf f e .left) (definitionOf f e .right))
+
+-- the links one after the other: what one holds is the next one's pointer
+unfoldable pub follow : ℕ → Engine → Location → List FieldName → Checked Location
+follow b e at [] = passed at
+follow b e at (f ∷ fs) = link e (contents b e at) f >>= λ next. follow b e next fs
+
+-- the location of a reference: its bug, or that of its last link
+unfoldable pub locate : ℕ → Engine → Pair → Checked Location
+locate b e p = follow b e (Bug (referenceOf (p .value) .bug)) (referenceOf (p .value) .fields)
+
+-- a value and its width; a literal is a whole word
+pub record Value : Type 0 where
+  pub value : ℕ
+  pub width : ℕ
+
+unfoldable pub read : ℕ → Engine → Location → Value
+read b e at = record { value = contents b e at; width = widthOf b at }
+
+-- an operand that is used: a literal (form 1), or what stands where a reference leads
+unfoldable pub operand : ℕ → Engine → Pair → Checked Value
+operand b e p = cond (eqb (p .form) 1) (passed (record { value = p .value; width = b })) (locate b e p >>= λ at. passed (read b e at))

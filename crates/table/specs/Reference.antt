@@ -1,0 +1,49 @@
+-- References as numbers: a bug, then up to five field names, each name's number plus one a base-64 digit, first name first.
+-- Document 01: "Fields and references" and "The table". Assumes nothing.
+use Prim.Native.Nat.{ℕ, zero, suc, _-_, _/_, _%_, _^_}
+use mathlib.Core.Bool.{Bool, true, false, _&&_, cond}
+use mathlib.Core.List.{List, [], _∷_, map}
+use lib.Dec.{eqb, leb, ltb}
+use Rattle.table.specs.declared.BugLetter.{BugLetter}
+use Rattle.table.specs.declared.FieldName.{FieldName}
+
+-- a reference taken apart
+pub record Reference : Type 0 where
+  pub bug : BugLetter
+  pub fields : List FieldName
+
+-- the base-64 digits of v before those in ds, first digit first; at most k of them
+unfoldable pub digitsBefore : ℕ → ℕ → List ℕ → List ℕ
+digitsBefore zero v ds = ds
+digitsBefore (suc k) v ds = cond (eqb v 0) ds (digitsBefore k (v / 64) (v % 64 ∷ ds))
+
+unfoldable pub digitsOf : ℕ → List ℕ
+digitsOf v = digitsBefore 6 v []
+
+-- a digit that names a field: 0-9 and A-Z have the digits 1 to 36
+unfoldable pub namesField : ℕ → Bool
+namesField x = leb 1 x && leb x 36
+
+-- a digit that names a bug: A-Z have the digits 11 to 36
+unfoldable pub namesBug : ℕ → Bool
+namesBug x = leb 11 x && leb x 36
+
+unfoldable pub nameFields : List ℕ → Bool
+nameFields [] = true
+nameFields (x ∷ xs) = namesField x && nameFields xs
+
+unfoldable pub startsWithBug : List ℕ → Bool
+startsWithBug [] = false
+startsWithBug (x ∷ xs) = namesBug x && nameFields xs
+
+-- v is a reference: six digits at most, the first a bug's, the others fields'
+unfoldable pub isReference : ℕ → Bool
+isReference v = ltb v (64 ^ 6) && startsWithBug (digitsOf v)
+
+unfoldable pub named : List ℕ → Reference
+named [] = record { bug = record { 0 = 0 }; fields = [] }
+named (x ∷ xs) = record { bug = record { 0 = x - 11 }; fields = map (λ y. record { 0 = y - 1 }) xs }
+
+-- the names of a reference
+unfoldable pub referenceOf : ℕ → Reference
+referenceOf v = named (digitsOf v)

@@ -1,0 +1,30 @@
+// The table's rows: what they mean stands in specs/.
+
+// A bug's letter: A is 0, Z is 25. It never selects a field's definition.
+pub struct BugLetter(pub u8);
+
+// A field's name number: 0 to 9 for the digits, 10 to 35 for A to Z.
+pub struct FieldName(pub u8);
+
+// A pair of numbers of a row: an operand's form and value.
+pub struct Pair {
+    pub form: u64,
+    pub value: u64,
+}
+
+// The ten numbers of a row.
+pub struct Row {
+    pub kind: u64,
+    pub next: u64,
+    pub code: u64,
+    pub name: u64,
+    pub first: Pair,
+    pub second: Pair,
+    pub third: Pair,
+}
+
+// What the table check answers: the lowest ill-formed row, 0 if there is none, or that the table's length is refused.
+pub enum TableCheck {
+    Lowest(u64),
+    BadLength,
+}

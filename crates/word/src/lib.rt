@@ -1,0 +1,1 @@
+// Words of b bits: this crate has no code yet, only the definitions in specs/.
