@@ -1,0 +1,2 @@
+-- The laws of characters that the crates above cite.
+pub mod RoundTrip
