@@ -1,0 +1,8 @@
+-- The laws of set-up numbers, blocks and the block map that the crates above cite.
+pub mod Tests
+pub mod Size
+pub mod Map
+pub mod Change
+pub mod Each
+pub mod Tiling
+pub mod Runs
