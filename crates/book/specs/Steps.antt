@@ -1,0 +1,53 @@
+-- Lists of steps from a fresh engine over one storage, what they report, and the book that is fed those reports.
+-- The lists are of events, newest first; each event so far is a step. Document 01: demand 3 and "The book". Assumes nothing.
+use Prim.Native.Nat.{ℕ}
+use mathlib.Core.Bool.{Bool, true, false, cond}
+use mathlib.Core.List.{List, [], _∷_, map}
+use mathlib.Core.Path.{_≡_}
+use Rattle.buddy.specs.Blocks.{Block}
+use Rattle.engine.specs.declared.Answer.{Answer}
+use Rattle.engine.specs.declared.Answer.the-variants.{Running, Finished, Refused}
+use Rattle.engine.specs.declared.Report.{Report}
+use Rattle.engine.specs.State.{fresh, noSetUp}
+use Rattle.engine.specs.Storage.{noReport}
+use Rattle.engine.specs.Sound.{Lent, Engine}
+use Rattle.engine.specs.Step.{Outcome, Answers, engineOf, setUpAt}
+use Rattle.book.specs.Book.{Book, Entry, emptyBook, enter}
+
+-- an event: a step, with what was lent to it, the engine before it and what it left
+pub data Event : Type 0 where
+  stepped : Lent → Engine → Outcome → Event
+
+-- these events lead to this engine: the first has a fresh engine over the storage ws, each other the state and storage that the
+-- one before it left, and each step its own table, input and output; each answers as demand 2 has it, refused or not
+pub data Leads (b : ℕ) (ws : List ℕ) : List Event → Engine → Type 0 where
+  begin : Leads b ws [] (record { state = fresh; storage = ws })
+  after : {events : List Event} {e : Engine} → Leads b ws events e → (l : Lent) (o : Outcome) → Answers b l e o
+      → Leads b ws (stepped l e o ∷ events) (engineOf o)
+
+unfoldable pub isRefused : Answer → Bool
+isRefused Running = false
+isRefused Finished = false
+isRefused (Refused r) = true
+
+-- what an event reports
+unfoldable pub reportOf : Event → Report
+reportOf (stepped l e o) = o .stepped .report
+
+-- what the book is fed: a refused step enters nothing, any other its report and the set-up's d, s1 and s2
+unfoldable pub entryOf : Event → Entry
+entryOf (stepped l e o) =
+    cond (isRefused (o .stepped .answer)) (record { setup = noSetUp; report = noReport })
+    (record { setup = setUpAt l e; report = o .stepped .report })
+
+-- the book after these events
+unfoldable pub bookAfter : List Event → Book
+bookAfter [] = emptyBook
+bookAfter (x ∷ xs) = enter (entryOf x) (bookAfter xs)
+
+-- a block is live by the reports: delivered with this size, and not since freed
+pub data LiveBy (x : Block) : List Event → Type 0 where
+  delivered : {event : Event} {events : List Event} → reportOf event .delivered ≡ x .address → reportOf event .size ≡ x .size
+      → (x .size ≡ 0 → ⊥) → LiveBy x (event ∷ events)
+  still : {event : Event} {events : List Event} → (reportOf event .freed ≡ x .address → ⊥) → LiveBy x events
+      → LiveBy x (event ∷ events)
