@@ -1,0 +1,102 @@
+-- The blocks that a map tells, before and after a set-up, a free and a delivery, are as the book enters them.
+-- Assumes nothing.
+use Prim.Native.Nat.{ℕ, _+_, _*_, _/_, _%_, _≤_, _<_}
+use native.Mathlib.Omega.{arith}
+use mathlib.Core.Bool.{true, false}
+use mathlib.Core.List.{List, [], _∷_, _++_, List·Memᴰ, List·Memᴰ·append-cases}
+use mathlib.Core.Logic.{_⊎_, inl, inr}
+use mathlib.Core.Path.{_≡_, refl, ap, sym, subst, _∙_}
+use lib.ListN.{length, replicate}
+use Rattle.buddy.specs.declared.SetUp.{SetUp}
+use Rattle.buddy.specs.Blocks.{Block, Tree, Free, size, liveIn, freeIn, freed, delivered, gathered, changed, sizeAt, outside}
+use Rattle.buddy.specs.SetUp.{top, words, fitting, runs}
+use Rattle.buddy.specs.Map.{allCanonical, trees, keeps, live, free, freshMap, freedMap, deliveredMap}
+use Rattle.buddy.proofs.Size.{size-pos, size-mono, fitting-facts, aligned-smaller}
+use Rattle.buddy.proofs.Map.{keeps-parts, trees-fill}
+use Rattle.buddy.proofs.Change.{words-whole, fresh-tells, keeps-freed, keeps-delivered}
+use Rattle.buddy.proofs.Each.{each-mem}
+use Rattle.buddy.proofs.Tiling.{map-each, map-tiles, tiles-once}
+use Rattle.buddy.proofs.Runs.{runs-sound, runs-aligned}
+use Rattle.book.specs.Book.{start, inserted, without, times, blocksFrom, halves, joinedOnce, halvedOnce}
+use Rattle.book.specs.Claim.{Tiled}
+use Rattle.book.proofs.Apart.{apart, fresh-blocks, covering-same}
+use Rattle.book.proofs.Delivered.{delivered-live, delivered-free}
+use Rattle.book.proofs.Freed.{freed-live, freed-free}
+
+module _ (lent : ℕ) (u : SetUp) (fits : fitting lent u ≡ true) where
+  abbrev k : ℕ
+  k = top (u .d)
+
+  largest : size k ≡ u .d
+  largest = fitting-facts lent u fits .largest
+
+  first-aligned : u .s1 % size k ≡ 0
+  first-aligned = rw largest (fitting-facts lent u fits .aligned)
+
+  -- after a set-up
+  pub fresh-live : (n : ℕ) → live u (freshMap u n) ≡ []
+  unfolding live
+  fresh-live n = rw (fresh-tells lent u fits n) (fresh-blocks k (u .s1) (words u / size k) .1)
+
+  pub fresh-free : (n : ℕ) → free u (freshMap u n) ≡ blocksFrom (u .d) (u .s1) (words u / u .d)
+  unfolding free
+  fresh-free n = rw (fresh-tells lent u fits n) (fresh-blocks k (u .s1) (words u / size k) .0 ∙ ap (λ d. blocksFrom d (u .s1) (words u / d)) largest)
+
+  module _ (m : List ℕ) (kept : keeps u m ≡ true) where
+    canonical-trees : allCanonical k (trees u m) ≡ true
+    canonical-trees = keeps-parts u m kept .0
+
+    fill : length (trees u m) * size k ≡ words u
+    fill = trees-fill u m (words-whole lent u fits)
+
+    -- after a free
+    module _ (a : ℕ) (isLive : sizeAt a (live u m) ≡ 0 → ⊥) where
+      pub freed-live-map : live u (freedMap a u m) ≡ without start a (live u m)
+      unfolding live
+      freed-live-map =
+          rw (keeps-freed lent u fits m kept a .tells) (freed-live a k (u .s1) (trees u m) first-aligned canonical-trees isLive)
+
+      pub freed-free-map : free u (freedMap a u m)
+          ≡ (let more = inserted start (record { address = a; size = sizeAt a (live u m) }) (free u m) in
+          times (length more) (joinedOnce (u .d)) more)
+      unfolding live free
+      freed-free-map =
+          let x : Block = record { address = a; size = sizeAt a (live u m) } in
+          let more = inserted start x (free u m) in
+          rw (keeps-freed lent u fits m kept a .tells)
+          (freed-free a k (u .s1) (trees u m) first-aligned canonical-trees isLive ∙ ap (λ d. times (length more) (joinedOnce d) more) largest)
+
+    -- after a delivery
+    module _ (j a : ℕ) (fitsIn : j ≤ k) (run : List·Memᴰ a (runs (size j) u (live u m))) where
+      run-facts : (u .s1 ≤ a) × (a + size j ≤ u .s1 + length (trees u m) * size k) × (outside a (size j) (live u m) ≡ true) × (a % size j ≡ 0)
+      run-facts =
+          let (first, last, out, _) = runs-sound (size j) u (live u m) (size-pos j) run in
+          (first, rw fill last, out, runs-aligned (size j) u (live u m) (size-pos j) (aligned-smaller fitsIn (u .s1) first-aligned) run)
+
+      pub delivered-live-map : live u (deliveredMap j a u m) ≡ inserted start (record { address = a; size = size j }) (live u m)
+      unfolding live
+      delivered-live-map =
+          let (first, last, out, aligned) = run-facts in
+          rw (keeps-delivered lent u fits m kept j a .tells)
+          (delivered-live j a k (u .s1) (trees u m) first-aligned canonical-trees fitsIn aligned first last out)
+
+      pub delivered-free-map : free u (deliveredMap j a u m) ≡ without start a (times (u .d) (halvedOnce a (size j)) (free u m))
+      unfolding live free
+      delivered-free-map =
+          let (first, last, out, aligned) = run-facts in
+          rw (keeps-delivered lent u fits m kept j a .tells)
+          (delivered-free j a k (u .s1) (trees u m) first-aligned canonical-trees fitsIn aligned first last out
+          ∙ ap (λ d. without start a (times d (halvedOnce a (size j)) (gathered (freeIn k) k (u .s1) (trees u m)))) largest)
+
+    -- live and free blocks tile the set-up words
+    pub tiled : Tiled u (live u m) (free u m)
+    unfolding live free
+    tiled =
+        let lies = map-each lent u fits m in
+        record {
+          once = λ w low high. covering-same w _ ∙ tiles-once (map-tiles lent u fits m kept) w low high;
+          inside = λ x n. let l = each-mem lies n in (l .first, l .last);
+          aligned = λ x n. each-mem lies n .aligned;
+          sizes = λ x n. let (j, low, same) = each-mem lies n .place in ((j, same), rw same (subst (λ d. size j ≤ d) largest (size-mono low)));
+          apart = λ x y n o. subst (λ d. halves d x y ≡ false) largest (apart k (u .s1) (trees u m) first-aligned canonical-trees x y n o);
+        }

@@ -1,0 +1,233 @@
+-- A get or duplicate that clears its earlier checks is refused by 17 exactly when there is no aligned run of its size.
+-- Assumes nothing.
+use Prim.Native.Nat.{ℕ, zero, suc, _+_, _-_, _%_, _≤_, _<_}
+use native.Mathlib.Omega.{arith}
+use mathlib.Core.Bool.{Bool, true, false, not, _&&_, cond}
+use mathlib.Core.List.{List, [], _∷_, List·Memᴰ, List·Memᴰ·head, List·Memᴰ·not-nil}
+use mathlib.Core.Logic.{_⊎_, inl, inr, _↔_}
+use mathlib.Core.Path.{_≡_, refl, ap, sym, subst, _∙_}
+use borrow.Author.Tests.{eq-eqb, ne-eqb}
+use lib.Dec.{eqb, leb}
+use lib.ListN.{length}
+use Rattle.buddy.specs.Blocks.{Block, size, level, sizeAt}
+use Rattle.buddy.specs.SetUp.{top, words, fitting, absent, runs}
+use Rattle.buddy.specs.Map.{live}
+use Rattle.buddy.proofs.Size.{size-pos, level-le, aligned-smaller, fitting-facts, absent-facts}
+use Rattle.buddy.proofs.Runs.{runs-sound, runs-aligned, runs-complete, outside-mem, mem-outside}
+use Rattle.table.specs.declared.FieldName.{FieldName}
+use Rattle.table.specs.declared.Pair.{Pair}
+use Rattle.table.specs.Row.{lengthFits, rowAt}
+use Rattle.table.specs.Table.{usable}
+use Rattle.engine.specs.declared.Refusal.{Refusal}
+use Rattle.engine.specs.declared.Refusal.the-variants.{UndefinedField, NotABlock, OutsideBlock, NoRun}
+use Rattle.engine.specs.declared.Location.{Location}
+use Rattle.engine.specs.declared.Answer.the-variants.{Running, Finished, Refused}
+use Rattle.engine.specs.Answer.{Checked, refused, passed, _>>=_, _>>_, need}
+use Rattle.engine.specs.State.{isSetUp, isFinished, onCore, movedTo}
+use Rattle.engine.specs.Sound.{Lent, Engine, sound}
+use Rattle.engine.specs.Locate.{liveBlocks, link, follow, locate, operand, definitionOf, contents}
+use Rattle.engine.specs.Effects.{Effects, engineAfter}
+use Rattle.engine.specs.Operations.{Given, Wanted, getWants, duplicateWants, delivering, andStoring, get, duplicate, oneOf, chosen, meaning, meanings}
+use Rattle.engine.specs.Step.{Choice, Outcome, given, inTurn, operationStep, plan, outcome, unchanged, carriedOut, step, testsStep, exitStep}
+use Rattle.engine.proofs.Checks.{or-parts, nonzero, need-passed, bind-passed, passed-same}
+use Rattle.engine.proofs.Facts.{Facts}
+use Rattle.engine.proofs.Live.{live-size}
+use Rattle.engine.proofs.Steps.{sound-engine}
+use Rattle.book.specs.Steps.{Event, LiveBy}
+use Rattle.book.specs.Claim.{AlignedRun, Wants}
+
+-- a refusal that is not for want of storage
+abbrev Other : Refusal → Type 0
+Other r = r ≡ NoRun → ⊥
+
+-- checks that never refuse for want of storage
+abbrev Never : {A : Type 0} → Checked A → Type 0
+Never m = m ≡ refused NoRun → ⊥
+
+never-bind : {A B : Type 0} (m : Checked A) (f : A → Checked B) → Never m → ((x : A) → Never (f x)) → Never (m >>= f)
+unfolding _>>=_
+never-bind (refused r) f h k e = h (let same : r ≡ NoRun = cc in ap refused same)
+never-bind (passed x) f h k e = k x e
+
+never-need : {A : Type 0} (t : Bool) (r : Refusal) (m : Checked A) → Other r → Never m → Never (need t r >> m)
+unfolding need _>>_
+never-need true r m h k e = k e
+never-need false r m h k e = h cc
+
+never-passed : {A : Type 0} (x : A) → Never (passed x)
+never-passed x e = let never : _≡_ {A = ℕ} 0 1 = cc in omega arith
+
+-- locating a reference never refuses for want of storage
+never-link : (e : Engine) (pointer : ℕ) (f : FieldName) → Never (link e pointer f)
+unfolding link
+never-link e pointer f =
+    never-need _ _ _ (λ q. let never : _≡_ {A = ℕ} 0 1 = cc in omega arith)
+    (never-need _ _ _ (λ q. let never : _≡_ {A = ℕ} 0 1 = cc in omega arith)
+    (never-need _ _ _ (λ q. let never : _≡_ {A = ℕ} 0 1 = cc in omega arith) (never-passed _)))
+
+never-follow : (b : ℕ) (e : Engine) (at : Location) (fs : List FieldName) → Never (follow b e at fs)
+unfolding follow
+never-follow b e at [] = never-passed at
+never-follow b e at (f ∷ fs) = never-bind _ _ (never-link e (contents b e at) f) (λ next. never-follow b e next fs)
+
+never-locate : (b : ℕ) (e : Engine) (p : Pair) → Never (locate b e p)
+unfolding locate
+never-locate b e p = never-follow b e _ _
+
+-- a delivery is refused for want of storage exactly when there is no run
+refused-without-run : {A : Type 0} (choose : List ℕ → ℕ) (rs : List ℕ) (rest : ℕ → Checked A) → ((a : ℕ) → Never (rest a))
+    → (oneOf choose rs >>= rest) ≡ refused NoRun ↔ rs ≡ []
+unfolding oneOf _>>=_
+refused-without-run choose [] rest h = (λ e. refl, λ e. refl)
+refused-without-run choose (r ∷ rs) rest h =
+    (λ e. absurd (h _ e), λ e. absurd (List·Memᴰ·not-nil (subst (List·Memᴰ r) e (List·Memᴰ·head refl))))
+
+module _ (b : ℕ) (g : Given) (w : Wanted) where
+  abbrev found : List ℕ
+  found = runs (w .words) (g .engine .state .core .setup) (liveBlocks (g .engine))
+
+  -- get, and duplicate
+  get-refused : getWants b g ≡ passed w → get b g ≡ refused NoRun ↔ found ≡ []
+  unfolding get chosen _>>=_
+  get-refused k =
+      rw (k, _>>=_)
+      (refused-without-run (g .choose) found _
+      (λ a. rest a (eqb (g .row .third .form) 0)))
+    where
+      rest : (a : ℕ) (t : Bool) → Never (cond t (passed (delivering b w a (g .engine .state)))
+          (locate b (engineAfter b (delivering b w a (g .engine .state)) (g .engine)) (g .row .third)
+          >>= λ a2. passed (andStoring b a2 (contents b (g .engine) (w .a)) (delivering b w a (g .engine .state)))))
+      rest a true = never-passed _
+      rest a false = never-bind _ _ (never-locate b _ (g .row .third)) (λ a2. never-passed _)
+
+  duplicate-refused : duplicateWants b g ≡ passed w → duplicate b g ≡ refused NoRun ↔ found ≡ []
+  unfolding duplicate chosen _>>=_
+  duplicate-refused k = rw (k, _>>=_) (refused-without-run (g .choose) found _ (λ a. never-passed _))
+
+-- the answer is a refusal for want of storage exactly when the plan is
+never-carried : (t : Bool) → cond t Finished Running ≡ Refused NoRun → ⊥
+never-carried true e = let never : _≡_ {A = ℕ} 0 1 = cc in omega arith
+never-carried false e = let never : _≡_ {A = ℕ} 0 1 = cc in omega arith
+
+outcome-refused : (b : ℕ) (p : Checked Effects) (l : Lent) (e : Engine) → outcome b p l e .stepped .answer ≡ Refused NoRun ↔ p ≡ refused NoRun
+unfolding outcome unchanged carriedOut
+outcome-refused b (refused r) l e = (λ k. let same : r ≡ NoRun = cc in ap refused same, λ k. let same : r ≡ NoRun = cc in ap Refused same)
+outcome-refused b (passed x) l e = (λ k. absurd (never-carried (isFinished (x .state .core .place)) k), λ k. absurd (never-passed x k))
+
+both-ways : {A B C : Type 0} → A ↔ B → B ↔ C → A ↔ C
+both-ways f g = (λ a. g .0 (f .0 a), λ c. f .1 (g .1 c))
+
+module _ (b : ℕ) (choose : List ℕ → ℕ) (l : Lent) (e : Engine) (w : Wanted) (h : Wants b l e w) where
+  abbrev code : ℕ
+  code = rowAt (l .table) (e .state .core .place .row) .code
+
+  not-finished : isFinished (e .state .core .place) ≡ false
+  unfolding isFinished
+  not-finished = ne-eqb (e .state .core .place .kind) 3 (λ k. absurd (omega (arith, h .atOperation)))
+
+  -- the step comes to the operation
+  comes-to : (code ≡ 1 → ⊥) → plan b choose l e ≡ meaning code b (given choose l e)
+  unfolding plan operationStep inTurn need _>>_
+  comes-to other =
+      rw (
+        h .hasTable,
+        ne-eqb (e .state .core .place .kind) 0 (λ k. absurd (omega (arith, h .atOperation))),
+        eq-eqb (e .state .core .place .kind) 1 (h .atOperation),
+        h .hasRow,
+        ne-eqb code 1 other,
+        h .inTurn,
+      )
+
+  answered : (code ≡ 1 → ⊥) → step b choose l e .stepped .answer ≡ Refused NoRun ↔ meaning code b (given choose l e) ≡ refused NoRun
+  unfolding step
+  answered other =
+      rw (h .isSound, not-finished)
+      (subst (λ p. outcome b p l e .stepped .answer ≡ Refused NoRun ↔ meaning code b (given choose l e) ≡ refused NoRun) (sym (comes-to other))
+      (outcome-refused b (meaning code b (given choose l e)) l e))
+
+  -- the runs are those of the engine's blocks, whatever is chosen
+  abbrev engineRuns : List ℕ
+  engineRuns = runs (w .words) (e .state .core .setup) (liveBlocks e)
+
+  meant : (code ≡ 1 → ⊥) × (meaning code b (given choose l e) ≡ refused NoRun ↔ engineRuns ≡ [])
+  unfolding given onCore movedTo meaning meanings getWants duplicateWants
+  meant = go (h .cleared)
+    where
+      go : ((code ≡ 3) × (getWants b (given (λ runs. 0) l e) ≡ passed w)) ⊎ ((code ≡ 5) × (duplicateWants b (given (λ runs. 0) l e) ≡ passed w))
+          → (code ≡ 1 → ⊥) × (meaning code b (given choose l e) ≡ refused NoRun ↔ engineRuns ≡ [])
+      go (inl (c, k)) = (
+        λ one. absurd (omega arith),
+        subst (λ n. meaning n b (given choose l e) ≡ refused NoRun ↔ engineRuns ≡ []) (sym c) (get-refused b (given choose l e) w k),
+      )
+      go (inr (c, k)) = (
+        λ one. absurd (omega arith),
+        subst (λ n. meaning n b (given choose l e) ≡ refused NoRun ↔ engineRuns ≡ []) (sym c) (duplicate-refused b (given choose l e) w k),
+      )
+
+  -- the size wanted is one of the sizes
+  pub wanted-size : Facts b e → (j : ℕ) × (j ≤ top (e .state .core .setup .d)) × (w .words ≡ size j)
+  unfolding given onCore movedTo getWants duplicateWants
+  wanted-size facts = go (h .cleared)
+    where
+      go : ((code ≡ 3) × (getWants b (given (λ runs. 0) l e) ≡ passed w)) ⊎ ((code ≡ 5) × (duplicateWants b (given (λ runs. 0) l e) ≡ passed w))
+          → (j : ℕ) × (j ≤ top (e .state .core .setup .d)) × (w .words ≡ size j)
+      go (inl (c, k)) =
+          let (a, _, k₂) = bind-passed _ _ k in
+          let (n, _, k₄) = bind-passed _ _ k₂ in
+          let (_, k₆) = need-passed _ _ _ k₄ in
+          (level (top (e .state .core .setup .d)) (n .value), level-le _ _, ap (λ (w : Wanted). w .words) (sym (passed-same k₆)))
+      go (inr (c, k)) =
+          let (a, _, k₂) = bind-passed _ _ k in
+          let (n, _, k₄) = bind-passed _ _ k₂ in
+          let (isLive, k₆) = need-passed _ _ _ k₄ in
+          let (j, fits, same) = live-size b (e .state) (e .storage) (facts .storage) (n .value) isLive in
+          (j, fits, ap (λ (w : Wanted). w .words) (sym (passed-same k₆)) ∙ same)
+
+  module _ (events : List Event) (reported : (x : Block) → List·Memᴰ x (liveBlocks e) ↔ LiveBy x events) where
+    abbrev facts : Facts b e
+    facts = sound-engine b l e (h .isSound)
+
+    positive : 0 < w .words
+    positive = let (j, _, same) = wanted-size facts in rw same (size-pos j)
+
+    pub numbers-fit : fitting (length (e .storage)) (e .state .core .setup) ≡ true
+    unfolding isSetUp
+    numbers-fit = go (or-parts _ _ (facts .storage .numbers))
+      where
+        go : (fitting (length (e .storage)) (e .state .core .setup) ≡ true) ⊎ (absent (e .state .core .setup) ≡ true)
+            → fitting (length (e .storage)) (e .state .core .setup) ≡ true
+        go (inl f) = f
+        go (inr a) = absurd (nonzero (e .state .core .setup .d) (h .inTurn) (absent-facts (e .state .core .setup) a .largest))
+
+    pub first-aligned : e .state .core .setup .s1 % w .words ≡ 0
+    first-aligned =
+        let (j, fits, same) = wanted-size facts in
+        let u = e .state .core .setup in
+        let f = fitting-facts (length (e .storage)) u numbers-fit in
+        rw same (aligned-smaller fits (u .s1) (rw (f .largest) (f .aligned)))
+
+    -- no run is found exactly when there is none
+    no-run : engineRuns ≡ [] ↔ ((at : ℕ) → AlignedRun (e .state .core .setup) events (w .words) at → ⊥)
+    no-run = (λ none at r. List·Memᴰ·not-nil (subst (List·Memᴰ at) none (is-found at r)), λ none. empty none engineRuns refl)
+      where
+        is-found : (at : ℕ) → AlignedRun (e .state .core .setup) events (w .words) at → List·Memᴰ at engineRuns
+        is-found at r =
+            runs-complete (w .words) (e .state .core .setup) (liveBlocks e) positive first-aligned (r .aligned) (r .first) (r .last)
+            (mem-outside at (w .words) (liveBlocks e) (λ x m. r .outside x (reported x .0 m)))
+
+        is-run : (at : ℕ) → List·Memᴰ at engineRuns → AlignedRun (e .state .core .setup) events (w .words) at
+        is-run at m =
+            let (first, last, out, _) = runs-sound (w .words) (e .state .core .setup) (liveBlocks e) positive m in
+            record {
+              aligned = runs-aligned (w .words) (e .state .core .setup) (liveBlocks e) positive first-aligned m;
+              first = first;
+              last = last;
+              outside = λ x k. outside-mem at (w .words) (liveBlocks e) out (reported x .1 k);
+            }
+
+        empty : ((at : ℕ) → AlignedRun (e .state .core .setup) events (w .words) at → ⊥) → (rs : List ℕ) → engineRuns ≡ rs → engineRuns ≡ []
+        empty none [] k = k
+        empty none (r ∷ rs) k = absurd (none r (is-run r (subst (List·Memᴰ r) (sym k) (List·Memᴰ·head refl))))
+
+    pub served : step b choose l e .stepped .answer ≡ Refused NoRun ↔ ((at : ℕ) → AlignedRun (e .state .core .setup) events (w .words) at → ⊥)
+    served = both-ways (answered (meant .0)) (both-ways (meant .1) no-run)
