@@ -10,7 +10,7 @@ use Rattle.word.specs.Word.{bit}
 use Rattle.word.specs.Field.{width, shift, fieldOf, kept, stored}
 
 -- the bit at place k, counted from the right, is one of the s low bits if k is below s
-low-bit : (x k s : ℕ) → k < s → x % 2 ^ s / 2 ^ k % 2 ≡ x / 2 ^ k % 2
+pub low-bit : (x k s : ℕ) → k < s → x % 2 ^ s / 2 ^ k % 2 ≡ x / 2 ^ k % 2
 low-bit x k s h =
     let e : s - suc k + 1 + k ≡ s = omega arith in
     rw (← e, field, mod-mod-pow (x / 2 ^ k) (s - suc k) 1)
@@ -83,7 +83,7 @@ module _ (b left right : ℕ) where
     stored-low = rw shape (low _ (shift b right) (mod-lt w (pow-pos (shift b right))))
 
     -- the bits kept and those right of the field fit their places
-    rest-lt : kept left right v * 2 ^ shift b right + w % 2 ^ shift b right < 2 ^ (width left right + shift b right)
+    pub rest-lt : kept left right v * 2 ^ shift b right + w % 2 ^ shift b right < 2 ^ (width left right + shift b right)
     rest-lt = rw pow-add (digits-lt (kept-lt left right v) (mod-lt w (pow-pos (shift b right))))
 
     -- left of the field a stored word is the word

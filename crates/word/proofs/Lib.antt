@@ -1,2 +1,6 @@
 -- The laws of words and fields that the crates above cite.
 pub mod Field
+pub mod Modulo
+pub mod Bitwise
+pub mod Places
+pub mod Store

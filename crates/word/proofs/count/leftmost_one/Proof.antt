@@ -1,0 +1,26 @@
+-- `word::count::leftmost_one` meets its contract. Assumes nothing.
+use native.Mathlib.Omega.{arith}
+use lib.Count.{leading-le}
+use Rattle.word.proofs.Places.{leftmost-one}
+use borrow.Author.Needs.{needs}
+use Rattle.word.proofs.count.leftmost_one.Statement.{statement}
+use Rattle.word.proofs.count.leftmost_one.Tie as tie
+
+low-bits-requires : tie.Need-low-bits-requires
+low-bits-requires c κs = search needs
+
+cast-result : tie.Need-cast-result
+cast-result c = record { fits = omega (arith, leading-le 64 (c .low-bits .result)) }
+
+sub-result : tie.Need-sub-result
+sub-result c = search needs
+
+sub-result-2 : tie.Need-sub-result-2
+sub-result-2 c = rw (c .low-bits .ensures) (omega (arith, leftmost-one (c .before .args .w) (c .before .args .v) (c .before .pre)))
+
+returns : tie.Need-returns
+returns c = rw (c .low-bits .ensures) (omega (arith, leftmost-one (c .before .args .w) (c .before .args .v) (c .before .pre)))
+
+pub leftmost-one-spec : {M : Type 1} → statement M
+leftmost-one-spec =
+    tie.close (tie.spec low-bits-requires cast-result sub-result sub-result-2 returns)

@@ -1,0 +1,20 @@
+-- `word::fields::kept_bits` meets its contract. Assumes nothing.
+use native.Mathlib.Omega.{arith}
+use Rattle.word.specs.Field.{width, kept}
+use borrow.Author.Needs.{needs}
+use Rattle.word.proofs.fields.kept_bits.Statement.{statement}
+use Rattle.word.proofs.fields.kept_bits.Tie as tie
+
+width-requires : tie.Need-width-requires
+width-requires c κs = search needs
+
+low-bits-requires : tie.Need-low-bits-requires
+unfolding width
+low-bits-requires c κs = omega (arith, c .width .ensures)
+
+returns : tie.Need-returns
+unfolding kept
+returns c = rw (c .low-bits .ensures, c .before .width .ensures)
+
+pub kept-bits-spec : {M : Type 1} → statement M
+kept-bits-spec = tie.close (tie.spec width-requires low-bits-requires returns)
