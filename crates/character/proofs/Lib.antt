@@ -1,2 +1,4 @@
 -- The laws of characters that the crates above cite.
+pub mod Digits
 pub mod RoundTrip
+pub mod Table

@@ -33,6 +33,14 @@ holds width = (width + 5) / 6
 unfoldable pub blank : ℕ
 blank = 48
 
+-- the period, octal 33
+unfoldable pub period : ℕ
+period = 27
+
+-- the code of a digit or letter, by its name number: 0-9 are octal 0-11, A-I 21-31, J-R 41-51, S-Z 62-71
+unfoldable pub codeOf : ℕ → ℕ
+codeOf name = cond (ltb name 10) name (cond (ltb name 19) (name + 7) (cond (ltb name 28) (name + 14) (name + 22)))
+
 -- leading characters that are x become y
 unfoldable pub leading : ℕ → ℕ → List ℕ → List ℕ
 leading x y [] = []
