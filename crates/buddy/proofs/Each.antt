@@ -13,6 +13,13 @@ module _ {A : Type 0} {P : A → Type 0} where
   each-append each-nil l = l
   each-append (each-cons p h) l = each-cons p (each-append h l)
 
+  -- and back
+  pub each-parts : (xs : List A) {ys : List A} → Each P (xs ++ ys) → Each P xs × Each P ys
+  each-parts [] h = (each-nil, h)
+  each-parts (x ∷ xs) (each-cons p h) =
+      let (first, others) = each-parts xs h in
+      (each-cons p first, others)
+
   -- what follows from it
   pub each-map : {Q : A → Type 0} {xs : List A} → ((x : A) → P x → Q x) → Each P xs → Each Q xs
   each-map f each-nil = each-nil

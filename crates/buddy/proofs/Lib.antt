@@ -6,3 +6,17 @@ pub mod Change
 pub mod Each
 pub mod Tiling
 pub mod Runs
+pub mod Laws
+pub mod Halves
+pub mod Part
+pub mod Tags
+pub mod Zeros
+pub mod Lowest
+pub mod Within
+pub mod First
+pub mod Fits
+pub mod Keeping
+pub mod Placed
+pub mod Address
+pub mod Count
+pub mod Delivered

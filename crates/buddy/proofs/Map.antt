@@ -35,11 +35,11 @@ canonical-halves k l r h =
     (left, right, apart)
 
 -- the first byte of two trees is that of the first
-first-append : (k : ℕ) (t : Tree) (m : List ℕ) → getD (written k t ++ m) 0 0 ≡ getD (written k t) 0 0
+pub first-append : (k : ℕ) (t : Tree) (m : List ℕ) → getD (written k t ++ m) 0 0 ≡ getD (written k t) 0 0
 first-append k t m = List·getD-append (written k t) m 0 0 (rw length-written (size-pos k))
 
 -- it is no larger than the tags of the size
-first-le : (k : ℕ) (t : Tree) → getD (written k t) 0 0 ≤ liveTag k
+pub first-le : (k : ℕ) (t : Tree) → getD (written k t) 0 0 ≤ liveTag k
 unfolding written freeTag liveTag
 first-le k Free = omega arith
 first-le k Live = omega arith
@@ -51,12 +51,12 @@ first-below : (k : ℕ) (l r : Tree) → (getD (written k l ++ written k r) 0 0 
 first-below k l r = rw (first-append k l (written k r)) (let h = first-le k l in unfold freeTag liveTag in omega arith)
 
 -- the tree that the bytes tell if neither tag stands first
-halved : ℕ → List ℕ → Tree
+unfoldable pub halved : ℕ → List ℕ → Tree
 halved zero m = Halves Free Free
 halved (suc k) m = Halves (told k (take (size k) m)) (told k (drop (size k) m))
 
 -- telling, for every size at once
-told-step : (k : ℕ) (m : List ℕ) → told k m
+pub told-step : (k : ℕ) (m : List ℕ) → told k m
     ≡ cond (eqb (getD m 0 0) (freeTag k)) Free (cond (eqb (getD m 0 0) (liveTag k)) Live (halved k m))
 unfolding told halved
 told-step zero m = refl

@@ -2,3 +2,6 @@
 pub mod Blocks
 pub mod SetUp
 pub mod Map
+pub mod Part
+pub mod Lowest
+pub mod Tag

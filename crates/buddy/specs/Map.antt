@@ -1,6 +1,6 @@
 -- The block map of a state: a byte for each word. That of a block's first word tells size and use, every other is zero.
 -- Document 01: "Blocks", and of refusal 11 "blocks breaking their section". Assumes nothing.
-use Prim.Native.Nat.{ℕ, zero, suc, _+_, _-_, _*_, _/_}
+use Prim.Native.Nat.{ℕ, zero, suc, _+_, _-_, _/_}
 use mathlib.Core.Bool.{Bool, true, false, not, _&&_, cond}
 use mathlib.Core.List.{List, [], _∷_, _++_}
 use lib.Dec.{eqb}

@@ -1,6 +1,6 @@
 -- The numbers of a set-up, the words that they set up, and the aligned runs there.
 -- Document 01: "Words and set-up" and "Blocks". Assumes nothing.
-use Prim.Native.Nat.{ℕ, zero, suc, _+_, _-_, _/_, _%_}
+use Prim.Native.Nat.{ℕ, suc, _-_, _/_, _%_}
 use mathlib.Core.Bool.{Bool, _&&_, cond}
 use mathlib.Core.List.{List}
 use lib.Dec.{eqb, leb, ltb}

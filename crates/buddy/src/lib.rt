@@ -1,4 +1,7 @@
 // Blocks of storage: what they are stands in specs/.
+pub mod section;
+pub mod sizes;
+pub mod tree;
 
 // The numbers of a set-up: the largest size, and the first and last address. All zero: no set-up yet.
 pub struct SetUp {

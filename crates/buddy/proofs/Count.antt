@@ -1,0 +1,42 @@
+-- The trees of a set-up counted by the code: the words divided by the largest size. Assumes nothing.
+use mathlib.Core.Path.{_≡_, sym, ap, _∙_}
+use mathlib.Core.Bool.{true, _&&_, cond}
+use mathlib.Core.List.{List}
+use Prim.Native.Nat.{ℕ, suc, _+_, _-_, _*_, _/_, _%_, _≤_, _<_}
+use native.Mathlib.Nat.{div-add-mod'}
+use native.Mathlib.Omega.{arith}
+use lib.Dec.{eqb}
+use lib.ListN.{length, drop, replicate}
+use Rattle.buddy.specs.declared.SetUp.{SetUp}
+use Rattle.buddy.specs.Blocks.{size}
+use Rattle.buddy.specs.SetUp.{top, words, runs}
+use Rattle.buddy.specs.Map.{same, allTold, trees, keeps, live}
+use Rattle.buddy.specs.Part.{allWhole}
+use Rattle.buddy.specs.Lowest.{firstOf, lowestOf}
+use Rattle.buddy.proofs.Tests.{either-way}
+use Rattle.buddy.proofs.Keeping.{keeps-whole, keeps-all}
+use Rattle.buddy.proofs.First.{first-run}
+
+-- there are no more words than addresses from the first to the last
+pub words-le : (u : SetUp) → words u ≤ suc (u .s2) - u .s1
+unfolding words
+words-le u = either-way (λ (n : ℕ). n ≤ suc (u .s2) - u .s1) (eqb (u .d) 0) (omega arith) (omega arith)
+
+module _ (u : SetUp) (k n w : ℕ) (ek : k ≡ top (u .d)) (en : n ≡ size k) (ew : w ≡ words u) (whole : words u % size (top (u .d)) ≡ 0) where
+  -- they fill the words
+  pub count-fill : w / n * size k ≡ words u
+  count-fill = rw (en, ew, ek) (omega (arith, div-add-mod' (words u) (size (top (u .d)))))
+
+  module _ (m : List ℕ) where
+    -- they are whole, and the rest is zero, if the map keeps the section
+    pub count-keeps : (allWhole k (w / n) m && same (replicate (length m - w) 0) (drop w m)) ≡ keeps u m
+    count-keeps = rw (en, ew, ek) (sym (keeps-whole u m whole))
+
+    module _ (kept : keeps u m ≡ true) where
+      pub count-all : allWhole k (w / n) m ≡ true
+      count-all = rw (en, ew, ek) (keeps-all u m whole kept)
+
+      -- what is found in them is the first run
+      pub count-first : (j : ℕ) → j ≤ top (u .d) → lowestOf j k (u .s1) (allTold k (w / n) m) ≡ firstOf (runs (size j) u (live u m))
+      unfolding trees
+      count-first j h = rw (en, ew, ek) (first-run u m j whole kept h)

@@ -1,0 +1,145 @@
+-- A map keeps the section "Blocks" if none of its trees is broken and the rest is zero; and the trees one by one, as a loop meets them.
+-- Assumes nothing.
+use mathlib.Core.Path.{_≡_, refl, sym, ap, ap₂, _∙_}
+use mathlib.Core.Bool.{Bool, true, false, _&&_, cond}
+use mathlib.Core.List.{List, [], _∷_, _++_, append-assoc}
+use Prim.Native.Nat.{ℕ, zero, suc, _+_, _-_, _*_, _/_, _%_, _≤_, _<_}
+use native.Mathlib.Nat.{div-add-mod'}
+use native.Mathlib.Omega.{arith}
+use lib.ListN.{length, take, drop, replicate, length-drop}
+use lib.Seq.{drop-drop, length-take-le}
+use Rattle.buddy.specs.declared.SetUp.{SetUp}
+use Rattle.buddy.specs.declared.tree.Part.{Part}
+use Rattle.buddy.specs.declared.tree.Part.the-variants as tells
+use Rattle.buddy.specs.declared.tree.Found.{Found}
+use Rattle.buddy.specs.declared.tree.Found.the-variants.{Nothing}
+use Rattle.buddy.specs.Blocks.{size, Tree}
+use Rattle.buddy.specs.SetUp.{top, words}
+use Rattle.buddy.specs.Map.{written, told, isFree, canonical, same, allWritten, allTold, allCanonical, trees, mapOf, keeps}
+use Rattle.buddy.specs.Part.{part, whole, allWhole}
+use Rattle.buddy.specs.Lowest.{orElse, lowestIn, lowestOf}
+use Rattle.buddy.proofs.Tests.{and-true}
+use Rattle.buddy.proofs.Map.{length-written, same-true}
+use Rattle.buddy.proofs.Part.{same-append, and-assoc}
+use Rattle.buddy.proofs.Halves.{one-less}
+
+whole-cond : (b c : Bool) → whole (cond b (cond c tells.Free tells.Taken) tells.Broken) ≡ b
+unfolding whole
+whole-cond true true = refl
+whole-cond true false = refl
+whole-cond false c = refl
+
+-- a part is whole if the bytes are those of the tree that they tell, which is canonical
+pub whole-told : (k : ℕ) (m : List ℕ) → whole (part k m) ≡ (canonical k (told k m) && same (written k (told k m)) m)
+unfolding part
+whole-told k m = whole-cond (canonical k (told k m) && same (written k (told k m)) m) (isFree (told k m))
+
+-- tests in another order
+swap : (a b c d : Bool) → ((a && b) && (c && d)) ≡ ((a && c) && (b && d))
+swap false b c d = refl
+swap true false false d = refl
+swap true false true d = refl
+swap true true false d = refl
+swap true true true d = refl
+
+-- the trees that the bytes tell, and what stands after them
+kept-parts : (k c : ℕ) (m rest : List ℕ)
+    → (allCanonical k (allTold k c m) && same (allWritten k (allTold k c m) ++ rest) m) ≡ (allWhole k c m && same rest (drop (c * size k) m))
+unfolding allCanonical allTold allWritten allWhole
+kept-parts k zero m rest =
+    let none : 0 * size k ≡ 0 = omega arith in
+    ap (λ (n : ℕ). same rest (drop n m)) (sym none)
+kept-parts k (suc c) m rest =
+    let t = told k (take (size k) m) in
+    let ts = allTold k c (drop (size k) m) in
+    let more : size k + c * size k ≡ suc c * size k = omega arith in
+    let bytes : same ((written k t ++ allWritten k ts) ++ rest) m
+    ≡ (same (written k t) (take (size k) m) && same (allWritten k ts ++ rest) (drop (size k) m))
+    = ap (λ (xs : List ℕ). same xs m) (append-assoc (written k t) (allWritten k ts) rest)
+    ∙ same-append (written k t) (allWritten k ts ++ rest) m
+    ∙ ap (λ (n : ℕ). same (written k t) (take n m) && same (allWritten k ts ++ rest) (drop n m)) (length-written k t) in
+    ap (λ (b : Bool). (canonical k t && allCanonical k ts) && b) bytes
+    ∙ swap (canonical k t) (allCanonical k ts) _ _
+    ∙ ap₂ _&&_ (sym (whole-told k (take (size k) m))) (kept-parts k c (drop (size k) m) rest)
+    ∙ and-assoc (whole (part k (take (size k) m))) (allWhole k c (drop (size k) m)) (same rest (drop (c * size k) (drop (size k) m)))
+    ∙ ap (λ (xs : List ℕ). (whole (part k (take (size k) m)) && allWhole k c (drop (size k) m)) && same rest xs)
+    (drop-drop (c * size k) (size k) m ∙ ap (λ (n : ℕ). drop n m) more)
+
+-- a map keeps the section if its trees are whole and it is zero after them
+pub keeps-whole : (u : SetUp) (m : List ℕ) → words u % size (top (u .d)) ≡ 0
+    → keeps u m ≡ (allWhole (top (u .d)) (words u / size (top (u .d))) m && same (replicate (length m - words u) 0) (drop (words u) m))
+unfolding keeps trees mapOf
+keeps-whole u m h =
+    let k = top (u .d) in
+    let fill : (words u / size k) * size k ≡ words u = omega (arith, div-add-mod' (words u) (size k)) in
+    kept-parts k (words u / size k) m (replicate (length m - words u) 0)
+    ∙ ap (λ (n : ℕ). allWhole k (words u / size k) m && same (replicate (length m - words u) 0) (drop n m)) fill
+
+-- the trees of a map that keeps the section are whole
+pub keeps-all : (u : SetUp) (m : List ℕ) → words u % size (top (u .d)) ≡ 0 → keeps u m ≡ true
+    → allWhole (top (u .d)) (words u / size (top (u .d))) m ≡ true
+keeps-all u m h kept =
+    and-true (allWhole (top (u .d)) (words u / size (top (u .d))) m) (same (replicate (length m - words u) 0) (drop (words u) m)) (sym (keeps-whole u m h) ∙ kept) .0
+
+-- what a whole tree is
+pub whole-parts : (k : ℕ) (m : List ℕ) → whole (part k m) ≡ true → (canonical k (told k m) ≡ true) × (m ≡ written k (told k m))
+whole-parts k m h =
+    let (first, bytes) = and-true (canonical k (told k m)) _ (sym (whole-told k m) ∙ h) in
+    (first, sym (same-true _ m bytes))
+
+-- no tree is left
+pub whole-end : (k left : ℕ) (m : List ℕ) → left ≡ 0 → allWhole k left m ≡ true
+unfolding allWhole
+whole-end k zero m e = refl
+whole-end k (suc left) m e = absurd (omega arith)
+
+pub lowest-end : (j k at left : ℕ) (m : List ℕ) → left ≡ 0 → lowestOf j k at (allTold k left m) ≡ Nothing
+unfolding allTold lowestOf
+lowest-end j k at zero m e = refl
+lowest-end j k at (suc left) m e = absurd (omega arith)
+
+-- a part of a slice is as long as asked for
+pub part-length : (i n : ℕ) (m : List ℕ) → i + n ≤ length m → length (take (i + n - i) (drop i m)) ≡ n
+part-length i n m h =
+    let same : i + n - i ≡ n = omega arith in
+    length-take-le (i + n - i) (drop i m) (rw length-drop (omega arith)) ∙ same
+
+module _ (k n i : ℕ) (m : List ℕ) (e : n ≡ size k) where
+  -- the bytes of the next tree as a part of the slice
+  next-tree : take (i + n - i) (drop i m) ≡ take (size k) (drop i m)
+  next-tree = ap (λ (c : ℕ). take c (drop i m)) (let same : i + n - i ≡ n = omega arith in same ∙ e)
+
+  next-rest : drop (size k) (drop i m) ≡ drop (i + n) m
+  next-rest = drop-drop (size k) i m ∙ ap (λ (c : ℕ). drop (i + c) m) (sym e)
+
+  -- one more tree is whole
+  pub whole-next : (left : ℕ) → 0 < left → allWhole k left (drop i m) ≡ (whole (part k (take (i + n - i) (drop i m))) && allWhole k (left - 1) (drop (i + n) m))
+  whole-next =
+      one-less (λ left rest. allWhole k left (drop i m) ≡ (whole (part k (take (i + n - i) (drop i m))) && allWhole k rest (drop (i + n) m)))
+      (λ rest. unfold allWhole in ap₂ (λ (xs ys : List ℕ). whole (part k xs) && allWhole k rest ys) (sym next-tree) next-rest)
+
+  -- one more tree is looked through
+  pub lowest-next : (j at left : ℕ) → 0 < left
+      → lowestOf j k at (allTold k left (drop i m))
+      ≡ orElse (lowestIn j k at (told k (take (i + n - i) (drop i m)))) (lowestOf j k (at + n) (allTold k (left - 1) (drop (i + n) m)))
+  lowest-next j at =
+      one-less (λ left rest. lowestOf j k at (allTold k left (drop i m))
+      ≡ orElse (lowestIn j k at (told k (take (i + n - i) (drop i m)))) (lowestOf j k (at + n) (allTold k rest (drop (i + n) m))))
+      (λ rest. unfold lowestOf allTold in
+      ap₂ orElse (ap (λ (xs : List ℕ). lowestIn j k at (told k xs)) (sym next-tree))
+      (ap₂ (λ (c : ℕ) (ys : List ℕ). lowestOf j k (at + c) (allTold k rest ys)) (sym e) next-rest))
+
+  module _ (left : ℕ) (h : 0 < left) (all : allWhole k left (drop i m) ≡ true) where
+    -- the trees after a whole one are whole
+    pub whole-rest : allWhole k (left - 1) (drop (i + n) m) ≡ true
+    whole-rest = and-true (whole (part k (take (i + n - i) (drop i m)))) _ (sym (whole-next left h) ∙ all) .1
+
+    -- what is found in the next tree, or else in the others
+    pub found-next : (j at : ℕ) (r : Found)
+        → ((t : Tree) → canonical k t ≡ true → take (i + n - i) (drop i m) ≡ written k t → r ≡ lowestIn j k at t)
+        → lowestOf j k at (allTold k left (drop i m)) ≡ orElse r (lowestOf j k (at + n) (allTold k (left - 1) (drop (i + n) m)))
+    found-next j at r f =
+        let first = and-true (whole (part k (take (i + n - i) (drop i m)))) _ (sym (whole-next left h) ∙ all) .0 in
+        let (canon, bytes) = whole-parts k (take (i + n - i) (drop i m)) first in
+        lowest-next j at left h
+        ∙ ap (λ (x : Found). orElse x (lowestOf j k (at + n) (allTold k (left - 1) (drop (i + n) m)))) (sym (f (told k (take (i + n - i) (drop i m))) canon bytes))

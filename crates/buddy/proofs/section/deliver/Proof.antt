@@ -1,0 +1,87 @@
+-- `deliver` delivers in the tree around the lowest run. Assumes nothing.
+use mathlib.Core.Path.{_≡_, ap, _∙_}
+use Prim.Native.Nat.{ℕ, _+_, _-_, _*_, _/_, _%_, _≤_, _<_}
+use native.Mathlib.Nat.{div-add-mod', mod-lt}
+use native.Mathlib.Omega.{arith}
+use lib.ListN.{length}
+use Rattle.buddy.proofs.Size.{size-pos}
+use Rattle.buddy.proofs.Keeping.{part-length}
+use Rattle.buddy.proofs.Address.{top-le, tree-fits, delivers-map}
+use borrow.Author.Needs.{needs}
+use Rattle.buddy.proofs.section.deliver.Statement.{statement}
+use Rattle.buddy.proofs.section.deliver.Tie as tie
+use Rattle.buddy.proofs.section.deliver.Reads as reads
+use Rattle.buddy.proofs.section.deliver.Lts as lts
+use Rattle.buddy.proofs.sizes.size_of.Reads as size-of-reads
+use Rattle.buddy.proofs.sizes.top_of.Reads as top-of-reads
+use Rattle.buddy.proofs.tree.deliver_at.Reads as deliver-at-reads
+
+top-of-requires : tie.Need-top-of-requires
+top-of-requires c κs = search needs
+
+size-of-requires : tie.Need-size-of-requires
+size-of-requires c κs = omega (arith, c .top-of .ensures, top-le (c .before .before .args .setup .d))
+
+cast-offset : tie.Need-cast-offset
+cast-offset c = search needs
+
+sub-offset : tie.Need-sub-offset
+sub-offset c = search needs
+
+div-start : tie.Need-div-start
+div-start c = omega (arith, c .before .size-of .ensures, size-pos (c .before .before .top-of .result))
+
+mul-start : tie.Need-mul-start
+mul-start c = record { fits = omega (arith, div-add-mod' (c .before .before .before .before .args .address - c .before .before .before .before .args .setup .s1) (c .before .size-of .result)) }
+
+add-end : tie.Need-add-end
+add-end c = record { fits = omega (arith, tree-fits (c .before .before .before .before .args .setup) (c .before .before .before .before .args .map .now) (c .before .before .before .before .pre .0) (c .before .before .before .before .pre .1) (c .before .before .top-of .result) (c .before .size-of .result) (c .before .before .before .before .args .address) (c .before .before .top-of .ensures) (c .before .size-of .ensures) (c .before .before .before .before .pre .2) (c .before .before .before .before .pre .3)) }
+
+rem-deliver-at : tie.Need-rem-deliver-at
+rem-deliver-at c = omega (arith, c .before .size-of .ensures, size-pos (c .before .before .top-of .result))
+
+sub-deliver-at : tie.Need-sub-deliver-at
+sub-deliver-at c = search needs
+
+part-deliver-at-start : tie.Need-part-deliver-at-start
+part-deliver-at-start c = search needs
+
+part-deliver-at-end : tie.Need-part-deliver-at-end
+part-deliver-at-end c = tree-fits (c .before .before .before .before .args .setup) (c .before .before .before .before .args .map .now) (c .before .before .before .before .pre .0) (c .before .before .before .before .pre .1) (c .before .before .top-of .result) (c .before .size-of .result) (c .before .before .before .before .args .address) (c .before .before .top-of .ensures) (c .before .size-of .ensures) (c .before .before .before .before .pre .2) (c .before .before .before .before .pre .3)
+
+deliver-at-requires : tie.Need-deliver-at-requires
+deliver-at-requires c κs = let e = c .before .before .before .before .before in
+    let n = c .before .before .size-of .result in
+    let fits = tree-fits (e .args .setup) (e .args .map .now) (e .pre .0) (e .pre .1) (c .before .before .before .top-of .result) n (e .args .address) (c .before .before .before .top-of .ensures) (c .before .before .size-of .ensures) (e .pre .2) (e .pre .3) in (
+      omega (arith, c .before .before .before .top-of .ensures),
+      omega (arith, c .before .before .before .top-of .ensures, top-le (e .args .setup .d)),
+      part-length ((e .args .address - e .args .setup .s1) / n * n) n (e .args .map .now) fits ∙ c .before .before .size-of .ensures,
+      omega (arith, c .before .before .size-of .ensures, mod-lt (e .args .address - e .args .setup .s1) {m = n} (omega (arith, c .before .before .size-of .ensures, size-pos (c .before .before .before .top-of .result)))),
+    )
+
+same-length : tie.Need-same-length
+same-length c = search needs
+
+returns : tie.Need-returns
+returns c = let e = c .before .before .before .before .before .before .before .before in
+    delivers-map (e .args .setup) (e .args .map .now) (e .pre .0) (e .pre .1) (c .before .before .before .before .before .before .top-of .result) (c .before .before .before .before .before .size-of .result) (e .args .address) (c .before .before .before .before .before .before .top-of .ensures) (c .before .before .before .before .before .size-of .ensures)
+    (e .pre .2) (e .pre .3) (e .args .j) (c .before .before .deliver-at .last .1 .1 .1 .0) (e .pre .4) (e .pre .5) (c .before .before .deliver-at .ensures)
+
+pub deliver-spec : {M : Type 1} → statement M
+deliver-spec =
+    tie.close
+    (tie.spec
+    top-of-requires
+    size-of-requires
+    cast-offset
+    sub-offset
+    div-start
+    mul-start
+    add-end
+    rem-deliver-at
+    sub-deliver-at
+    part-deliver-at-start
+    part-deliver-at-end
+    deliver-at-requires
+    same-length
+    returns)

@@ -1,0 +1,86 @@
+-- `free_block` frees in the tree around an address. Assumes nothing.
+use mathlib.Core.Path.{_≡_, ap, _∙_}
+use Prim.Native.Nat.{ℕ, _+_, _-_, _*_, _/_, _%_, _≤_, _<_}
+use native.Mathlib.Nat.{div-add-mod', mod-lt}
+use native.Mathlib.Omega.{arith}
+use lib.ListN.{length}
+use Rattle.buddy.proofs.Size.{size-pos}
+use Rattle.buddy.proofs.Keeping.{part-length}
+use Rattle.buddy.proofs.Address.{top-le, tree-fits, frees-map}
+use borrow.Author.Needs.{needs}
+use Rattle.buddy.proofs.section.free_block.Statement.{statement}
+use Rattle.buddy.proofs.section.free_block.Tie as tie
+use Rattle.buddy.proofs.section.free_block.Reads as reads
+use Rattle.buddy.proofs.section.free_block.Lts as lts
+use Rattle.buddy.proofs.sizes.size_of.Reads as size-of-reads
+use Rattle.buddy.proofs.sizes.top_of.Reads as top-of-reads
+use Rattle.buddy.proofs.tree.free_at.Reads as free-at-reads
+
+top-of-requires : tie.Need-top-of-requires
+top-of-requires c κs = search needs
+
+size-of-requires : tie.Need-size-of-requires
+size-of-requires c κs = omega (arith, c .top-of .ensures, top-le (c .before .before .args .setup .d))
+
+cast-offset : tie.Need-cast-offset
+cast-offset c = search needs
+
+sub-offset : tie.Need-sub-offset
+sub-offset c = search needs
+
+div-start : tie.Need-div-start
+div-start c = omega (arith, c .before .size-of .ensures, size-pos (c .before .before .top-of .result))
+
+mul-start : tie.Need-mul-start
+mul-start c = record { fits = omega (arith, div-add-mod' (c .before .before .before .before .args .address - c .before .before .before .before .args .setup .s1) (c .before .size-of .result)) }
+
+add-end : tie.Need-add-end
+add-end c = record { fits = omega (arith, tree-fits (c .before .before .before .before .args .setup) (c .before .before .before .before .args .map .now) (c .before .before .before .before .pre .0) (c .before .before .before .before .pre .1) (c .before .before .top-of .result) (c .before .size-of .result) (c .before .before .before .before .args .address) (c .before .before .top-of .ensures) (c .before .size-of .ensures) (c .before .before .before .before .pre .2) (c .before .before .before .before .pre .3)) }
+
+rem-free-at : tie.Need-rem-free-at
+rem-free-at c = omega (arith, c .before .size-of .ensures, size-pos (c .before .before .top-of .result))
+
+sub-free-at : tie.Need-sub-free-at
+sub-free-at c = search needs
+
+part-free-at-start : tie.Need-part-free-at-start
+part-free-at-start c = search needs
+
+part-free-at-end : tie.Need-part-free-at-end
+part-free-at-end c = tree-fits (c .before .before .before .before .args .setup) (c .before .before .before .before .args .map .now) (c .before .before .before .before .pre .0) (c .before .before .before .before .pre .1) (c .before .before .top-of .result) (c .before .size-of .result) (c .before .before .before .before .args .address) (c .before .before .top-of .ensures) (c .before .size-of .ensures) (c .before .before .before .before .pre .2) (c .before .before .before .before .pre .3)
+
+free-at-requires : tie.Need-free-at-requires
+free-at-requires c κs = let e = c .before .before .before .before .before in
+    let n = c .before .before .size-of .result in
+    let fits = tree-fits (e .args .setup) (e .args .map .now) (e .pre .0) (e .pre .1) (c .before .before .before .top-of .result) n (e .args .address) (c .before .before .before .top-of .ensures) (c .before .before .size-of .ensures) (e .pre .2) (e .pre .3) in (
+      omega (arith, c .before .before .before .top-of .ensures, top-le (e .args .setup .d)),
+      part-length ((e .args .address - e .args .setup .s1) / n * n) n (e .args .map .now) fits ∙ c .before .before .size-of .ensures,
+      omega (arith, c .before .before .size-of .ensures, mod-lt (e .args .address - e .args .setup .s1) {m = n} (omega (arith, c .before .before .size-of .ensures, size-pos (c .before .before .before .top-of .result)))),
+    )
+
+same-length : tie.Need-same-length
+same-length c = search needs
+
+returns : tie.Need-returns
+returns c = let e = c .before .before .before .before .before .before .before .before in
+    frees-map (e .args .setup) (e .args .map .now) (e .pre .0) (e .pre .1) (c .before .before .before .before .before .before .top-of .result) (c .before .before .before .before .before .size-of .result) (e .args .address) (c .before .before .before .before .before .before .top-of .ensures) (c .before .before .before .before .before .size-of .ensures)
+    (e .pre .2) (e .pre .3) (c .before .before .free-at .last .1 .1 .0) (c .before .before .free-at .ensures)
+
+pub free-block-spec : {M : Type 1} → statement M
+free-block-spec =
+    tie.close
+    (tie.spec
+    top-of-requires
+    size-of-requires
+    cast-offset
+    sub-offset
+    div-start
+    mul-start
+    add-end
+    rem-free-at
+    sub-free-at
+    part-free-at-start
+    part-free-at-end
+    free-at-requires
+    same-length
+    returns)

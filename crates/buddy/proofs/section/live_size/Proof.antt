@@ -1,0 +1,45 @@
+-- `live_size` looks at one byte of the map. Assumes nothing.
+use mathlib.Core.Path.{sym, _∙_}
+use native.Mathlib.Omega.{arith}
+use Rattle.buddy.proofs.Map.{keeps-words}
+use Rattle.buddy.proofs.Address.{live-below, live-above, live-tag}
+use borrow.Author.Needs.{needs}
+use Rattle.buddy.proofs.section.live_size.Statement.{statement}
+use Rattle.buddy.proofs.section.live_size.Tie as tie
+use Rattle.buddy.proofs.section.live_size.Reads as reads
+use Rattle.buddy.proofs.section.live_size.Lts as lts
+use Rattle.buddy.proofs.section.tag_size.Reads as tag-size-reads
+use Rattle.buddy.proofs.section.words_of.Reads as words-of-reads
+
+cast-first : tie.Need-cast-first
+cast-first c = search needs
+
+returns : tie.Need-returns
+returns c = sym (live-below _ _ _ (c .if1 .taken))
+
+words-of-requires : tie.Need-words-of-requires
+words-of-requires c κs = search needs
+
+shared-slice-read-tag-size : tie.Need-shared-slice-read-tag-size
+shared-slice-read-tag-size c = omega (arith, keeps-words _ _ (c .before .before .before .before .before .before .pre .0) (c .before .before .before .before .before .before .pre .1), c .before .before .words-of .ensures)
+
+tag-size-requires : tie.Need-tag-size-requires
+tag-size-requires c κs = search needs
+
+returns-2 : tie.Need-returns-2
+returns-2 c = c .tag-size .ensures ∙ sym (live-tag _ _ (c .before .before .before .before .before .before .before .pre .0) (c .before .before .before .before .before .before .before .pre .1) (c .before .before .before .before .before .before .before .args .address) (omega arith) (omega (arith, c .before .before .before .words-of .ensures)))
+
+returns-3 : tie.Need-returns-3
+returns-3 c = sym (live-above _ _ (c .before .before .before .before .before .pre .0) (c .before .before .before .before .before .args .address) (omega (arith, c .before .words-of .ensures)))
+
+pub live-size-spec : {M : Type 1} → statement M
+live-size-spec =
+    tie.close
+    (tie.spec
+    cast-first
+    returns
+    words-of-requires
+    shared-slice-read-tag-size
+    tag-size-requires
+    returns-2
+    returns-3)

@@ -1,0 +1,18 @@
+-- `top_of` gives the place of the largest size. Assumes nothing.
+use Rattle.buddy.specs.SetUp.{top}
+use borrow.Author.Needs.{needs}
+use Rattle.buddy.proofs.sizes.top_of.Statement.{statement}
+use Rattle.buddy.proofs.sizes.top_of.Tie as tie
+use Rattle.buddy.proofs.sizes.top_of.Reads as reads
+use Rattle.buddy.proofs.sizes.top_of.Lts as lts
+use Rattle.buddy.proofs.sizes.level_of.Reads as level-of-reads
+
+level-of-requires : tie.Need-level-of-requires
+level-of-requires c κs = search needs
+
+returns : tie.Need-returns
+unfolding top
+returns c = c .level-of .ensures
+
+pub top-of-spec : {M : Type 1} → statement M
+top-of-spec = tie.close (tie.spec level-of-requires returns)

@@ -1,0 +1,378 @@
+-- `free_at` frees the live block around an offset, and rejoins free halves on the way back. The measure is k. Assumes nothing.
+use borrow.Author.Needs.{needs}
+use mathlib.Core.Path.{sym, ap, _∙_}
+use Prim.Native.Nat.{_+_, _-_, _/_}
+use native.Mathlib.Omega.{arith}
+use lib.ListN.{length, set, length-set}
+use lib.Seq.{length-take-le, length-front}
+use borrow.Rule.Slice.PartMut.{same-len-mid}
+use Rattle.buddy.proofs.Size.{size-pos}
+use Rattle.buddy.proofs.Halves.{half-size, size-pred, low-length, high-length}
+use Rattle.buddy.proofs.Tags.{frees-live, frees-free, frees-word, frees-low, frees-high}
+use Prim.Native.Nat.{ℕ, _<_}
+use borrow.Fn.Kinds.{In}
+use borrow.Fn.PlainCycle.{Measures, is, falls, and}
+use Rattle.buddy.proofs.tree.free_at.Reads as free-at
+use Rattle.buddy.proofs.tree.free_at.Kinds as free-at-kinds
+use Rattle.buddy.proofs.tree.+free_at.Lts-free_at as free-at-lts
+use Rattle.buddy.proofs.tree.free_tag.Reads as free-tag-reads
+use Rattle.buddy.proofs.tree.live_tag.Reads as live-tag-reads
+use Rattle.buddy.proofs.tree.rejoin.Reads as rejoin-reads
+use Rattle.buddy.proofs.tree.+free_at.{statement}
+use Rattle.buddy.proofs.tree.+free_at.Tie.{close}
+
+abbrev μ-free-at : Measures 1 free-at-kinds.ps ℕ
+μ-free-at κs a = a .0
+
+abbrev free-at-at : ℕ → In 1 free-at-kinds.ps
+free-at-at t = and 1 free-at-kinds.ps (is 1 free-at-kinds.ps μ-free-at t) free-at.Pre
+
+abbrev free-at-below : ℕ → In 1 free-at-kinds.ps
+free-at-below t = and 1 free-at-kinds.ps (falls 1 free-at-kinds.ps _<_ μ-free-at t) free-at.Pre
+
+free-at-slice-read-if1 : (t : ℕ) → free-at-lts.Need-slice-read-if1 (
+  live-tag-reads.Asked,
+  live-tag-reads.Learnt,
+  free-tag-reads.Asked,
+  free-tag-reads.Learnt,
+  free-at-below t,
+  free-at.Post,
+  rejoin-reads.Asked,
+  rejoin-reads.Learnt,
+) (free-at-at t) free-at.Post
+free-at-slice-read-if1 t c = omega (arith, size-pos (c .before .before .args .k))
+
+free-at-live-tag-requires : (t : ℕ) → free-at-lts.Need-live-tag-requires (
+  live-tag-reads.Asked,
+  live-tag-reads.Learnt,
+  free-tag-reads.Asked,
+  free-tag-reads.Learnt,
+  free-at-below t,
+  free-at.Post,
+  rejoin-reads.Asked,
+  rejoin-reads.Learnt,
+) (free-at-at t) free-at.Post
+free-at-live-tag-requires t c κs = omega arith
+
+free-at-free-tag-requires : (t : ℕ) → free-at-lts.Need-free-tag-requires (
+  live-tag-reads.Asked,
+  live-tag-reads.Learnt,
+  free-tag-reads.Asked,
+  free-tag-reads.Learnt,
+  free-at-below t,
+  free-at.Post,
+  rejoin-reads.Asked,
+  rejoin-reads.Learnt,
+) (free-at-at t) free-at.Post
+free-at-free-tag-requires t c κs = omega arith
+
+free-at-slice-write-tags : (t : ℕ) → free-at-lts.Need-slice-write-tags (
+  live-tag-reads.Asked,
+  live-tag-reads.Learnt,
+  free-tag-reads.Asked,
+  free-tag-reads.Learnt,
+  free-at-below t,
+  free-at.Post,
+  rejoin-reads.Asked,
+  rejoin-reads.Learnt,
+) (free-at-at t) free-at.Post
+free-at-slice-write-tags t c = omega (arith, size-pos (c .before .before .before .before .before .args .k))
+
+free-at-same-length : (t : ℕ) → free-at-lts.Need-same-length (
+  live-tag-reads.Asked,
+  live-tag-reads.Learnt,
+  free-tag-reads.Asked,
+  free-tag-reads.Learnt,
+  free-at-below t,
+  free-at.Post,
+  rejoin-reads.Asked,
+  rejoin-reads.Learnt,
+) (free-at-at t) free-at.Post
+free-at-same-length t c = search needs
+
+free-at-returns : (t : ℕ) → free-at-lts.Need-returns (
+  live-tag-reads.Asked,
+  live-tag-reads.Learnt,
+  free-tag-reads.Asked,
+  free-tag-reads.Learnt,
+  free-at-below t,
+  free-at.Post,
+  rejoin-reads.Asked,
+  rejoin-reads.Learnt,
+) (free-at-at t) free-at.Post
+free-at-returns t c = λ at s whole w. frees-live (c .before .before .before .before .before .args .k) (c .free-tag .result) _ at _ s (c .before .if1 .taken ∙ c .before .before .live-tag .ensures) (c .free-tag .ensures) w
+
+free-at-slice-read-if2 : (t : ℕ) → free-at-lts.Need-slice-read-if2 (
+  live-tag-reads.Asked,
+  live-tag-reads.Learnt,
+  free-tag-reads.Asked,
+  free-tag-reads.Learnt,
+  free-at-below t,
+  free-at.Post,
+  rejoin-reads.Asked,
+  rejoin-reads.Learnt,
+) (free-at-at t) free-at.Post
+free-at-slice-read-if2 t c = omega (arith, size-pos (c .before .before .before .before .before .args .k))
+
+free-at-free-tag-requires-2 : (t : ℕ) → free-at-lts.Need-free-tag-requires-2 (
+  live-tag-reads.Asked,
+  live-tag-reads.Learnt,
+  free-tag-reads.Asked,
+  free-tag-reads.Learnt,
+  free-at-below t,
+  free-at.Post,
+  rejoin-reads.Asked,
+  rejoin-reads.Learnt,
+) (free-at-at t) free-at.Post
+free-at-free-tag-requires-2 t c κs = omega arith
+
+free-at-returns-2 : (t : ℕ) → free-at-lts.Need-returns-2 (
+  live-tag-reads.Asked,
+  live-tag-reads.Learnt,
+  free-tag-reads.Asked,
+  free-tag-reads.Learnt,
+  free-at-below t,
+  free-at.Post,
+  rejoin-reads.Asked,
+  rejoin-reads.Learnt,
+) (free-at-at t) free-at.Post
+free-at-returns-2 t c = λ at s whole w. frees-free (c .before .before .before .before .before .before .before .args .k) _ at _ s (c .if2 .taken ∙ c .before .free-tag2 .ensures) w
+
+free-at-returns-3 : (t : ℕ) → free-at-lts.Need-returns-3 (
+  live-tag-reads.Asked,
+  live-tag-reads.Learnt,
+  free-tag-reads.Asked,
+  free-tag-reads.Learnt,
+  free-at-below t,
+  free-at.Post,
+  rejoin-reads.Asked,
+  rejoin-reads.Learnt,
+) (free-at-at t) free-at.Post
+free-at-returns-3 t c = λ at s whole w. frees-word (c .before .before .before .before .before .before .before .before .args .k) _ at _ s (c .if3 .taken) (λ q. c .before .before .before .before .if1 .left (q ∙ sym (c .before .before .before .before .before .live-tag .ensures))) w
+
+free-at-sub-free-at : (t : ℕ) → free-at-lts.Need-sub-free-at (
+  live-tag-reads.Asked,
+  live-tag-reads.Learnt,
+  free-tag-reads.Asked,
+  free-tag-reads.Learnt,
+  free-at-below t,
+  free-at.Post,
+  rejoin-reads.Asked,
+  rejoin-reads.Learnt,
+) (free-at-at t) free-at.Post
+free-at-sub-free-at t c = omega arith
+
+free-at-slice-relend-prefix-free-at : (t : ℕ) → free-at-lts.Need-slice-relend-prefix-free-at (
+  live-tag-reads.Asked,
+  live-tag-reads.Learnt,
+  free-tag-reads.Asked,
+  free-tag-reads.Learnt,
+  free-at-below t,
+  free-at.Post,
+  rejoin-reads.Asked,
+  rejoin-reads.Learnt,
+) (free-at-at t) free-at.Post
+free-at-slice-relend-prefix-free-at t c = omega arith
+
+free-at-slice-aggregate-free-at : (t : ℕ) → free-at-lts.Need-slice-aggregate-free-at (
+  live-tag-reads.Asked,
+  live-tag-reads.Learnt,
+  free-tag-reads.Asked,
+  free-tag-reads.Learnt,
+  free-at-below t,
+  free-at.Post,
+  rejoin-reads.Asked,
+  rejoin-reads.Learnt,
+) (free-at-at t) free-at.Post
+free-at-slice-aggregate-free-at t c = sym (length-take-le _ _ (omega arith))
+
+free-at-free-at-requires : (t : ℕ) → free-at-lts.Need-free-at-requires (
+  live-tag-reads.Asked,
+  live-tag-reads.Learnt,
+  free-tag-reads.Asked,
+  free-tag-reads.Learnt,
+  free-at-below t,
+  free-at.Post,
+  rejoin-reads.Asked,
+  rejoin-reads.Learnt,
+) (free-at-at t) free-at.Post
+free-at-free-at-requires t c κs = (omega arith, (omega arith, low-length _ (c .before .before .before .before .before .before .before .before .before .before .args .tags .now) (omega arith) (c .before .before .before .before .before .before .before .before .before .before .pre .1 .1), omega (arith, half-size (c .before .before .before .before .before .before .before .before .before .before .args .k) _ (omega arith) (c .before .before .before .before .before .before .before .before .before .before .pre .1 .1))))
+
+free-at-rejoin-requires : (t : ℕ) → free-at-lts.Need-rejoin-requires (
+  live-tag-reads.Asked,
+  live-tag-reads.Learnt,
+  free-tag-reads.Asked,
+  free-tag-reads.Learnt,
+  free-at-below t,
+  free-at.Post,
+  rejoin-reads.Asked,
+  rejoin-reads.Learnt,
+) (free-at-at t) free-at.Post
+free-at-rejoin-requires t c κs = (omega arith, omega arith, c .before .before .tags .given .1 ∙ c .before .before .before .before .before .before .before .before .before .before .before .before .before .before .pre .1 .1)
+
+free-at-sub-free-at-2 : (t : ℕ) → free-at-lts.Need-sub-free-at-2 (
+  live-tag-reads.Asked,
+  live-tag-reads.Learnt,
+  free-tag-reads.Asked,
+  free-tag-reads.Learnt,
+  free-at-below t,
+  free-at.Post,
+  rejoin-reads.Asked,
+  rejoin-reads.Learnt,
+) (free-at-at t) free-at.Post
+free-at-sub-free-at-2 t c = omega arith
+
+free-at-sub-free-at-3 : (t : ℕ) → free-at-lts.Need-sub-free-at-3 (
+  live-tag-reads.Asked,
+  live-tag-reads.Learnt,
+  free-tag-reads.Asked,
+  free-tag-reads.Learnt,
+  free-at-below t,
+  free-at.Post,
+  rejoin-reads.Asked,
+  rejoin-reads.Learnt,
+) (free-at-at t) free-at.Post
+free-at-sub-free-at-3 t c = omega arith
+
+free-at-part-free-at-start : (t : ℕ) → free-at-lts.Need-part-free-at-start (
+  live-tag-reads.Asked,
+  live-tag-reads.Learnt,
+  free-tag-reads.Asked,
+  free-tag-reads.Learnt,
+  free-at-below t,
+  free-at.Post,
+  rejoin-reads.Asked,
+  rejoin-reads.Learnt,
+) (free-at-at t) free-at.Post
+free-at-part-free-at-start t c = omega arith
+
+free-at-part-free-at-end : (t : ℕ) → free-at-lts.Need-part-free-at-end (
+  live-tag-reads.Asked,
+  live-tag-reads.Learnt,
+  free-tag-reads.Asked,
+  free-tag-reads.Learnt,
+  free-at-below t,
+  free-at.Post,
+  rejoin-reads.Asked,
+  rejoin-reads.Learnt,
+) (free-at-at t) free-at.Post
+free-at-part-free-at-end t c = omega arith
+
+free-at-free-at-requires-2 : (t : ℕ) → free-at-lts.Need-free-at-requires-2 (
+  live-tag-reads.Asked,
+  live-tag-reads.Learnt,
+  free-tag-reads.Asked,
+  free-tag-reads.Learnt,
+  free-at-below t,
+  free-at.Post,
+  rejoin-reads.Asked,
+  rejoin-reads.Learnt,
+) (free-at-at t) free-at.Post
+free-at-free-at-requires-2 t c κs = (omega arith, (omega arith, high-length _ (c .before .before .before .before .before .before .before .before .before .before .args .tags .now) (omega arith) (c .before .before .before .before .before .before .before .before .before .before .pre .1 .1), omega (arith, half-size (c .before .before .before .before .before .before .before .before .before .before .args .k) _ (omega arith) (c .before .before .before .before .before .before .before .before .before .before .pre .1 .1), size-pred (c .before .before .before .before .before .before .before .before .before .before .args .k) (omega arith))))
+
+free-at-rejoin-requires-2 : (t : ℕ) → free-at-lts.Need-rejoin-requires-2 (
+  live-tag-reads.Asked,
+  live-tag-reads.Learnt,
+  free-tag-reads.Asked,
+  free-tag-reads.Learnt,
+  free-at-below t,
+  free-at.Post,
+  rejoin-reads.Asked,
+  rejoin-reads.Learnt,
+) (free-at-at t) free-at.Post
+free-at-rejoin-requires-2 t c κs = (omega arith, omega arith, c .before .before .tags3 .given .1 ∙ c .before .before .before .before .before .before .before .before .before .before .before .before .before .before .pre .1 .1)
+
+free-at-same-length-2 : (t : ℕ) → free-at-lts.Need-same-length-2 (
+  live-tag-reads.Asked,
+  live-tag-reads.Learnt,
+  free-tag-reads.Asked,
+  free-tag-reads.Learnt,
+  free-at-below t,
+  free-at.Post,
+  rejoin-reads.Asked,
+  rejoin-reads.Learnt,
+) (free-at-at t) free-at.Post
+free-at-same-length-2 t c = search needs
+
+free-at-returns-4 : (t : ℕ) → free-at-lts.Need-returns-4 (
+  live-tag-reads.Asked,
+  live-tag-reads.Learnt,
+  free-tag-reads.Asked,
+  free-tag-reads.Learnt,
+  free-at-below t,
+  free-at.Post,
+  rejoin-reads.Asked,
+  rejoin-reads.Learnt,
+) (free-at-at t) free-at.Post
+free-at-returns-4 t c = λ at s whole w.
+    let e = c .before .before .before .before .before .before .before .before .before .before .before .before .before .before .before .before .before in
+    frees-low (e .args .offset) at (e .args .tags .now) (c .before .before .before .before .before .before .free-at .last .1 .1 .0) (c .before .before .rejoin .last .1 .0) s (e .args .k) (omega arith) (c .before .before .before .before .before .before .before .before .if4 .taken)
+    (half-size _ _ (omega arith) (e .pre .1 .1)) (λ q. c .before .before .before .before .before .before .before .before .before .before .before .before .before .if1 .left (q ∙ sym (c .before .before .before .before .before .before .before .before .before .before .before .before .before .before .live-tag .ensures))) (λ q. c .before .before .before .before .before .before .before .before .before .before .if2 .left (q ∙ sym (c .before .before .before .before .before .before .before .before .before .before .before .free-tag2 .ensures)))
+    whole w (c .before .before .before .before .before .before .free-at .ensures at) (c .before .before .rejoin .ensures)
+
+free-at-same-length-3 : (t : ℕ) → free-at-lts.Need-same-length-3 (
+  live-tag-reads.Asked,
+  live-tag-reads.Learnt,
+  free-tag-reads.Asked,
+  free-tag-reads.Learnt,
+  free-at-below t,
+  free-at.Post,
+  rejoin-reads.Asked,
+  rejoin-reads.Learnt,
+) (free-at-at t) free-at.Post
+free-at-same-length-3 t c = search needs
+
+free-at-returns-5 : (t : ℕ) → free-at-lts.Need-returns-5 (
+  live-tag-reads.Asked,
+  live-tag-reads.Learnt,
+  free-tag-reads.Asked,
+  free-tag-reads.Learnt,
+  free-at-below t,
+  free-at.Post,
+  rejoin-reads.Asked,
+  rejoin-reads.Learnt,
+) (free-at-at t) free-at.Post
+free-at-returns-5 t c = λ at s whole w.
+    let e = c .before .before .before .before .before .before .before .before .before .before .before .before .before .before .before .before .before in
+    frees-high (e .args .offset) at (e .args .tags .now) (c .before .before .before .before .before .before .free-at2 .last .1 .1 .0) (c .before .before .rejoin2 .last .1 .0) s (e .args .k) (omega arith) (omega arith)
+    (half-size _ _ (omega arith) (e .pre .1 .1)) (λ q. c .before .before .before .before .before .before .before .before .before .before .before .before .before .if1 .left (q ∙ sym (c .before .before .before .before .before .before .before .before .before .before .before .before .before .before .live-tag .ensures))) (λ q. c .before .before .before .before .before .before .before .before .before .before .if2 .left (q ∙ sym (c .before .before .before .before .before .before .before .before .before .before .before .free-tag2 .ensures)))
+    whole w (c .before .before .before .before .before .before .free-at2 .ensures (at + length (e .args .tags .now) / 2)) (c .before .before .rejoin2 .ensures)
+
+pub +free-at-spec : {M : Type 1} → statement M
++free-at-spec = close μ-free-at λ t. free-at-lts.spec (
+  live-tag-reads.Asked,
+  live-tag-reads.Learnt,
+  free-tag-reads.Asked,
+  free-tag-reads.Learnt,
+  free-at-below t,
+  free-at.Post,
+  rejoin-reads.Asked,
+  rejoin-reads.Learnt,
+)
+    (free-at-at t)
+    free-at.Post
+    (free-at-slice-read-if1 t)
+    (free-at-live-tag-requires t)
+    (free-at-free-tag-requires t)
+    (free-at-slice-write-tags t)
+    (free-at-same-length t)
+    (free-at-returns t)
+    (free-at-slice-read-if2 t)
+    (free-at-free-tag-requires-2 t)
+    (free-at-returns-2 t)
+    (free-at-returns-3 t)
+    (free-at-sub-free-at t)
+    (free-at-slice-relend-prefix-free-at t)
+    (free-at-slice-aggregate-free-at t)
+    (free-at-free-at-requires t)
+    (free-at-rejoin-requires t)
+    (free-at-sub-free-at-2 t)
+    (free-at-sub-free-at-3 t)
+    (free-at-part-free-at-start t)
+    (free-at-part-free-at-end t)
+    (free-at-free-at-requires-2 t)
+    (free-at-rejoin-requires-2 t)
+    (free-at-same-length-2 t)
+    (free-at-returns-4 t)
+    (free-at-same-length-3 t)
+    (free-at-returns-5 t)

@@ -1,0 +1,30 @@
+-- The lowest aligned run: the start of the first free block that is large enough. Document 01, "Blocks". Assumes nothing.
+use Prim.Native.Nat.{ℕ, zero, suc, _+_}
+use mathlib.Core.Bool.{cond}
+use mathlib.Core.List.{List, [], _∷_}
+use lib.Dec.{leb}
+use Rattle.buddy.specs.declared.tree.Found.{Found}
+use Rattle.buddy.specs.declared.tree.Found.the-variants.{At, Nothing}
+use Rattle.buddy.specs.Blocks.{size, Tree, Free, Live, Halves}
+
+-- the first of a list
+unfoldable pub firstOf : List ℕ → Found
+firstOf [] = Nothing
+firstOf (x ∷ xs) = At x
+
+-- what is found, or else what is found elsewhere
+unfoldable pub orElse : Found → Found → Found
+orElse (At a) other = At a
+orElse Nothing other = other
+
+-- the start of the first free block of the j-th size or a larger in a tree of the k-th size at an address
+unfoldable pub lowestIn : ℕ → ℕ → ℕ → Tree → Found
+lowestIn j k at Free = At at
+lowestIn j k at Live = Nothing
+lowestIn j zero at (Halves l r) = Nothing
+lowestIn j (suc k) at (Halves l r) = cond (leb (suc k) j) Nothing (orElse (lowestIn j k at l) (lowestIn j k (at + size k) r))
+
+-- in one tree after the other
+unfoldable pub lowestOf : ℕ → ℕ → ℕ → List Tree → Found
+lowestOf j k at [] = Nothing
+lowestOf j k at (t ∷ ts) = orElse (lowestIn j k at t) (lowestOf j k (at + size k) ts)

@@ -1,0 +1,9 @@
+-- The size of the live block of which a byte of the map is the tag. Document 01, "Blocks". Assumes nothing.
+use Prim.Native.Nat.{ℕ, _-_, _/_, _%_}
+use mathlib.Core.Bool.{cond}
+use lib.Dec.{eqb, ltb}
+use Rattle.buddy.specs.Blocks.{size}
+
+-- 2, 4 .. 16 are the tags of live blocks; 0 for any other byte
+unfoldable pub tagSize : ℕ → ℕ
+tagSize tag = cond (ltb 16 tag) 0 (cond (eqb (tag % 2) 1) 0 (cond (ltb tag 2) 0 (size (tag / 2 - 1))))
