@@ -4,8 +4,10 @@ use Prim.Native.Nat.{ℕ, zero, suc, _-_, _/_, _%_, _^_}
 use mathlib.Core.Bool.{Bool, true, false, _&&_, cond}
 use mathlib.Core.List.{List, [], _∷_, map}
 use lib.Dec.{eqb, leb, ltb}
+use lib.ListN.{drop}
 use Rattle.table.specs.declared.BugLetter.{BugLetter}
 use Rattle.table.specs.declared.FieldName.{FieldName}
+use Rattle.table.specs.declared.Names.{Names}
 
 -- a reference taken apart
 pub record Reference : Type 0 where
@@ -20,13 +22,15 @@ digitsBefore (suc k) v ds = cond (eqb v 0) ds (digitsBefore k (v / 64) (v % 64 �
 unfoldable pub digitsOf : ℕ → List ℕ
 digitsOf v = digitsBefore 6 v []
 
--- a digit that names a field: 0-9 and A-Z have the digits 1 to 36
-unfoldable pub namesField : ℕ → Bool
-namesField x = leb 1 x && leb x 36
+-- a digit that names something: 0-9 and A-Z have the digits 1 to 36, the letters alone 11 to 36
+unfoldable pub names : ℕ → ℕ → Bool
+names lowest x = leb lowest x && leb x 36
 
--- a digit that names a bug: A-Z have the digits 11 to 36
+unfoldable pub namesField : ℕ → Bool
+namesField = names 1
+
 unfoldable pub namesBug : ℕ → Bool
-namesBug x = leb 11 x && leb x 36
+namesBug = names 11
 
 unfoldable pub nameFields : List ℕ → Bool
 nameFields [] = true
@@ -47,3 +51,7 @@ named (x ∷ xs) = record { bug = record { 0 = x - 11 }; fields = map (λ y. rec
 -- the names of a reference
 unfoldable pub referenceOf : ℕ → Reference
 referenceOf v = named (digitsOf v)
+
+-- the reference that names taken apart stand for
+unfoldable pub namesOf : Names → Reference
+namesOf x = record { bug = x .bug; fields = drop (x .from) (x .fields) }

@@ -38,15 +38,15 @@ unfoldable pub rowAt : List ℕ → ℕ → Row
 rowAt table r = asRow (drop (10 * r) table)
 
 -- the numbers 5, 6, 7 of a line (the first is 1): first test row, first operation row, go-to
-unfoldable pub firstTest : Row → ℕ
+abbrev pub firstTest : Row → ℕ
 firstTest row = row .first .form
 
-unfoldable pub firstOperation : Row → ℕ
+abbrev pub firstOperation : Row → ℕ
 firstOperation row = row .first .value
 
-unfoldable pub goTo : Row → ℕ
+abbrev pub goTo : Row → ℕ
 goTo row = row .second .form
 
 -- the go-to DONE
-unfoldable pub done : ℕ
+abbrev pub done : ℕ
 done = 65535

@@ -1,7 +1,7 @@
 -- Well-formed rows, and the table check.
 -- Document 01: "The table" and, for the check, the order of refusals. Assumes nothing.
 use Prim.Native.Nat.{ℕ, zero, suc, _-_}
-use mathlib.Core.Bool.{Bool, true, false, not, _&&_, _||_, cond}
+use mathlib.Core.Bool.{Bool, not, _&&_, _||_, cond}
 use mathlib.Core.List.{List}
 use lib.Dec.{eqb, leb, ltb}
 use lib.ListN.{getD}
@@ -9,10 +9,12 @@ use Rattle.table.specs.declared.Row.{Row}
 use Rattle.table.specs.declared.TableCheck.{TableCheck}
 use Rattle.table.specs.declared.TableCheck.the-variants.{Lowest, BadLength}
 use Rattle.table.specs.Row.{rows, rowAt, lengthFits, firstTest, firstOperation, goTo, done}
-use Rattle.table.specs.Operands.{Operand, Nothing, Shape, shape, shapes, testShape, takes, isAbsent}
+use Rattle.table.specs.declared.Operand.the-variants.{Absent}
+use Rattle.table.specs.declared.Shape.{Shape}
+use Rattle.table.specs.Operands.{shape, shapes, testShape, takes, isAbsent}
 
 -- next is zero, or exceeds its own row and is below the row count
-unfoldable pub chained : ℕ → ℕ → ℕ → Bool
+abbrev pub chained : ℕ → ℕ → ℕ → Bool
 chained rows r next = eqb next 0 || (ltb r next && ltb next rows)
 
 -- the pairs are what the shape says
@@ -21,11 +23,14 @@ fitPairs b rows s row =
     takes b rows (s .first) (row .first) && (takes b rows (s .second) (row .second) && takes b rows (s .third) (row .third))
 
 -- and the name is 0-35 where there is one and otherwise zero
-unfoldable pub fits : ℕ → ℕ → Shape → Row → Bool
-fits b rows s row = leb (row .name) (cond (s .named) 35 0) && fitPairs b rows s row
+abbrev pub largestName : Bool → ℕ
+largestName named = cond named 35 0
+
+abbrev pub fits : ℕ → ℕ → Shape → Row → Bool
+fits b rows s row = leb (row .name) (largestName (s .named)) && fitPairs b rows s row
 
 -- a row number of a line is zero or below the row count
-unfoldable pub rowOrNone : ℕ → ℕ → Bool
+abbrev pub rowOrNone : ℕ → ℕ → Bool
 rowOrNone rows r = eqb r 0 || ltb r rows
 
 -- a line's first test row, first operation row and go-to, which may be DONE
@@ -34,16 +39,24 @@ namesRows rows row =
     rowOrNone rows (firstTest row)
     && (rowOrNone rows (firstOperation row) && (rowOrNone rows (goTo row) || eqb (goTo row) done))
 
--- THEN (code 0) has no test, 1 IFALL, 2 IFANY, 3 IFNONE and 4 IFNALL have one or more; without operations a go-to is needed;
+-- codes 0 THEN, 1 IFALL, 2 IFANY, 3 IFNONE, 4 IFNALL, and no name
+abbrev pub hasMode : Row → Bool
+hasMode row = leb (row .code) 4 && eqb (row .name) 0
+
+-- THEN has no test, the others have one or more
+abbrev pub hasTests : Row → Bool
+hasTests row = cond (eqb (row .code) 0) (eqb (firstTest row) 0) (not (eqb (firstTest row) 0))
+
+-- without operations a go-to is needed
+abbrev pub goesOn : Row → Bool
+goesOn row = not (eqb (firstOperation row) 0 && eqb (goTo row) 0)
+
 -- unused numbers are zero
+abbrev pub restUnused : Row → Bool
+restUnused row = eqb (row .second .value) 0 && isAbsent (row .third)
+
 unfoldable pub complete : Row → Bool
-complete row =
-    leb (row .code) 4
-    && eqb (row .name) 0
-    && cond (eqb (row .code) 0) (eqb (firstTest row) 0) (not (eqb (firstTest row) 0))
-    && not (eqb (firstOperation row) 0 && eqb (goTo row) 0)
-    && eqb (row .second .value) 0
-    && isAbsent (row .third)
+complete row = hasMode row && (hasTests row && (goesOn row && restUnused row))
 
 -- kind 1, a line
 unfoldable pub isLine : ℕ → Row → Bool
@@ -55,7 +68,7 @@ isTest b rows row = leb 1 (row .code) && (leb (row .code) 7 && fits b rows testS
 
 -- kind 3, an operation: codes 1 to 36
 unfoldable pub shapeOf : ℕ → Shape
-shapeOf code = getD shapes (code - 1) (shape Nothing Nothing Nothing)
+shapeOf code = getD shapes (code - 1) (shape Absent Absent Absent)
 
 unfoldable pub isOperation : ℕ → ℕ → Row → Bool
 isOperation b rows row = leb 1 (row .code) && (leb (row .code) 36 && fits b rows (shapeOf (row .code)) row)

@@ -1,10 +1,22 @@
-// The table's rows: what they mean stands in specs/.
+// The table: rows of ten numbers, references, operands and the check. What each means stands in specs/.
+pub mod check;
+pub mod operands;
+pub mod references;
+pub mod rows;
+mod tests;
 
 // A bug's letter: A is 0, Z is 25. It never selects a field's definition.
 pub struct BugLetter(pub u8);
 
 // A field's name number: 0 to 9 for the digits, 10 to 35 for A to Z.
 pub struct FieldName(pub u8);
+
+// A reference taken apart: its bug, and its field names in fields from place from on.
+pub struct Names {
+    pub bug: BugLetter,
+    pub from: usize,
+    pub fields: [FieldName; 5],
+}
 
 // A pair of numbers of a row: an operand's form and value.
 pub struct Pair {
@@ -21,6 +33,25 @@ pub struct Row {
     pub first: Pair,
     pub second: Pair,
     pub third: Pair,
+}
+
+// What may stand in a pair; a and c are a Reference, and cd is an Either.
+pub enum Operand {
+    Absent,
+    Literal,
+    Reference,
+    Either,
+    ReferenceOrAbsent,
+    ReferenceOrZero,
+    Line,
+}
+
+// What a code takes: whether it has a name, and its three pairs.
+pub struct Shape {
+    pub named: bool,
+    pub first: Operand,
+    pub second: Operand,
+    pub third: Operand,
 }
 
 // What the table check answers: the lowest ill-formed row, 0 if there is none, or that the table's length is refused.

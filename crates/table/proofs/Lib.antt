@@ -1,0 +1,4 @@
+-- Laws that the proofs of the functions cite.
+pub mod Digits
+pub mod Shapes
+pub mod Formed

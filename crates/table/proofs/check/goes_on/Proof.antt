@@ -1,0 +1,13 @@
+-- `table::check::goes_on` meets its contract. Assumes nothing.
+use borrow.Author.Needs.{needs}
+use Rattle.table.proofs.check.goes_on.Statement.{statement}
+use Rattle.table.proofs.check.goes_on.Tie as tie
+
+both-requires : tie.Need-both-requires
+both-requires c κs = search needs
+
+returns : tie.Need-returns
+returns c = cc
+
+pub goes-on-spec : {M : Type 1} → statement M
+goes-on-spec = tie.close (tie.spec both-requires returns)

@@ -1,0 +1,16 @@
+-- `table::check::is_chained` meets its contract. Assumes nothing.
+use borrow.Author.Needs.{needs}
+use Rattle.table.proofs.check.is_chained.Statement.{statement}
+use Rattle.table.proofs.check.is_chained.Tie as tie
+
+both-requires : tie.Need-both-requires
+both-requires c κs = search needs
+
+either-requires : tie.Need-either-requires
+either-requires c κs = search needs
+
+returns : tie.Need-returns
+returns c = cc
+
+pub is-chained-spec : {M : Type 1} → statement M
+is-chained-spec = tie.close (tie.spec both-requires either-requires returns)

@@ -1,0 +1,125 @@
+-- `table::operands::is_operand` meets its contract. Assumes nothing.
+use borrow.Author.Needs.{needs}
+use Rattle.table.proofs.operands.is_operand.Statement.{statement}
+use Rattle.table.proofs.operands.is_operand.Tie as tie
+
+enum-told : tie.Need-enum-told
+enum-told c = search needs
+
+is-absent-requires : tie.Need-is-absent-requires
+is-absent-requires c κs = search needs
+
+enum-told-2 : tie.Need-enum-told-2
+enum-told-2 c = search needs
+
+is-literal-requires : tie.Need-is-literal-requires
+is-literal-requires c κs = search needs
+
+enum-told-3 : tie.Need-enum-told-3
+enum-told-3 c = search needs
+
+is-ref-requires : tie.Need-is-ref-requires
+is-ref-requires c κs = search needs
+
+enum-told-4 : tie.Need-enum-told-4
+enum-told-4 c = search needs
+
+is-literal-requires-2 : tie.Need-is-literal-requires-2
+is-literal-requires-2 c κs = search needs
+
+is-ref-requires-2 : tie.Need-is-ref-requires-2
+is-ref-requires-2 c κs = search needs
+
+either-requires : tie.Need-either-requires
+either-requires c κs = search needs
+
+enum-told-5 : tie.Need-enum-told-5
+enum-told-5 c = search needs
+
+is-ref-requires-3 : tie.Need-is-ref-requires-3
+is-ref-requires-3 c κs = search needs
+
+is-absent-requires-2 : tie.Need-is-absent-requires-2
+is-absent-requires-2 c κs = search needs
+
+either-requires-2 : tie.Need-either-requires-2
+either-requires-2 c κs = search needs
+
+enum-told-6 : tie.Need-enum-told-6
+enum-told-6 c = search needs
+
+is-ref-requires-4 : tie.Need-is-ref-requires-4
+is-ref-requires-4 c κs = search needs
+
+is-zero-requires : tie.Need-is-zero-requires
+is-zero-requires c κs = search needs
+
+either-requires-3 : tie.Need-either-requires-3
+either-requires-3 c κs = search needs
+
+enum-told-7 : tie.Need-enum-told-7
+enum-told-7 c = search needs
+
+is-literal-requires-3 : tie.Need-is-literal-requires-3
+is-literal-requires-3 c κs = search needs
+
+both-requires : tie.Need-both-requires
+both-requires c κs = search needs
+
+both-requires-2 : tie.Need-both-requires-2
+both-requires-2 c κs = search needs
+
+returns : tie.Need-returns
+returns c = cc
+
+returns-2 : tie.Need-returns-2
+returns-2 c = cc
+
+returns-3 : tie.Need-returns-3
+returns-3 c = cc
+
+returns-4 : tie.Need-returns-4
+returns-4 c = cc
+
+returns-5 : tie.Need-returns-5
+returns-5 c = cc
+
+returns-6 : tie.Need-returns-6
+returns-6 c = cc
+
+returns-7 : tie.Need-returns-7
+returns-7 c = cc
+
+pub is-operand-spec : {M : Type 1} → statement M
+is-operand-spec =
+    tie.close
+    (tie.spec
+    enum-told
+    is-absent-requires
+    enum-told-2
+    is-literal-requires
+    enum-told-3
+    is-ref-requires
+    enum-told-4
+    is-literal-requires-2
+    is-ref-requires-2
+    either-requires
+    enum-told-5
+    is-ref-requires-3
+    is-absent-requires-2
+    either-requires-2
+    enum-told-6
+    is-ref-requires-4
+    is-zero-requires
+    either-requires-3
+    enum-told-7
+    is-literal-requires-3
+    both-requires
+    both-requires-2
+    returns
+    returns-2
+    returns-3
+    returns-4
+    returns-5
+    returns-6
+    returns-7)

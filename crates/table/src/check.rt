@@ -1,0 +1,300 @@
+// Well-formed rows, and the check of a whole table.
+ghost use mathlib.Core.Path.{_≡_};
+ghost use Prim.Native.Nat.{_-_, _<_, _≤_};
+ghost use Rattle.table.specs.Operands.{shape, namedShape};
+ghost use Rattle.table.specs.Table.{shapeOf, rowOrNone, namesRows, hasMode, hasTests};
+ghost use Rattle.table.specs.Table.{goesOn, restUnused, complete, isLine, isTest, isOperation};
+ghost use Rattle.table.specs.Table.{chained, shaped, wellFormedAs, wellFormed};
+ghost use Rattle.table.specs.Table.{usable, lowestFrom, checked};
+ghost use Rattle.table.specs.Row.{lengthFits, rows};
+use crate::Operand;
+use crate::Row;
+use crate::Shape;
+use crate::TableCheck;
+use crate::operands;
+use crate::rows;
+use crate::tests;
+
+// The shape of an operation, or of a test, that has no name.
+fn unnamed(x: Operand, y: Operand, z: Operand) -> Shape
+    ensures { λ r. ⌜ r ≡ shape x y z ⌝ }
+{
+    Shape {
+        named: false,
+        first: x,
+        second: y,
+        third: z,
+    }
+}
+
+// Operands (a, cd), and operands (a, c).
+fn a_and_cd() -> Shape
+    ensures { λ r. ⌜ r ≡ shape Operand.Reference Operand.Either Operand.Absent ⌝ }
+{
+    unnamed(Operand::Reference, Operand::Either, Operand::Absent)
+}
+
+fn a_and_c() -> Shape
+    ensures { λ r. ⌜ r ≡ shape Operand.Reference Operand.Reference Operand.Absent ⌝ }
+{
+    unnamed(Operand::Reference, Operand::Reference, Operand::Absent)
+}
+
+// A name, and three operands of one form.
+fn name_and(x: Operand) -> Shape
+    ensures { λ r. ⌜ r ≡ namedShape x x x ⌝ }
+{
+    Shape {
+        named: true,
+        first: x,
+        second: x,
+        third: x,
+    }
+}
+
+// The operands of an operation from 8 on.
+fn later_shape(code: u64) -> Shape
+    requires { ⌜ (8 ≤ code) × (code ≤ 36) ⌝ }
+    ensures { λ r. ⌜ r ≡ shapeOf code ⌝ }
+{
+    if code <= 15 {
+        return a_and_cd();
+    }
+    if code <= 21 {
+        return a_and_c();
+    }
+    if code <= 24 {
+        return a_and_cd();
+    }
+    if code <= 25 {
+        return unnamed(Operand::Either, Operand::Either, Operand::Absent);
+    }
+    if code <= 31 {
+        return a_and_c();
+    }
+    if code <= 33 {
+        return unnamed(Operand::Reference, Operand::Absent, Operand::Absent);
+    }
+    if code <= 35 {
+        return name_and(Operand::Absent);
+    }
+    unnamed(Operand::Line, Operand::Absent, Operand::Absent)
+}
+
+// The operands of an operation.
+fn shape_of(code: u64) -> Shape
+    requires { ⌜ (1 ≤ code) × (code ≤ 36) ⌝ }
+    ensures { λ r. ⌜ r ≡ shapeOf code ⌝ }
+{
+    if code <= 1 {
+        return unnamed(Operand::Literal, Operand::Literal, Operand::Literal);
+    }
+    if code <= 2 {
+        return name_and(Operand::Either);
+    }
+    if code <= 3 {
+        return unnamed(
+            Operand::Reference,
+            Operand::Either,
+            Operand::ReferenceOrAbsent,
+        );
+    }
+    if code <= 4 {
+        return unnamed(
+            Operand::Reference,
+            Operand::ReferenceOrZero,
+            Operand::Absent,
+        );
+    }
+    if code <= 5 {
+        return a_and_c();
+    }
+    if code <= 6 {
+        return a_and_cd();
+    }
+    if code <= 7 {
+        return a_and_c();
+    }
+    later_shape(code)
+}
+
+// A row number of a line is zero or below the row count.
+fn row_or_none(rows: u64, r: u64) -> bool
+    ensures { λ x. ⌜ x ≡ rowOrNone rows r ⌝ }
+{
+    tests::either(r == 0, r < rows)
+}
+
+// A line's first test row, first operation row and go-to, which may be DONE.
+fn names_rows(rows: u64, row: Row) -> bool
+    ensures { λ x. ⌜ x ≡ namesRows rows row ⌝ }
+{
+    let test = row_or_none(rows, row.first.form);
+    let operation = row_or_none(rows, row.first.value);
+    let goes = tests::either(row_or_none(rows, row.second.form), row.second.form == 65535);
+    tests::both(test, tests::both(operation, goes))
+}
+
+// One of the five modes, and no name.
+fn has_mode(row: Row) -> bool
+    ensures { λ x. ⌜ x ≡ hasMode row ⌝ }
+{
+    tests::both(row.code <= 4, row.name == 0)
+}
+
+// THEN has no test, the others have one or more.
+fn has_tests(row: Row) -> bool
+    ensures { λ x. ⌜ x ≡ hasTests row ⌝ }
+{
+    let none = row.first.form == 0;
+    tests::same(row.code == 0, none)
+}
+
+// Without operations a go-to is needed.
+fn goes_on(row: Row) -> bool
+    ensures { λ x. ⌜ x ≡ goesOn row ⌝ }
+{
+    !tests::both(row.first.value == 0, row.second.form == 0)
+}
+
+// Unused numbers are zero.
+fn rest_unused(row: Row) -> bool
+    ensures { λ x. ⌜ x ≡ restUnused row ⌝ }
+{
+    tests::both(row.second.value == 0, operands::is_absent(row.third))
+}
+
+// A line's numbers but the rows that it names.
+fn is_complete(row: Row) -> bool
+    ensures { λ x. ⌜ x ≡ complete row ⌝ }
+{
+    let rest = tests::both(goes_on(row), rest_unused(row));
+    tests::both(has_mode(row), tests::both(has_tests(row), rest))
+}
+
+// Kind 1, a line.
+fn is_line(rows: u64, row: Row) -> bool
+    ensures { λ x. ⌜ x ≡ isLine rows row ⌝ }
+{
+    tests::both(names_rows(rows, row), is_complete(row))
+}
+
+// Kind 2, a test: codes 1 to 7.
+fn is_test(b: u64, rows: u64, row: Row) -> bool
+    requires { ⌜ b < 64 ⌝ }
+    ensures { λ x. ⌜ x ≡ isTest b rows row ⌝ }
+{
+    let shaped = operands::has_shape(b, rows, a_and_cd(), row);
+    tests::both(1 <= row.code, tests::both(row.code <= 7, shaped))
+}
+
+// Kind 3, an operation: codes 1 to 36.
+fn is_operation(b: u64, rows: u64, row: Row) -> bool
+    requires { ⌜ b < 64 ⌝ }
+    ensures { λ x. ⌜ x ≡ isOperation b rows row ⌝ }
+{
+    if row.code < 1 {
+        return false;
+    }
+    if 36 < row.code {
+        return false;
+    }
+    operands::has_shape(b, rows, shape_of(row.code), row)
+}
+
+// Row r is a well-formed row of this kind.
+fn well_formed_as(kind: u64, b: u64, rows: u64, r: u64, row: Row) -> bool
+    requires { ⌜ b < 64 ⌝ }
+    ensures { λ x. ⌜ x ≡ wellFormedAs kind b rows r row ⌝ }
+{
+    if row.kind != kind {
+        return false;
+    }
+    if !is_chained(rows, r, row.next) {
+        return false;
+    }
+    has_kind(kind, b, rows, row)
+}
+
+// The row's own numbers are those of its kind.
+fn has_kind(kind: u64, b: u64, rows: u64, row: Row) -> bool
+    requires { ⌜ b < 64 ⌝ }
+    ensures { λ x. ⌜ x ≡ shaped kind b rows row ⌝ }
+{
+    if kind == 1 {
+        return is_line(rows, row);
+    }
+    if kind == 2 {
+        return is_test(b, rows, row);
+    }
+    is_operation(b, rows, row)
+}
+
+// Next is zero, or exceeds its own row and is below the row count.
+fn is_chained(rows: u64, r: u64, next: u64) -> bool
+    ensures { λ x. ⌜ x ≡ chained rows r next ⌝ }
+{
+    tests::either(next == 0, tests::both(r < next, next < rows))
+}
+
+// Row r is well-formed.
+fn well_formed(b: u64, rows: u64, r: u64, row: Row) -> bool
+    requires { ⌜ b < 64 ⌝ }
+    ensures { λ x. ⌜ x ≡ wellFormed b rows r row ⌝ }
+{
+    let line = well_formed_as(1, b, rows, r, row);
+    let test = well_formed_as(2, b, rows, r, row);
+    let operation = well_formed_as(3, b, rows, r, row);
+    tests::either(tests::either(line, test), operation)
+}
+
+// The table's length is 20 to 8,000 and a multiple of ten.
+pub fn has_length(table: &[u64]) -> bool
+    ensures { λ x. ⌜ x ≡ lengthFits (now (table .entry)) ⌝ }
+{
+    let n = table.len();
+    tests::both(tests::both(20 <= n, n <= 8000), n % 10 == 0)
+}
+
+// Row r can be used as this kind: it is there, well-formed and of this kind.
+pub fn is_usable(kind: u64, b: u64, table: &[u64], r: usize) -> bool
+    requires { ⌜ b < 64 ⌝ }
+    ensures { λ x. ⌜ x ≡ usable kind b (now (table .entry)) r ⌝ }
+{
+    let rows = table.len() / 10;
+    if r < 1 {
+        return false;
+    }
+    if rows <= r {
+        return false;
+    }
+    well_formed_as(kind, b, rows as u64, r as u64, rows::row_at(table, r))
+}
+
+// The lowest ill-formed row, 0 if none.
+fn lowest_ill_formed(b: u64, table: &[u64]) -> u64
+    requires { ⌜ b < 64 ⌝ }
+    ensures { λ x. ⌜ x ≡ lowestFrom b (now (table .entry)) 1 (rows (now (table .entry)) - 1) ⌝ }
+{
+    let rows = table.len() / 10;
+    let mut r = 1;
+    while r < rows {
+        if !well_formed(b, rows as u64, r as u64, rows::row_at(table, r)) {
+            return r as u64;
+        }
+        r += 1;
+    }
+    0
+}
+
+// The table check: the lowest ill-formed row, 0 if none; it refuses only by 1.
+pub fn check(b: u64, table: &[u64]) -> TableCheck
+    requires { ⌜ b < 64 ⌝ }
+    ensures { λ x. ⌜ x ≡ checked b (now (table .entry)) ⌝ }
+{
+    if has_length(table) {
+        TableCheck::Lowest(lowest_ill_formed(b, table))
+    } else {
+        TableCheck::BadLength
+    }
+}
