@@ -1,25 +1,23 @@
 -- The bits of the book and of the storage stay the same through stores, deliveries and copies.
 -- Assumes nothing.
-use Prim.Native.Nat.{ℕ, zero, suc, _+_, _-_, _/_, _%_, _^_, _≤_, _<_}
+use Prim.Native.Nat.{ℕ, suc, _+_, _-_, _/_, _%_, _^_, _≤_, _<_}
 use native.Mathlib.Nat.{zero-div, zero-mod}
 use native.Mathlib.Omega.{arith}
-use mathlib.Core.Bool.{Bool, true, false, _&&_, cond}
-use mathlib.Core.List.{List, [], _∷_, map}
-use mathlib.Core.Logic.{_⊎_, inl, inr, ⊎-elim}
-use mathlib.Core.Path.{_≡_, refl, ap, sym, subst, _∙_}
-use borrow.Author.Tests.{eq-eqb, ne-eqb, le-leb, lt-leb, eqb-true, eqb-false, leb-true, leb-false}
-use lib.Dec.{eqb, leb}
+use mathlib.Core.Bool.{_&&_, cond}
+use mathlib.Core.List.{List}
+use mathlib.Core.Logic.{_⊎_, inl, inr}
+use mathlib.Core.Path.{_≡_, refl, ap, sym, _∙_}
+use lib.Dec.{leb}
 use lib.ListN.{length, getD, set, take, drop, replicate, length-replicate, length-take, length-drop, getD-replicate}
 use lib.Seq.{getD-set-same, getD-set-other, getD-take, getD-drop}
 use Rattle.word.specs.Word.{bit}
 use Rattle.word.specs.Field.{kept, stored}
-use Rattle.word.proofs.Field.{bit-stored-inside, bit-stored-left, bit-stored-right, stored-null}
-use Rattle.buddy.specs.Blocks.{Block, sizeAt}
+use Rattle.word.proofs.Field.{bit-stored-inside, bit-stored-left, bit-stored-right}
+use Rattle.buddy.specs.Blocks.{sizeAt}
 use Rattle.buddy.proofs.Tests.{by-leb, by-eqb}
 use Rattle.buddy.proofs.Each.{Each, each-nil, each-cons}
 use Rattle.engine.specs.declared.Store.{Store}
-use Rattle.engine.specs.declared.Report.{Report}
-use Rattle.engine.specs.Storage.{wordAt, placed, withStore, withDelivery, withCopy}
+use Rattle.engine.specs.Storage.{wordAt, placed}
 use Rattle.engine.proofs.Placed.{placed-inside, placed-outside}
 use Rattle.book.specs.Book.{LiveBlock, storedBits, noBits, bitsAt, blocks}
 

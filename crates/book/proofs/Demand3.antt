@@ -1,23 +1,22 @@
 -- Demand 3: the claim holds for every list of events. What holds after each event is kept by the next, whatever it is.
 -- Assumes nothing.
-use Prim.Native.Nat.{ℕ, zero, suc, _+_, _-_, _^_, _≤_, _<_}
+use Prim.Native.Nat.{ℕ, _^_, _<_}
 use native.Mathlib.Omega.{arith}
-use mathlib.Core.Bool.{Bool, true, false, not, _||_, cond, or-true}
+use mathlib.Core.Bool.{true, false, cond, or-true}
 use mathlib.Core.List.{List, [], _∷_, List·Memᴰ, List·Memᴰ·not-nil}
-use mathlib.Core.Logic.{_⊎_, inl, inr, _↔_, ⊎-elim}
+use mathlib.Core.Logic.{_⊎_, inl, inr, _↔_}
 use mathlib.Core.Path.{_≡_, refl, ap, sym, subst, _∙_}
 use borrow.Author.Tests.{eqb-true, ne-eqb, lt-ltb, not-false}
-use lib.Dec.{eqb}
-use lib.ListN.{length, take, replicate}
+use lib.ListN.{length, take}
 use lib.Pow.{pow-pos}
 use Rattle.buddy.specs.declared.SetUp.{SetUp}
-use Rattle.buddy.specs.Blocks.{Block, size, level, sizeAt}
-use Rattle.buddy.specs.SetUp.{top, words, fitting, absent, runs}
-use Rattle.buddy.specs.Map.{live, free, keeps, freedMap, deliveredMap, freshMap}
+use Rattle.buddy.specs.Blocks.{Block, size, level}
+use Rattle.buddy.specs.SetUp.{words, fitting, absent}
+use Rattle.buddy.specs.Map.{live, free, freshMap}
 use Rattle.buddy.proofs.Size.{size-pos, fitting-facts, absent-facts, words-none}
 use Rattle.buddy.proofs.Map.{live-none, free-none, keeps-absent}
 use Rattle.buddy.proofs.Each.{each-nil, each-mem}
-use Rattle.buddy.proofs.Tiling.{map-order, order-each, order-sizeAt, sizeAt-mem}
+use Rattle.buddy.proofs.Tiling.{map-order}
 use Rattle.engine.specs.declared.Answer.{Answer}
 use Rattle.engine.specs.declared.Answer.the-variants.{Running, Finished, Refused}
 use Rattle.engine.specs.declared.Refusal.{Refusal}
@@ -25,7 +24,7 @@ use Rattle.engine.specs.declared.Refusal.the-variants.{NoRun}
 use Rattle.engine.specs.declared.State.{State}
 use Rattle.engine.specs.declared.Report.{Report}
 use Rattle.engine.specs.State.{fresh, noSetUp, undefined, testsOf, isSetUp, isFinished}
-use Rattle.engine.specs.Storage.{noStore, noReport, withStore}
+use Rattle.engine.specs.Storage.{noStore, noReport}
 use Rattle.engine.specs.Sound.{Lent, Engine, isDefinition, soundPlace, isPlace, isRow}
 use Rattle.engine.specs.Locate.{liveBlocks}
 use Rattle.engine.specs.Effects.{Effects, storageAfter, engineAfter}

@@ -1,9 +1,9 @@
 -- The book goes with the effects of a step: after them and their entry it matches the engine again.
 -- Assumes nothing.
-use Prim.Native.Nat.{ℕ, zero, suc, _+_, _-_, _≤_, _<_}
+use Prim.Native.Nat.{ℕ, _+_, _≤_, _<_}
 use native.Mathlib.Omega.{arith}
-use mathlib.Core.Bool.{Bool, true, false, not, _||_, cond}
-use mathlib.Core.List.{List, [], _∷_, List·Memᴰ}
+use mathlib.Core.Bool.{true, not}
+use mathlib.Core.List.{List, List·Memᴰ}
 use mathlib.Core.Logic.{_⊎_, inl, inr, ⊎-elim}
 use mathlib.Core.Path.{_≡_, refl, ap, sym, subst, _∙_}
 use borrow.Author.Tests.{eq-eqb}
@@ -11,27 +11,25 @@ use lib.Dec.{eqb}
 use lib.ListN.{length}
 use Rattle.buddy.specs.declared.SetUp.{SetUp}
 use Rattle.buddy.specs.Blocks.{Block, size, sizeAt}
-use Rattle.buddy.specs.SetUp.{top, words, fitting, absent, runs}
-use Rattle.buddy.specs.Map.{live, free, keeps, freedMap, deliveredMap}
+use Rattle.buddy.specs.SetUp.{fitting}
+use Rattle.buddy.specs.Map.{live, freedMap, deliveredMap}
 use Rattle.buddy.proofs.Size.{size-pos, fitting-facts}
-use Rattle.buddy.proofs.Each.{each-mem}
-use Rattle.buddy.proofs.Tiling.{map-order, order-each, order-sizeAt, sizeAt-mem}
+use Rattle.buddy.proofs.Tiling.{map-order, order-sizeAt, sizeAt-mem}
 use Rattle.buddy.proofs.Runs.{runs-sound, outside-mem}
 use Rattle.engine.specs.declared.Report.{Report}
 use Rattle.engine.specs.declared.Store.{Store}
 use Rattle.engine.specs.State.{noSetUp}
 use Rattle.engine.specs.Storage.{noStore, noReport, withStore, withDelivery, withCopy}
 use Rattle.engine.specs.Sound.{Engine}
-use Rattle.engine.specs.Locate.{liveBlocks}
 use Rattle.engine.specs.Effects.{Effects, storageAfter}
 use Rattle.engine.proofs.Checks.{nonzero}
-use Rattle.engine.proofs.Facts.{StorageFacts, Facts}
+use Rattle.engine.proofs.Facts.{Facts}
 use Rattle.engine.proofs.Located.{InBlocks, StoreFacts, nowhere, inBlock}
 use Rattle.engine.proofs.Live.{live-fits, live-lies}
 use Rattle.engine.proofs.Placed.{length-store}
-use Rattle.engine.proofs.Moves.{Still, Frees, Delivers, Moves, still, frees, delivers, SetsUp}
+use Rattle.engine.proofs.Moves.{Still, Frees, Delivers, Moves, still, frees, delivers}
 use Rattle.engine.proofs.Keeps.{stores-only, not-zeroed, delivery-fits, delivered-long, copied-long, delivery-storage}
-use Rattle.book.specs.Book.{Book, Entry, start, inserted, without, enterSetUp, enterFreed, enterDelivered, enterCopied, enterStore, enter}
+use Rattle.book.specs.Book.{Book, start, inserted, enterSetUp, enterFreed, enterDelivered, enterCopied, enterStore, enter}
 use Rattle.book.proofs.Lists.{inserted-new, inserted-old, inserted-cases, without-other}
 use Rattle.book.proofs.Maps.{freed-live-map, delivered-live-map}
 use Rattle.book.proofs.Matches.{Matches, matches-store, matches-freed, matches-delivered, matches-copied}

@@ -1,16 +1,16 @@
 -- The book's lists after one more or one less: their members, a fact of each, and the same of the blocks without their bits.
 -- Assumes nothing.
-use Prim.Native.Nat.{ℕ, zero, suc, _+_, _≤_, _<_}
+use Prim.Native.Nat.{ℕ}
 use native.Mathlib.Omega.{arith}
-use mathlib.Core.Bool.{Bool, true, false, cond}
+use mathlib.Core.Bool.{true, false, cond}
 use mathlib.Core.List.{List, [], _∷_, map, List·Memᴰ, List·Memᴰ·head, List·Memᴰ·tail, List·Memᴰ·cases-cons, List·Memᴰ·not-nil}
 use mathlib.Core.Logic.{_⊎_, inl, inr, ⊎-elim}
-use mathlib.Core.Path.{_≡_, refl, ap, sym, subst, _∙_}
+use mathlib.Core.Path.{_≡_, refl, ap, sym, _∙_}
 use lib.Dec.{eqb, leb}
-use Rattle.buddy.specs.Blocks.{Block, sizeAt}
-use Rattle.buddy.proofs.Tests.{by-leb, by-eqb}
+use Rattle.buddy.specs.Blocks.{Block}
+use Rattle.buddy.proofs.Tests.{by-eqb}
 use Rattle.buddy.proofs.Each.{Each, each-nil, each-cons, each-mem, mem-each}
-use Rattle.buddy.proofs.Tiling.{Lies, InOrder, order-nil, order-cons, order-each, lies-pos}
+use Rattle.buddy.proofs.Tiling.{InOrder, order-nil, order-cons, order-each, lies-pos}
 use Rattle.book.specs.Book.{LiveBlock, start, liveStart, inserted, without, blocks}
 
 module _ {A : Type 0} (key : A → ℕ) where

@@ -1,14 +1,12 @@
 -- The blocks that a map tells, before and after a set-up, a free and a delivery, are as the book enters them.
 -- Assumes nothing.
-use Prim.Native.Nat.{ℕ, _+_, _*_, _/_, _%_, _≤_, _<_}
-use native.Mathlib.Omega.{arith}
+use Prim.Native.Nat.{ℕ, _+_, _*_, _/_, _%_, _≤_}
 use mathlib.Core.Bool.{true, false}
-use mathlib.Core.List.{List, [], _∷_, _++_, List·Memᴰ, List·Memᴰ·append-cases}
-use mathlib.Core.Logic.{_⊎_, inl, inr}
-use mathlib.Core.Path.{_≡_, refl, ap, sym, subst, _∙_}
-use lib.ListN.{length, replicate}
+use mathlib.Core.List.{List, [], List·Memᴰ}
+use mathlib.Core.Path.{_≡_, ap, subst, _∙_}
+use lib.ListN.{length}
 use Rattle.buddy.specs.declared.SetUp.{SetUp}
-use Rattle.buddy.specs.Blocks.{Block, Tree, Free, size, liveIn, freeIn, freed, delivered, gathered, changed, sizeAt, outside}
+use Rattle.buddy.specs.Blocks.{Block, size, freeIn, gathered, sizeAt, outside}
 use Rattle.buddy.specs.SetUp.{top, words, fitting, runs}
 use Rattle.buddy.specs.Map.{allCanonical, trees, keeps, live, free, freshMap, freedMap, deliveredMap}
 use Rattle.buddy.proofs.Size.{size-pos, size-mono, fitting-facts, aligned-smaller}

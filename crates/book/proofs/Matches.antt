@@ -1,10 +1,10 @@
 -- The book matches set-up numbers, map and storage, and each entry keeps it so: set-up, freed, delivered, copied, stored.
 -- Assumes nothing.
-use Prim.Native.Nat.{ℕ, zero, suc, _+_, _-_, _/_, _%_, _≤_, _<_}
+use Prim.Native.Nat.{ℕ, _+_, _-_, _≤_}
 use native.Mathlib.Omega.{arith}
-use mathlib.Core.Bool.{Bool, true, false, not, cond}
+use mathlib.Core.Bool.{true, cond}
 use mathlib.Core.List.{List, [], _∷_, map, List·Memᴰ, List·Memᴰ·head, List·Memᴰ·not-nil}
-use mathlib.Core.Logic.{_⊎_, inl, inr, ⊎-elim}
+use mathlib.Core.Logic.{_⊎_, inl, inr}
 use mathlib.Core.Path.{_≡_, refl, ap, ap₂, sym, subst, _∙_}
 use borrow.Author.Tests.{eq-eqb, ne-eqb}
 use lib.Dec.{eqb}
@@ -16,16 +16,16 @@ use Rattle.buddy.specs.SetUp.{top, words, fitting, runs}
 use Rattle.buddy.specs.Map.{live, free, keeps, freshMap, freedMap, deliveredMap}
 use Rattle.buddy.proofs.Tests.{by-eqb, either-way}
 use Rattle.buddy.proofs.Size.{size-pos, fitting-facts}
-use Rattle.buddy.proofs.Each.{Each, each-nil, each-cons, each-map, each-mem, mem-each}
-use Rattle.buddy.proofs.Tiling.{Lies, map-order, order-each, order-sizeAt, lies-pos}
+use Rattle.buddy.proofs.Each.{Each, each-nil, each-map, each-mem, mem-each}
+use Rattle.buddy.proofs.Tiling.{Lies, map-order, order-each, order-sizeAt}
 use Rattle.buddy.proofs.Runs.{runs-sound, outside-each}
 use Rattle.engine.specs.declared.Store.{Store}
 use Rattle.engine.specs.declared.Report.{Report}
 use Rattle.engine.specs.Storage.{wordAt, placed, withStore, withDelivery, withCopy}
-use Rattle.engine.proofs.Located.{InBlocks, StoreFacts, nowhere, inBlock}
+use Rattle.engine.proofs.Located.{StoreFacts, nowhere, inBlock}
 use Rattle.book.specs.Book.{Book, LiveBlock, start, liveStart, inserted, without, times, joinedOnce, halvedOnce, blocks, noBits, bitsAt, storedBits, enterSetUp, enterFreed, enterDelivered, enterCopied, enterStore}
 use Rattle.book.proofs.Maps.{fresh-live, fresh-free, freed-live-map, freed-free-map, delivered-live-map, delivered-free-map}
-use Rattle.book.proofs.Lists.{each-inserted, each-without, each-blocks, each-both, each-changed, inserted-old, without-other, blocks-inserted, blocks-without}
+use Rattle.book.proofs.Lists.{each-inserted, each-without, each-blocks, each-both, each-changed, blocks-inserted, blocks-without}
 use Rattle.book.proofs.Bits.{BlockBits, store-bits, placed-other, zero-bits, copy-bits}
 
 -- the book's blocks are those of the map, and its bits those of the storage

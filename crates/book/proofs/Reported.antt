@@ -1,10 +1,10 @@
 -- The blocks live by the reports, after an event that changes none, frees one or delivers one.
 -- Assumes nothing.
-use Prim.Native.Nat.{ℕ, _+_, _≤_, _<_}
+use Prim.Native.Nat.{ℕ, _<_}
 use native.Mathlib.Omega.{arith}
 use mathlib.Core.List.{List, [], _∷_, List·Memᴰ, Memᴰ·cast}
 use mathlib.Core.Logic.{_⊎_, inl, inr, _↔_, ⊎-elim}
-use mathlib.Core.Path.{_≡_, refl, ap, sym, subst, _∙_}
+use mathlib.Core.Path.{_≡_, ap, sym, _∙_}
 use Rattle.buddy.specs.Blocks.{Block}
 use Rattle.buddy.proofs.Tiling.{InOrder}
 use Rattle.book.specs.Book.{start, inserted, without}

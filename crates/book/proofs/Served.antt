@@ -1,34 +1,32 @@
 -- A get or duplicate that clears its earlier checks is refused by 17 exactly when there is no aligned run of its size.
 -- Assumes nothing.
-use Prim.Native.Nat.{ℕ, zero, suc, _+_, _-_, _%_, _≤_, _<_}
+use Prim.Native.Nat.{ℕ, _%_, _≤_, _<_}
 use native.Mathlib.Omega.{arith}
-use mathlib.Core.Bool.{Bool, true, false, not, _&&_, cond}
+use mathlib.Core.Bool.{Bool, true, false, cond}
 use mathlib.Core.List.{List, [], _∷_, List·Memᴰ, List·Memᴰ·head, List·Memᴰ·not-nil}
 use mathlib.Core.Logic.{_⊎_, inl, inr, _↔_}
 use mathlib.Core.Path.{_≡_, refl, ap, sym, subst, _∙_}
 use borrow.Author.Tests.{eq-eqb, ne-eqb}
-use lib.Dec.{eqb, leb}
+use lib.Dec.{eqb}
 use lib.ListN.{length}
-use Rattle.buddy.specs.Blocks.{Block, size, level, sizeAt}
+use Rattle.buddy.specs.Blocks.{Block, size, level}
 use Rattle.buddy.specs.SetUp.{top, words, fitting, absent, runs}
-use Rattle.buddy.specs.Map.{live}
 use Rattle.buddy.proofs.Size.{size-pos, level-le, aligned-smaller, fitting-facts, absent-facts}
 use Rattle.buddy.proofs.Runs.{runs-sound, runs-aligned, runs-complete, outside-mem, mem-outside}
 use Rattle.table.specs.declared.FieldName.{FieldName}
 use Rattle.table.specs.declared.Pair.{Pair}
-use Rattle.table.specs.Row.{lengthFits, rowAt}
-use Rattle.table.specs.Table.{usable}
+use Rattle.table.specs.Row.{rowAt}
 use Rattle.engine.specs.declared.Refusal.{Refusal}
-use Rattle.engine.specs.declared.Refusal.the-variants.{UndefinedField, NotABlock, OutsideBlock, NoRun}
+use Rattle.engine.specs.declared.Refusal.the-variants.{NoRun}
 use Rattle.engine.specs.declared.Location.{Location}
 use Rattle.engine.specs.declared.Answer.the-variants.{Running, Finished, Refused}
 use Rattle.engine.specs.Answer.{Checked, refused, passed, _>>=_, _>>_, need}
 use Rattle.engine.specs.State.{isSetUp, isFinished, onCore, movedTo}
-use Rattle.engine.specs.Sound.{Lent, Engine, sound}
-use Rattle.engine.specs.Locate.{liveBlocks, link, follow, locate, operand, definitionOf, contents}
+use Rattle.engine.specs.Sound.{Lent, Engine}
+use Rattle.engine.specs.Locate.{liveBlocks, linkBy, link, follow, locate, contents}
 use Rattle.engine.specs.Effects.{Effects, engineAfter}
 use Rattle.engine.specs.Operations.{Given, Wanted, getWants, duplicateWants, delivering, andStoring, get, duplicate, oneOf, chosen, meaning, meanings}
-use Rattle.engine.specs.Step.{Choice, Outcome, given, inTurn, operationStep, plan, outcome, unchanged, carriedOut, step, testsStep, exitStep}
+use Rattle.engine.specs.Step.{given, inTurn, operationStep, plan, outcome, unchanged, carriedOut, step}
 use Rattle.engine.proofs.Checks.{or-parts, nonzero, need-passed, bind-passed, passed-same}
 use Rattle.engine.proofs.Facts.{Facts}
 use Rattle.engine.proofs.Live.{live-size}
@@ -59,7 +57,7 @@ never-passed x e = let never : _≡_ {A = ℕ} 0 1 = cc in omega arith
 
 -- locating a reference never refuses for want of storage
 never-link : (e : Engine) (pointer : ℕ) (f : FieldName) → Never (link e pointer f)
-unfolding link
+unfolding link linkBy
 never-link e pointer f =
     never-need _ _ _ (λ q. let never : _≡_ {A = ℕ} 0 1 = cc in omega arith)
     (never-need _ _ _ (λ q. let never : _≡_ {A = ℕ} 0 1 = cc in omega arith)

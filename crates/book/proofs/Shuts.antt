@@ -4,16 +4,13 @@
 use Prim.Native.Nat.{ℕ, zero, suc, _+_, _*_, _/_, _%_, _≤_, _<_}
 use native.Mathlib.Nat.{div-add-mod'}
 use native.Mathlib.Omega.{arith}
-use mathlib.Core.Bool.{Bool, true, false, _&&_, cond, and-false}
-use mathlib.Core.List.{List, [], _∷_, List·Memᴰ, Memᴰ·append-right}
+use mathlib.Core.Bool.{and-false}
+use mathlib.Core.List.{List, _∷_, Memᴰ·append-right}
 use mathlib.Core.Logic.{_⊎_, inl, inr, ⊎-elim}
-use mathlib.Core.Path.{_≡_, refl, ap, sym, subst, _∙_}
+use mathlib.Core.Path.{_≡_, refl, sym, subst, _∙_}
 use borrow.Author.Tests.{ne-eqb, lt-leb}
-use lib.Dec.{eqb, leb}
-use lib.ListN.{length}
-use Rattle.buddy.specs.declared.SetUp.{SetUp}
 use Rattle.buddy.specs.Blocks.{Block, size}
-use Rattle.buddy.specs.SetUp.{words, fitting, top}
+use Rattle.buddy.specs.SetUp.{words}
 use Rattle.buddy.specs.Map.{free}
 use Rattle.buddy.proofs.Size.{size-mono, fitting-facts}
 use Rattle.engine.specs.declared.Answer.the-variants.{Refused}
@@ -22,7 +19,7 @@ use Rattle.engine.specs.declared.Store.{Store}
 use Rattle.engine.specs.Sound.{Lent, Engine}
 use Rattle.engine.specs.Locate.{liveBlocks}
 use Rattle.engine.specs.Operations.{Wanted}
-use Rattle.engine.specs.Step.{Outcome, Answers, step, engineOf}
+use Rattle.engine.specs.Step.{Outcome, Answers, engineOf}
 use Rattle.engine.proofs.Steps.{sound-engine}
 use Rattle.book.specs.Book.{LiveBlock, storedBits}
 use Rattle.book.specs.Steps.{Event, stepped, Leads, after, reportOf, LiveBy}

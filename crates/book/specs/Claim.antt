@@ -1,11 +1,10 @@
 -- The claim of demand 3 about a whole list of events, part by part.
 -- Document 01: demand 3, "Blocks" and "The book". Assumes nothing.
-use Prim.Native.Nat.{ℕ, zero, suc, _+_, _-_, _%_, _≤_, _<_}
-use mathlib.Core.Bool.{Bool, true, false, cond}
+use Prim.Native.Nat.{ℕ, suc, _+_, _%_, _≤_, _<_}
+use mathlib.Core.Bool.{true, false, cond}
 use mathlib.Core.List.{List, [], _∷_, _++_, List·Memᴰ}
 use mathlib.Core.Path.{_≡_}
 use mathlib.Core.Logic.{_↔_, _⊎_}
-use lib.Dec.{eqb}
 use Rattle.word.specs.Word.{bit}
 use Rattle.buddy.specs.declared.SetUp.{SetUp}
 use Rattle.buddy.specs.Blocks.{size, Block}
@@ -21,8 +20,8 @@ use Rattle.engine.specs.Storage.{wordAt}
 use Rattle.engine.specs.Sound.{Lent, Engine, sound}
 use Rattle.engine.specs.Locate.{liveBlocks}
 use Rattle.engine.specs.Operations.{Wanted, getWants, duplicateWants}
-use Rattle.engine.specs.Step.{Outcome, given}
-use Rattle.book.specs.Book.{Book, LiveBlock, blocks, halves, around}
+use Rattle.engine.specs.Step.{given}
+use Rattle.book.specs.Book.{LiveBlock, blocks, halves, around}
 use Rattle.book.specs.Steps.{Event, stepped, Leads, LiveBy, bookAfter}
 
 infix 30 _∈_

@@ -2,7 +2,7 @@
 -- The lists are of events, newest first; each event so far is a step. Document 01: demand 3 and "The book". Assumes nothing.
 use Prim.Native.Nat.{ℕ}
 use mathlib.Core.Bool.{Bool, true, false, cond}
-use mathlib.Core.List.{List, [], _∷_, map}
+use mathlib.Core.List.{List, [], _∷_}
 use mathlib.Core.Path.{_≡_}
 use Rattle.buddy.specs.Blocks.{Block}
 use Rattle.engine.specs.declared.Answer.{Answer}

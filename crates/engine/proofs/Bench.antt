@@ -1,8 +1,7 @@
 -- The ten starred bench cases, as one table under one theorem, and the worked example of tourrun. The checker computes each.
 -- Assumes nothing.
-use Prim.Native.Nat.{ℕ}
 use mathlib.Core.Bool.{true}
-use mathlib.Core.List.{List, [], _∷_}
+use mathlib.Core.List.{[], _∷_}
 use mathlib.Core.Path.{_≡_, refl}
 use lib.ListN.{take}
 use Rattle.engine.specs.declared.Answer.the-variants.{Finished}

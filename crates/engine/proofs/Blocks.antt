@@ -1,33 +1,33 @@
 -- Get, free and duplicate, where they are not refused: a run outside the live blocks is delivered, a live block is freed.
 -- Assumes nothing.
-use Prim.Native.Nat.{ℕ, zero, suc, _+_, _-_, _^_, _≤_, _<_}
+use Prim.Native.Nat.{ℕ, _+_, _≤_, _<_}
 use native.Mathlib.Omega.{arith}
-use mathlib.Core.Bool.{Bool, true, false, not, _&&_, _||_, cond}
+use mathlib.Core.Bool.{Bool, true, false, not, _&&_, cond}
 use mathlib.Core.List.{List, [], _∷_, List·Memᴰ}
 use mathlib.Core.Logic.{_⊎_, inl, inr}
 use mathlib.Core.Path.{_≡_, refl, subst, sym, ap, _∙_}
-use borrow.Author.Tests.{ltb-true, leb-true, leb-false, ltb-false, eqb-true, eqb-false, not-true}
+use borrow.Author.Tests.{leb-false, ltb-false}
 use lib.Dec.{eqb, leb, ltb}
 use Rattle.word.specs.Field.{width, kept}
-use Rattle.buddy.specs.declared.SetUp.{SetUp}
-use Rattle.buddy.specs.Blocks.{Block, size, level, sizeAt}
+use Rattle.buddy.specs.Blocks.{size, level, sizeAt}
 use Rattle.buddy.specs.SetUp.{top, runs}
-use Rattle.buddy.specs.Map.{live, deliveredMap}
+use Rattle.buddy.specs.Map.{deliveredMap}
 use Rattle.buddy.proofs.Size.{level-le, level-size}
+use Rattle.engine.specs.declared.Core.{Core}
 use Rattle.engine.specs.declared.Location.{Location}
 use Rattle.engine.specs.declared.Location.the-variants.{Bug, Field}
-use Rattle.engine.specs.Answer.{Checked, refused, passed, _>>=_, _>>_, need}
+use Rattle.engine.specs.declared.Store.{Store}
+use Rattle.engine.specs.Answer.{passed, _>>=_}
 use Rattle.engine.specs.State.{onCore, withMap}
 use Rattle.engine.specs.Storage.{noStore}
-use Rattle.engine.specs.Sound.{Engine}
-use Rattle.engine.specs.Locate.{liveBlocks, contents, locate, operand}
+use Rattle.engine.specs.Locate.{liveBlocks, contents, locate}
 use Rattle.engine.specs.Effects.{Effects, reporting, assigned, storeTo, engineAfter}
 use Rattle.engine.specs.Operations.{Given, Wanted, oneOf, chosen, delivering, andStoring, getWants, get, liesIn, free, duplicateWants, duplicate}
 use Rattle.engine.specs.Step.{Choice}
-use Rattle.engine.proofs.Checks.{and-parts, need-passed, bind-passed, passed-same, clash}
+use Rattle.engine.proofs.Checks.{need-passed, bind-passed, passed-same, clash}
 use Rattle.engine.proofs.Facts.{CoreFacts, Facts, assigned-facts}
 use Rattle.engine.proofs.Located.{Located, StoreFacts, nowhere, located, store-facts}
-use Rattle.engine.proofs.Moves.{Frees, Delivers, Moves, frees, delivers, Done, liveAfter}
+use Rattle.engine.proofs.Moves.{frees, delivers, Done, liveAfter}
 use Rattle.engine.proofs.Meanings.{assigned-setup}
 
 -- an admissible address is one of the runs
@@ -92,13 +92,34 @@ module _ (b : ℕ) (g : Given) (h : Facts b (g .engine)) where
         ≡ deliveredMap j address (g .engine .state .core .setup) (g .engine .state .map)
     same-map = rw (isSize, level-size (top (g .engine .state .core .setup .d)) fits)
 
-    delivering-done : Done b (g .engine) (delivering b w address (g .engine .state))
-    unfolding delivering reporting withMap onCore noStore
-    delivering-done =
+    -- the run is live, its address stored in a, and then there may be another store
+    effects : Core → Store → Effects
+    effects c second =
         record {
-          core = assigned-facts b (g .engine .state .core) (h .core) (w .a) address;
+          state = record {
+            core = c;
+            map = deliveredMap (level (top (g .engine .state .core .setup .d)) (w .words)) address (g .engine .state .core .setup) (g .engine .state .map);
+          };
+          report = record {
+            freed = 0;
+            delivered = address;
+            size = w .words;
+            copied = w .copied;
+            first = storeTo (w .a) address;
+            second = second;
+          };
+          zeroed = 0;
+          printed = [];
+        }
+
+    effects-done : (c : Core) (second : Store) → CoreFacts b c → c .setup ≡ g .engine .state .core .setup
+        → StoreFacts b (liveAfter (effects c second)) second → Done b (g .engine) (effects c second)
+    unfolding effects
+    effects-done c second core setup store =
+        record {
+          core = core;
           moves = delivers (record {
-            setup = assigned-setup b (w .a) address (g .engine .state .core);
+            setup = setup;
             freed = refl;
             level = j;
             levelFits = fits;
@@ -108,33 +129,25 @@ module _ (b : ℕ) (g : Given) (h : Facts b (g .engine)) where
             copied = isCopy;
             zeroed = refl;
             first = store-facts b (liveBlocks (g .engine)) (w .a) address l;
-            second = nowhere refl;
+            second = store;
           });
         }
+
+    delivering-done : Done b (g .engine) (delivering b w address (g .engine .state))
+    unfolding effects delivering reporting withMap onCore noStore
+    delivering-done =
+        effects-done _ noStore (assigned-facts b (g .engine .state .core) (h .core) (w .a) address)
+        (assigned-setup b (w .a) address (g .engine .state .core)) (nowhere refl)
 
     -- the same with a second store, to where a reference leads after the delivery
     storing-done : (a2 : Location) (v : ℕ) → locate b (engineAfter b (delivering b w address (g .engine .state)) (g .engine)) (g .row .third) ≡ passed a2
         → Done b (g .engine) (andStoring b a2 v (delivering b w address (g .engine .state)))
-    unfolding andStoring delivering reporting withMap onCore engineAfter
+    unfolding effects andStoring delivering reporting withMap onCore engineAfter
     storing-done a2 v k₂ =
         let core = assigned-facts b (g .engine .state .core) (h .core) (w .a) address in
         let l2 = located b _ core (g .row .third) a2 k₂ in
-        record {
-          core = assigned-facts b _ core a2 v;
-          moves = delivers (record {
-            setup = assigned-setup b a2 v _ ∙ assigned-setup b (w .a) address (g .engine .state .core);
-            freed = refl;
-            level = j;
-            levelFits = fits;
-            size = isSize;
-            isRun = run-chosen;
-            map = same-map;
-            copied = isCopy;
-            zeroed = refl;
-            first = store-facts b (liveBlocks (g .engine)) (w .a) address l;
-            second = store-facts b _ a2 v (rw (assigned-setup b a2 v (assigned b (w .a) address (g .engine .state .core))) l2);
-          });
-        }
+        effects-done _ _ (assigned-facts b _ core a2 v) (assigned-setup b a2 v _ ∙ assigned-setup b (w .a) address (g .engine .state .core))
+        (store-facts b _ a2 v (rw (assigned-setup b a2 v (assigned b (w .a) address (g .engine .state .core))) l2))
 
   -- 3 get
   pub get-done : Choice (g .choose) → (x : Effects) → get b g ≡ passed x → Done b (g .engine) x

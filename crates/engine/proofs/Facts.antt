@@ -1,19 +1,17 @@
 -- Soundness as facts, one for each clause of refusal 11, and the core's facts after each change of one part.
 -- Assumes nothing.
-use Prim.Native.Nat.{ℕ, zero, suc, _-_, _%_, _^_, _≤_, _<_}
+use Prim.Native.Nat.{ℕ, suc, _-_, _%_, _^_, _≤_, _<_}
 use native.Mathlib.Nat.{mod-lt}
 use native.Mathlib.Omega.{arith}
-use mathlib.Core.Bool.{Bool, true, false, _&&_, _||_, not, cond}
+use mathlib.Core.Bool.{Bool, true, _||_}
 use mathlib.Core.List.{List}
-use mathlib.Core.Path.{_≡_, refl, _∙_, sym}
-use borrow.Author.Tests.{lt-ltb, le-leb, leb-true, ltb-true}
-use lib.Dec.{leb, ltb}
+use mathlib.Core.Path.{_≡_}
+use borrow.Author.Tests.{lt-ltb, le-leb, leb-true}
 use lib.ListN.{length, getD, set, take}
 use lib.Pow.{pow-pos}
 use Rattle.buddy.specs.declared.SetUp.{SetUp}
 use Rattle.buddy.specs.SetUp.{words, fitting, absent}
 use Rattle.buddy.specs.Map.{keeps}
-use Rattle.table.specs.declared.BugLetter.{BugLetter}
 use Rattle.table.specs.declared.FieldName.{FieldName}
 use Rattle.engine.specs.declared.Place.{Place}
 use Rattle.engine.specs.declared.Definition.{Definition}
@@ -24,7 +22,7 @@ use Rattle.engine.specs.declared.Core.{Core}
 use Rattle.engine.specs.declared.State.{State}
 use Rattle.engine.specs.declared.Location.{Location}
 use Rattle.engine.specs.declared.Location.the-variants.{Bug, Field}
-use Rattle.engine.specs.State.{undefined, theEnd, movedTo, withBug, withDefinition, withContents, withSaved, withCalls, withSetUp, withTaken, withWritten}
+use Rattle.engine.specs.State.{movedTo, withBug, withDefinition, withContents, withSaved, withCalls, withSetUp, withTaken, withWritten}
 use Rattle.engine.specs.Sound.{Engine, every, isPlace, isDefinition, soundPlace, soundStack, soundStacks, soundCore, soundStorage, soundEngine}
 use Rattle.engine.specs.Effects.{assigned}
 use Rattle.engine.proofs.Checks.{and-parts, and-true}

@@ -1,39 +1,38 @@
--- A step keeps a sound engine sound.
+-- The effects of a step keep a sound engine sound.
 -- Assumes nothing.
-use Prim.Native.Nat.{ℕ, zero, suc, _+_, _-_, _*_, _/_, _%_, _^_, _≤_, _<_}
+use Prim.Native.Nat.{ℕ, _+_, _-_, _^_, _≤_, _<_}
 use native.Mathlib.Omega.{arith}
-use mathlib.Core.Bool.{Bool, true, false, not, _&&_, _||_, cond}
-use mathlib.Core.List.{List, [], _∷_, _++_, List·Memᴰ}
-use mathlib.Core.Logic.{_⊎_, inl, inr, ⊎-elim}
-use mathlib.Core.Path.{_≡_, refl, subst, sym, ap, _∙_}
+use mathlib.Core.Bool.{Bool, true, false, not, _||_, cond}
+use mathlib.Core.List.{List, [], _++_, List·Memᴰ}
+use mathlib.Core.Logic.{_⊎_, inl, inr}
+use mathlib.Core.Path.{_≡_, refl, subst, ap, _∙_}
 use borrow.Author.Tests.{lt-ltb, eq-eqb}
-use lib.Dec.{eqb, leb, ltb}
-use lib.ListN.{length, getD, set, take, drop, replicate, length-replicate, length-take, length-drop}
+use lib.Dec.{eqb}
+use lib.ListN.{length, take, drop, replicate, length-replicate, length-take}
 use lib.Seq.{take-append-seam}
 use lib.Pow.{pow-pos}
 use Rattle.buddy.specs.declared.SetUp.{SetUp}
 use Rattle.buddy.specs.Blocks.{Block, size, sizeAt}
-use Rattle.buddy.specs.SetUp.{top, words, fitting, absent, runs}
-use Rattle.buddy.specs.Map.{live, keeps, freshMap, freedMap, deliveredMap}
+use Rattle.buddy.specs.SetUp.{words, fitting, absent, runs}
+use Rattle.buddy.specs.Map.{live, keeps}
 use Rattle.buddy.proofs.Size.{size-pos, fitting-facts, absent-facts}
 use Rattle.buddy.proofs.Change.{fresh-section, keeps-freed, keeps-delivered}
-use Rattle.buddy.proofs.Tiling.{Lies, sizeAt-mem}
+use Rattle.buddy.proofs.Tiling.{sizeAt-mem}
 use Rattle.buddy.proofs.Runs.{runs-sound}
 use Rattle.engine.specs.declared.State.{State}
 use Rattle.engine.specs.declared.Report.{Report}
 use Rattle.engine.specs.Storage.{noStore, noReport, placed, withStore, withDelivery, withCopy, afterReport}
-use Rattle.engine.specs.Sound.{Lent, Engine, every, soundEngine}
+use Rattle.engine.specs.Sound.{Lent, Engine, every}
 use Rattle.engine.specs.Effects.{Effects, storageAfter, engineAfter}
-use Rattle.engine.specs.Step.{Choice, Outcome, unchanged, carriedOut, step, engineOf, setUpAt}
+use Rattle.engine.specs.Step.{setUpAt}
 use Rattle.engine.proofs.Checks.{or-parts, nonzero}
 use Rattle.engine.proofs.Every.{below, every-placed, every-part, every-replicate}
-use Rattle.engine.proofs.Facts.{StorageFacts, Facts, facts-sound}
+use Rattle.engine.proofs.Facts.{StorageFacts, Facts}
 use Rattle.engine.proofs.Located.{StoreFacts, nowhere}
 use Rattle.engine.proofs.Live.{live-fits, live-lies}
 use Rattle.engine.proofs.Placed.{placed-none, length-placed, length-store, store-values}
-use Rattle.engine.proofs.Moves.{Still, Frees, Delivers, Moves, still, frees, delivers, SetsUp, Did, Done}
-use Rattle.engine.proofs.Plan.{Planned, settingUp, moving, planned}
-use Rattle.engine.proofs.Steps.{Stepping, refusing, staying, forward, stepping}
+use Rattle.engine.proofs.Moves.{Still, Frees, Delivers, Moves, still, frees, delivers, SetsUp}
+use Rattle.engine.proofs.Plan.{Planned, settingUp, moving}
 
 -- a report with no delivery and no copy is its two stores
 pub stores-only : (b s1 : ℕ) (r : Report) (ws : List ℕ) → r .size ≡ 0 → r .copied ≡ 0
@@ -211,16 +210,3 @@ module _ (b : ℕ) (e : Engine) (h : Facts b e) (x : Effects) where
   unfolding engineAfter
   planned-facts l (settingUp _ core m) = record { core = core; storage = sets-up-storage (setUpAt l e) m }
   planned-facts l (moving _ m) = record { core = m .core; storage = moves-storage (m .moves) }
-
--- a step keeps a sound engine sound
-pub step-sound : (b : ℕ) (choose : List ℕ → ℕ) (l : Lent) (e : Engine) → Choice choose → soundEngine b e ≡ true
-    → soundEngine b (engineOf (step b choose l e)) ≡ true
-unfolding engineOf unchanged carriedOut engineAfter
-step-sound b choose l e choice s = go (stepping b choose l e)
-  where
-    go : Stepping b choose l e (step b choose l e) → soundEngine b (engineOf (step b choose l e)) ≡ true
-    go (refusing r o) = subst (λ (o : Outcome). soundEngine b (engineOf o) ≡ true) (sym o) s
-    go (staying f o) = subst (λ (o : Outcome). soundEngine b (engineOf o) ≡ true) (sym o) s
-    go (forward x h f p o) =
-        subst (λ (o : Outcome). soundEngine b (engineOf o) ≡ true) (sym o)
-        (facts-sound b (engineAfter b x e) (planned-facts b e h x l (planned b choose l e h choice f x p)))

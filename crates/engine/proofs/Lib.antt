@@ -5,12 +5,16 @@ pub mod Checks
 pub mod Every
 pub mod Facts
 pub mod Located
+pub mod Links
 pub mod Live
 pub mod Placed
 pub mod Moves
 pub mod Meanings
 pub mod Blocks
 pub mod Places
+pub mod Codes
 pub mod Plan
 pub mod Steps
 pub mod Keeps
+pub mod Counts
+pub mod Soundness

@@ -1,17 +1,17 @@
 -- The live blocks of a sound engine: in the set-up words, and of the sizes 1, 2, 4 .. d.
 -- Assumes nothing.
 use Prim.Native.Nat.{ℕ, _+_, _≤_}
-use mathlib.Core.Bool.{true, not, _||_}
-use mathlib.Core.List.{List, [], _++_, List·Memᴰ, List·Memᴰ·not-nil, Memᴰ·append-left}
+use mathlib.Core.Bool.{true, not}
+use mathlib.Core.List.{List, List·Memᴰ, List·Memᴰ·not-nil, Memᴰ·append-left}
 use mathlib.Core.Logic.{_⊎_, inl, inr}
-use mathlib.Core.Path.{_≡_, refl, subst, ap, _∙_}
+use mathlib.Core.Path.{_≡_, subst}
 use lib.Dec.{eqb}
 use lib.ListN.{length}
 use Rattle.buddy.specs.declared.SetUp.{SetUp}
 use Rattle.buddy.specs.Blocks.{Block, size, sizeAt}
 use Rattle.buddy.specs.SetUp.{top, words, fitting, absent}
-use Rattle.buddy.specs.Map.{live, free}
-use Rattle.buddy.proofs.Size.{fitting-facts, absent-facts}
+use Rattle.buddy.specs.Map.{live}
+use Rattle.buddy.proofs.Size.{absent-facts}
 use Rattle.buddy.proofs.Map.{live-none}
 use Rattle.buddy.proofs.Each.{each-mem}
 use Rattle.buddy.proofs.Tiling.{Lies, map-each, sizeAt-mem}

@@ -1,31 +1,28 @@
 -- Where references lead: a bug, or bits inside the word in a word inside a live block.
 -- Assumes nothing.
-use Prim.Native.Nat.{ℕ, zero, suc, _+_, _-_, _^_, _≤_, _<_}
+use Prim.Native.Nat.{ℕ, _+_, _^_, _≤_, _<_}
 use native.Mathlib.Omega.{arith}
-use mathlib.Core.Bool.{Bool, true, false, not, _&&_, _||_, cond}
-use mathlib.Core.List.{List, [], _∷_, List·Memᴰ, List·Memᴰ·head, List·Memᴰ·tail}
-use mathlib.Core.Logic.{_⊎_, inl, inr}
-use mathlib.Core.Path.{_≡_, refl, subst, sym, _∙_}
-use borrow.Author.Tests.{lt-ltb, ltb-true, leb-true, eqb-true, eqb-false, not-true}
+use mathlib.Core.Bool.{true, false, not, _&&_, _||_, cond}
+use mathlib.Core.List.{List, [], _∷_, List·Memᴰ}
+use mathlib.Core.Path.{_≡_, refl, subst, sym}
+use borrow.Author.Tests.{lt-ltb, ltb-true}
 use lib.Dec.{eqb, ltb, leb}
-use lib.ListN.{getD}
 use lib.Pow.{pow-pos}
-use Rattle.word.specs.Field.{kept, width, fieldOf}
+use Rattle.word.specs.Field.{kept, width}
 use Rattle.word.proofs.Field.{field-word, kept-kept}
 use Rattle.buddy.specs.Blocks.{Block, sizeAt}
 use Rattle.buddy.proofs.Tiling.{sizeAt-mem}
 use Rattle.table.specs.declared.FieldName.{FieldName}
 use Rattle.table.specs.declared.Pair.{Pair}
-use Rattle.table.specs.Reference.{referenceOf}
 use Rattle.engine.specs.declared.Definition.{Definition}
 use Rattle.engine.specs.declared.Location.{Location}
 use Rattle.engine.specs.declared.Location.the-variants.{Bug, Field}
 use Rattle.engine.specs.declared.Store.{Store}
-use Rattle.engine.specs.Answer.{Checked, passed, _>>=_}
+use Rattle.engine.specs.Answer.{passed}
 use Rattle.engine.specs.State.{undefined}
-use Rattle.engine.specs.Storage.{noStore, wordAt}
-use Rattle.engine.specs.Sound.{Engine, every, isDefinition, inRange}
-use Rattle.engine.specs.Locate.{liveBlocks, definitionOf, contents, link, follow, locate}
+use Rattle.engine.specs.Storage.{noStore}
+use Rattle.engine.specs.Sound.{Engine, isDefinition, inRange}
+use Rattle.engine.specs.Locate.{liveBlocks, definitionOf, contents, linkBy, link, follow, locate}
 use Rattle.engine.specs.Effects.{storeTo}
 use Rattle.engine.proofs.Checks.{and-parts, nonzero, need-passed, bind-passed, passed-same}
 use Rattle.engine.proofs.Every.{below, every-getD}
@@ -70,7 +67,7 @@ module _ (b : ℕ) (e : Engine) (h : CoreFacts b (e .state .core)) where
 
   -- a link leads into a live block
   link-located : (pointer : ℕ) (f : FieldName) (at : Location) → link e pointer f ≡ passed at → Located b (liveBlocks e) at
-  unfolding link Located
+  unfolding link linkBy Located
   link-located pointer f at k =
       let (isDefined, k₁) = need-passed _ _ _ k in
       let (isBlock, k₂) = need-passed _ _ _ k₁ in

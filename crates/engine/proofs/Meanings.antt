@@ -1,34 +1,27 @@
 -- Each operation that is not refused keeps the core sound, and moves blocks and stores as `Moves` says.
 -- Assumes nothing.
-use Prim.Native.Nat.{ℕ, zero, suc, _+_, _-_, _/_, _^_, _≤_, _<_}
-use native.Mathlib.Omega.{arith}
-use mathlib.Core.Bool.{Bool, true, false, not, _&&_, _||_, cond}
-use mathlib.Core.List.{List, [], _∷_, List·Memᴰ}
-use mathlib.Core.Logic.{_⊎_, inl, inr}
-use mathlib.Core.Path.{_≡_, refl, subst, sym, ap, _∙_}
-use borrow.Author.Tests.{ltb-true, leb-true, eqb-true, eqb-false}
-use lib.Dec.{eqb, leb, ltb}
-use lib.ListN.{length, getD, set, take, drop}
-use Rattle.buddy.specs.declared.SetUp.{SetUp}
-use Rattle.buddy.specs.Blocks.{Block, size, level, sizeAt}
-use Rattle.buddy.specs.SetUp.{top, runs}
+use Prim.Native.Nat.{ℕ, _^_}
+use mathlib.Core.Bool.{true}
+use mathlib.Core.Path.{_≡_, refl, subst, ap, _∙_}
+use borrow.Author.Tests.{ltb-true}
+use Rattle.buddy.specs.Blocks.{size}
 use Rattle.table.specs.declared.FieldName.{FieldName}
 use Rattle.engine.specs.declared.Core.{Core}
 use Rattle.engine.specs.declared.State.{State}
 use Rattle.engine.specs.declared.Location.{Location}
 use Rattle.engine.specs.declared.Location.the-variants.{Bug, Field}
-use Rattle.engine.specs.Answer.{Checked, refused, passed, _>>=_, _>>_, need}
-use Rattle.engine.specs.State.{testsOf, undefined, movedTo, withBug, onCore, withMap, withTaken, withWritten, withDefinition, withContents, withSaved, withCalls}
+use Rattle.engine.specs.Answer.{Checked, passed}
+use Rattle.engine.specs.State.{testsOf, undefined, movedTo, withBug, onCore, withTaken, withWritten, withDefinition, withContents, withSaved, withCalls}
 use Rattle.engine.specs.Storage.{noStore, noReport}
-use Rattle.engine.specs.Sound.{Engine, isDefinition, inRange, isPlace, soundPlace}
-use Rattle.engine.specs.Locate.{Value, liveBlocks, contents, locate, operand, read, definitionOf}
-use Rattle.engine.specs.Effects.{Effects, quietly, reporting, assigned, storeTo, storing, engineAfter}
-use Rattle.engine.specs.Operations.{Given, Meaning, computing, making, interchange, andStoring, input, print, define, theName, saveContents, restoreContents, saveDefinition, restoreDefinition, do-line}
-use Rattle.engine.proofs.Checks.{and-parts, and-true, need-passed, bind-passed, passed-same}
+use Rattle.engine.specs.Sound.{Engine, isDefinition, isPlace, soundPlace}
+use Rattle.engine.specs.Locate.{Value, liveBlocks, contents, definitionOf}
+use Rattle.engine.specs.Effects.{Effects, quietly, reporting, assigned, storing}
+use Rattle.engine.specs.Operations.{Given, computing, interchange, andStoring, input, print, define, theName, saveContents, restoreContents, saveDefinition, restoreDefinition, do-line}
+use Rattle.engine.proofs.Checks.{need-passed, bind-passed, passed-same}
 use Rattle.engine.proofs.Every.{below, every-getD}
-use Rattle.engine.proofs.Facts.{CoreFacts, Facts, StackFacts, push-facts, pop-facts, top-fact, moved-facts, assigned-facts, defined-facts, contents-facts, saved-facts, calls-facts, taken-facts, written-facts}
-use Rattle.engine.proofs.Located.{Located, StoreFacts, nowhere, inBlock, located, contents-below, store-facts, undefined-fits}
-use Rattle.engine.proofs.Moves.{Still, Moves, still, Done}
+use Rattle.engine.proofs.Facts.{CoreFacts, Facts, push-facts, pop-facts, top-fact, moved-facts, assigned-facts, defined-facts, contents-facts, saved-facts, calls-facts, taken-facts, written-facts}
+use Rattle.engine.proofs.Located.{Located, nowhere, located, contents-below, store-facts, undefined-fits}
+use Rattle.engine.proofs.Moves.{still, Done}
 
 -- a store leaves the set-up numbers
 pub assigned-setup : (b : ℕ) (at : Location) (v : ℕ) (c : Core) → assigned b at v c .setup ≡ c .setup

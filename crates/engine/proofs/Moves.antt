@@ -1,9 +1,9 @@
 -- What the effects of a step are to the blocks: none changes, one is freed, one is delivered; and where the stores go.
 -- Assumes nothing.
-use Prim.Native.Nat.{ℕ, zero, suc, _+_, _-_, _^_, _≤_, _<_}
-use mathlib.Core.Bool.{Bool, true, false, not}
-use mathlib.Core.List.{List, [], _∷_, List·Memᴰ}
-use mathlib.Core.Logic.{_⊎_, inl, inr}
+use Prim.Native.Nat.{ℕ, _+_, _≤_, _<_}
+use mathlib.Core.Bool.{true, not}
+use mathlib.Core.List.{List, List·Memᴰ}
+use mathlib.Core.Logic.{_⊎_}
 use mathlib.Core.Path.{_≡_}
 use lib.Dec.{eqb}
 use lib.ListN.{length}
@@ -11,13 +11,11 @@ use Rattle.buddy.specs.declared.SetUp.{SetUp}
 use Rattle.buddy.specs.Blocks.{Block, size, sizeAt}
 use Rattle.buddy.specs.SetUp.{top, words, fitting, runs}
 use Rattle.buddy.specs.Map.{live, freshMap, freedMap, deliveredMap}
-use Rattle.engine.specs.declared.State.{State}
-use Rattle.engine.specs.State.{isSetUp}
 use Rattle.engine.specs.Storage.{noStore, noReport}
 use Rattle.engine.specs.Sound.{Engine}
 use Rattle.engine.specs.Effects.{Effects}
 use Rattle.engine.proofs.Facts.{CoreFacts}
-use Rattle.engine.proofs.Located.{StoreFacts, InBlocks}
+use Rattle.engine.proofs.Located.{StoreFacts}
 
 -- the live blocks after the effects
 abbrev pub liveAfter : Effects → List Block

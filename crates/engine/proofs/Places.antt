@@ -1,17 +1,17 @@
 -- The places that a step goes on to are in range, since a well-formed row names rows below the row count.
 -- Assumes nothing.
-use Prim.Native.Nat.{ℕ, zero, suc, _+_, _-_, _*_, _/_, _%_, _≤_, _<_}
+use Prim.Native.Nat.{ℕ, zero, suc, _%_, _≤_, _<_}
 use native.Mathlib.Omega.{arith}
-use mathlib.Core.Bool.{Bool, true, false, not, _&&_, _||_, cond}
+use mathlib.Core.Bool.{true, false, _&&_, cond}
 use mathlib.Core.List.{List, [], _∷_}
 use mathlib.Core.Logic.{_⊎_, inl, inr, ⊎-elim}
-use mathlib.Core.Path.{_≡_, refl, subst, sym, ap, _∙_}
-use borrow.Author.Tests.{ltb-true, leb-true, le-leb, eqb-true, eqb-false, eq-eqb, ne-eqb}
+use mathlib.Core.Path.{_≡_, refl, sym, _∙_}
+use borrow.Author.Tests.{ltb-true, leb-true, le-leb, eqb-true, eqb-false, eq-eqb}
 use lib.Dec.{eqb, leb, ltb}
-use lib.ListN.{length, getD, take}
+use lib.ListN.{length, take}
 use Rattle.table.specs.declared.Row.{Row}
 use Rattle.table.specs.Row.{lengthFits, rows, rowAt, firstTest, firstOperation, goTo, done}
-use Rattle.table.specs.Operands.{Operand, Line, Nothing, shape, shapes, takes, isLiteral}
+use Rattle.table.specs.Operands.{shapes, takes, isLiteral}
 use Rattle.table.specs.Table.{chained, rowOrNone, namesRows, complete, isLine, shapeOf, isOperation, fitPairs, fits, shaped, wellFormedAs, usable}
 use Rattle.engine.specs.declared.Place.{Place}
 use Rattle.engine.specs.State.{testsOf, operationAt, exitOf, theEnd, isFinished}
@@ -116,12 +116,10 @@ module _ (b : ℕ) (table : List ℕ) (r : ℕ) (l : lengthFits table ≡ true) 
 
   -- a test that a row number is zero or below the row count
   tested-row : (n : ℕ) → rowOrNone (rows table) n ≡ true → RowOrNone n
-  unfolding rowOrNone
   tested-row n k = row-or-none n (λ p. ⊎-elim (λ e. absurd (p (eqb-true n 0 e))) (λ q. ltb-true n (rows table) q) (or-parts (eqb n 0) (ltb n (rows table)) k))
 
   -- next names a row or none
   chained-row : (n : ℕ) → chained (rows table) r n ≡ true → RowOrNone n
-  unfolding chained
   chained-row n k =
       row-or-none n
       (λ p. ⊎-elim (λ e. absurd (p (eqb-true n 0 e)))
@@ -142,15 +140,15 @@ module _ (b : ℕ) (table : List ℕ) (r : ℕ) (l : lengthFits table ≡ true) 
 
   -- the row that a DO names
   do-line-row : (row : Row) → row .code ≡ 36 → isOperation b (rows table) row ≡ true → isRow (row .first .value) ≡ true
-  unfolding isOperation fits fitPairs takes shapeOf shapes shape
+  unfolding isOperation fitPairs shapeOf shapes
   do-line-row row c k =
       let s = shapeOf (row .code) in
       let k₁ = and-parts (leb (row .code) 36) (fits b (rows table) s row) (and-parts (leb 1 (row .code)) _ k .1) .1 in
       let k₂ = and-parts (leb (row .name) _) (fitPairs b (rows table) s row) k₁ .1 in
       let k₃ = and-parts (takes b (rows table) (s .first) (row .first)) _ k₂ .0 in
       let k₄ : takes b (rows table) (shapeOf 36 .first) (row .first) ≡ true = rw c at k₃ in
-      let k₅ = and-parts (isLiteral b (row .first) && leb 1 (row .first .value)) (ltb (row .first .value) (rows table)) k₄ in
-      let low : 1 ≤ row .first .value = leb-true _ _ (and-parts (isLiteral b (row .first)) (leb 1 (row .first .value)) (k₅ .0) .1) in
+      let k₅ = and-parts (leb 1 (row .first .value)) (ltb (row .first .value) (rows table)) (and-parts (isLiteral b (row .first)) _ k₄ .1) in
+      let low : 1 ≤ row .first .value = leb-true _ _ (k₅ .0) in
       let high : row .first .value < rows table = ltb-true _ _ (k₅ .1) in
       let few = rows-few table l in
       is-row (row .first .value) (omega arith) (omega arith)

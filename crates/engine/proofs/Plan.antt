@@ -1,34 +1,32 @@
 -- What the plan of a step comes to, where it is not refused: a set-up, or moves of blocks and stores as `Moves` says.
 -- Assumes nothing.
-use Prim.Native.Nat.{ℕ, zero, suc, _+_, _-_, _≤_, _<_}
-use native.Mathlib.Nat.{add-zero, add-suc, suc-add}
+use Prim.Native.Nat.{ℕ, _-_, _≤_}
 use native.Mathlib.Omega.{arith}
-use mathlib.Core.Bool.{Bool, true, false, not, _&&_, cond}
-use mathlib.Core.List.{List, [], _∷_}
-use mathlib.Core.Logic.{_⊎_, inl, inr, ⊎-elim}
-use mathlib.Core.Path.{_≡_, refl, subst, sym, ap, _∙_}
+use mathlib.Core.Bool.{true, false, not, _&&_, cond}
+use mathlib.Core.List.{List}
+use mathlib.Core.Logic.{inl, inr}
+use mathlib.Core.Path.{_≡_, refl, subst, sym}
 use borrow.Author.Tests.{ltb-true, eqb-true, eqb-false, eq-eqb, ne-eqb, not-true}
-use lib.Dec.{eqb, leb, ltb}
-use lib.ListN.{length, getD}
+use lib.Dec.{eqb}
 use Rattle.buddy.specs.Blocks.{size, sizeAt}
 use Rattle.buddy.specs.SetUp.{top}
 use Rattle.table.specs.declared.Row.{Row}
-use Rattle.table.specs.Row.{lengthFits, rows, rowAt, firstTest, firstOperation, goTo, done}
+use Rattle.table.specs.Row.{lengthFits, rowAt, firstOperation, goTo, done}
 use Rattle.table.specs.Table.{usable}
 use Rattle.engine.specs.declared.Place.{Place}
 use Rattle.engine.specs.declared.Refusal.the-variants.{BeforeSetUp, SecondSetUp}
-use Rattle.engine.specs.Answer.{Checked, refused, passed, _>>=_, _>>_, need}
+use Rattle.engine.specs.Answer.{passed, _>>_, need}
 use Rattle.engine.specs.State.{noSetUp, isSetUp, isFinished, theEnd, movedTo, withCalls, withSetUp, onCore, withMap, testsOf}
-use Rattle.engine.specs.Storage.{noReport}
 use Rattle.engine.specs.Sound.{Lent, Engine, isRow, isPlace, soundPlace}
 use Rattle.engine.specs.Locate.{liveBlocks}
 use Rattle.engine.specs.Effects.{Effects, quietly}
 use Rattle.engine.specs.Operations.{Given, Meaning, asked, meanings, meaning, making, setUp}
 use Rattle.engine.specs.Step.{Choice, nextLine, operationOrExit, goingTo, testsStep, inTurn, given, operationStep, return, exitStep, plan, setUpAt}
 use Rattle.engine.proofs.Checks.{need-passed, then-passed, need-alone, bind-passed, passed-same}
-use Rattle.engine.proofs.Facts.{CoreFacts, Facts, StackFacts, moved-facts, calls-facts, setup-facts, pop-facts, top-fact}
+use Rattle.engine.proofs.Facts.{CoreFacts, Facts, moved-facts, calls-facts, setup-facts, pop-facts, top-fact}
 use Rattle.engine.proofs.Live.{live-size}
 use Rattle.engine.proofs.Moves.{SetsUp, Done}
+use Rattle.engine.proofs.Codes.{EachFrom, at-code}
 use Rattle.engine.proofs.Meanings.{silent, computing-done, interchange-done, input-done, print-done, define-done, saveContents-done, restoreContents-done, saveDefinition-done, restoreDefinition-done, do-line-done}
 use Rattle.engine.proofs.Blocks.{free-done, get-done, duplicate-done}
 use Rattle.engine.proofs.Places.{RowOrNone, place-there, place-line, place-sound, end-sound, next-sound, operation-or-exit, tests-place, stack-sound, next-row, do-row, has-code, line-operation, line-goes}
@@ -37,18 +35,6 @@ use Rattle.engine.proofs.Places.{RowOrNone, place-there, place-line, pl
 pub data Planned (b : ℕ) (l : Lent) (e : Engine) (x : Effects) : Type 0 where
   settingUp : isSetUp (e .state .core) ≡ false → CoreFacts b (x .state .core) → SetsUp (e .storage) (e .state .map) (setUpAt l e) x → Planned b l e x
   moving : setUpAt l e ≡ noSetUp → Done b e x → Planned b l e x
-
--- each meaning of a list has what is asked of it, from code i on
-EachFrom : (ℕ → Meaning → Type 0) → ℕ → List Meaning → Type 0
-EachFrom P i [] = Unit {0}
-EachFrom P i (m ∷ ms) = P i m × EachFrom P (suc i) ms
-
-at-code : (P : ℕ → Meaning → Type 0) (i : ℕ) (ms : List Meaning) (d : Meaning) → ((n : ℕ) → P n d) → EachFrom P i ms
-    → (n : ℕ) → P (i + n) (getD ms n d)
-unfolding EachFrom
-at-code P i [] d k each n = k (i + n)
-at-code P i (m ∷ ms) d k each zero = rw add-zero (each .0)
-at-code P i (m ∷ ms) d k each (suc n) = subst (λ j. P j (getD ms n d)) (suc-add i n ∙ sym (add-suc i n)) (at-code P (suc i) ms d k (each .1) n)
 
 -- an operation but the set-up
 module _ (b : ℕ) (g : Given) (h : Facts b (g .engine)) (choice : Choice (g .choose))

@@ -1,7 +1,7 @@
 -- What every step does: a refused one changes nothing, a finished engine stays as it is, and what is delivered is an aligned run
 -- outside the live blocks.
 -- Assumes nothing.
-use Prim.Native.Nat.{ℕ, _+_, _%_, _≤_, _<_}
+use Prim.Native.Nat.{ℕ}
 use native.Mathlib.Omega.{arith}
 use mathlib.Core.Bool.{Bool, true, false, _&&_, cond}
 use lib.Dec.{leb}
@@ -16,7 +16,7 @@ use Rattle.engine.specs.declared.Report.{Report}
 use Rattle.engine.specs.declared.Refusal.the-variants.{Unsound}
 use Rattle.engine.specs.Answer.{Checked, refused, passed}
 use Rattle.engine.specs.State.{isFinished}
-use Rattle.engine.specs.Storage.{noReport, noStore}
+use Rattle.engine.specs.Storage.{noReport}
 use Rattle.engine.specs.Sound.{Lent, Engine, sound, soundEngine}
 use Rattle.engine.specs.Locate.{liveBlocks}
 use Rattle.engine.specs.Effects.{Effects}

@@ -1,14 +1,13 @@
 -- Programs in a table, and the ten starred bench cases: each is a program, what is looked at after it has run, and what is there.
 -- Document 01: "Bench cases"; d = 8, s1 = 8, s2 = 23. Assumes nothing.
-use Prim.Native.Nat.{ℕ, zero, suc, _-_, _^_}
-use mathlib.Core.Bool.{Bool, cond}
+use Prim.Native.Nat.{ℕ, suc, _^_}
+use mathlib.Core.Bool.{Bool}
 use mathlib.Core.List.{List, [], _∷_, _++_, map}
-use lib.ListN.{length, getD, take, replicate}
+use lib.ListN.{getD, take, replicate}
 use Rattle.buddy.specs.Blocks.{Block}
 use Rattle.buddy.specs.Map.{same}
 use Rattle.engine.specs.Answer.{answerNumber}
 use Rattle.engine.specs.State.{fresh}
-use Rattle.engine.specs.Sound.{Lent, Engine}
 use Rattle.engine.specs.Locate.{liveBlocks}
 use Rattle.engine.specs.Step.{RunOutcome, run}
 

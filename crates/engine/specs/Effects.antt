@@ -1,6 +1,6 @@
 -- What a step that is not refused brings about: the state after it, its report, and what a set-up or a print adds to that.
 -- Document 01: "Steps" and "Fields and references". Assumes nothing.
-use Prim.Native.Nat.{ℕ, _-_, _%_, _^_}
+use Prim.Native.Nat.{ℕ, _%_, _^_}
 use mathlib.Core.Bool.{cond}
 use mathlib.Core.List.{List, []}
 use lib.Dec.{eqb}

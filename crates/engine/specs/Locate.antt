@@ -1,22 +1,23 @@
 -- References: from a bug along the fields, link by link, to the location of the last one.
 -- Document 01: "Fields and references". Assumes nothing.
 use Prim.Native.Nat.{ℕ, _+_}
-use mathlib.Core.Bool.{Bool, not, cond}
+use mathlib.Core.Bool.{not, cond}
 use mathlib.Core.List.{List, [], _∷_}
 use lib.Dec.{eqb, ltb}
 use lib.ListN.{getD}
 use Rattle.word.specs.Field.{width, fieldOf}
 use Rattle.buddy.specs.Blocks.{Block, sizeAt}
 use Rattle.buddy.specs.Map.{live}
-use Rattle.table.specs.declared.BugLetter.{BugLetter}
 use Rattle.table.specs.declared.FieldName.{FieldName}
 use Rattle.table.specs.declared.Pair.{Pair}
-use Rattle.table.specs.Reference.{Reference, referenceOf}
+use Rattle.table.specs.Reference.{referenceOf}
 use Rattle.engine.specs.declared.Definition.{Definition}
 use Rattle.engine.specs.declared.Location.{Location}
 use Rattle.engine.specs.declared.Location.the-variants.{Bug, Field}
+use Rattle.engine.specs.declared.Linked.{Linked}
+use Rattle.engine.specs.declared.Linked.the-variants.{At, Stopped}
 use Rattle.engine.specs.declared.Refusal.the-variants.{UndefinedField, NotABlock, OutsideBlock}
-use Rattle.engine.specs.Answer.{Checked, refused, passed, _>>=_, _>>_, need}
+use Rattle.engine.specs.Answer.{Checked, refused, passed, _>>=_, _>>_, need, refusalNumber}
 use Rattle.engine.specs.State.{undefined}
 use Rattle.engine.specs.Storage.{wordAt}
 use Rattle.engine.specs.Sound.{Engine}
@@ -39,13 +40,17 @@ unfoldable pub widthOf : ℕ → Location → ℕ
 widthOf b (Bug x) = b
 widthOf b (Field address left right) = width left right
 
--- one link, in this order: field defined (14), pointer is the start of a live block (15), word inside that block (16)
+-- one link by its field's definition, the pointer, and the size of the live block that starts there (0: none), in this order:
+-- field defined (14), pointer is the start of a live block (15), word inside that block (16)
+unfoldable pub linkBy : Definition → ℕ → ℕ → Checked Location
+linkBy x n pointer = do
+  need (x .defined) UndefinedField
+  need (not (eqb n 0)) NotABlock
+  need (ltb (x .word) n) OutsideBlock
+  passed (Field (pointer + x .word) (x .left) (x .right))
+
 unfoldable pub link : Engine → ℕ → FieldName → Checked Location
-link e pointer f = do
-  need (definitionOf f e .defined) UndefinedField
-  need (not (eqb (sizeAt pointer (liveBlocks e)) 0)) NotABlock
-  need (ltb (definitionOf f e .word) (sizeAt pointer (liveBlocks e))) OutsideBlock
-  passed (Field (pointer + definitionOf f e .word) (definitionOf f e .left) (definitionOf f e .right))
+link e pointer f = linkBy (definitionOf f e) (sizeAt pointer (liveBlocks e)) pointer
 
 -- the links one after the other: what one holds is the next one's pointer
 unfoldable pub follow : ℕ → Engine → Location → List FieldName → Checked Location
@@ -67,3 +72,13 @@ read b e at = record { value = contents b e at; width = widthOf b at }
 -- an operand that is used: a literal (form 1), or what stands where a reference leads
 unfoldable pub operand : ℕ → Engine → Pair → Checked Value
 operand b e p = cond (eqb (p .form) 1) (passed (record { value = p .value; width = b })) (locate b e p >>= λ at. passed (read b e at))
+
+-- an answer that is a location or a refusal, as the code gives it
+unfoldable pub linked : Checked Location → Linked
+linked (refused r) = Stopped r
+linked (passed at) = At at
+
+-- document 01's number of its refusal, 0 where it is none
+unfoldable pub linkRefusal : Linked → ℕ
+linkRefusal (At at) = 0
+linkRefusal (Stopped r) = refusalNumber r

@@ -1,8 +1,8 @@
 -- The 36 operations, in the order of document 01's section "Operations". Each takes its operands as written, then makes its own
 -- checks in the order given there. The state that an operation is handed already stands at the place after it.
 -- Assumes nothing.
-use Prim.Native.Nat.{ℕ, zero, suc, _+_, _-_, _*_, _/_, _^_}
-use mathlib.Core.Bool.{Bool, true, false, not, _&&_, _||_, cond}
+use Prim.Native.Nat.{ℕ, suc, _+_, _-_, _/_}
+use mathlib.Core.Bool.{Bool, true, false, not, _&&_, cond}
 use mathlib.Core.List.{List, [], _∷_}
 use mathlib.Core.Option.{Option, none, some}
 use lib.Dec.{eqb, leb, ltb}
@@ -17,11 +17,9 @@ use Rattle.table.specs.declared.FieldName.{FieldName}
 use Rattle.table.specs.declared.Row.{Row}
 use Rattle.engine.specs.declared.Refusal.{Refusal}
 use Rattle.engine.specs.declared.Refusal.the-variants.{SetUpNumbers, InputByte, InputShort, NotADigit, DefinitionNumber, BlockSize, ZeroDivisor, CharacterCount, NotABlock, NoRun, FieldFreed, StackFull, StackEmpty, OutputFull}
-use Rattle.engine.specs.declared.Core.{Core}
 use Rattle.engine.specs.declared.State.{State}
 use Rattle.engine.specs.declared.Location.{Location}
 use Rattle.engine.specs.declared.Location.the-variants.{Bug, Field}
-use Rattle.engine.specs.declared.Report.{Report}
 use Rattle.engine.specs.Answer.{Checked, refused, passed, _>>=_, _>>_, need}
 use Rattle.engine.specs.State.{undefined, testsOf, movedTo, withDefinition, withContents, withSaved, withCalls, withSetUp, withTaken, withWritten, onCore, withMap}
 use Rattle.engine.specs.Storage.{noStore}

@@ -1,11 +1,10 @@
 -- Soundness of a state, with the storage, input and output lent to a step: where it fails, refusal 11.
 -- Document 01: "From the state", 11, clause by clause. Assumes nothing.
-use Prim.Native.Nat.{ℕ, zero, suc, _-_, _^_}
+use Prim.Native.Nat.{ℕ, _^_}
 use mathlib.Core.Bool.{Bool, true, _&&_, _||_, not, cond}
 use mathlib.Core.List.{List, [], _∷_}
 use lib.Dec.{eqb, leb, ltb}
 use lib.ListN.{length, take}
-use Rattle.buddy.specs.declared.SetUp.{SetUp}
 use Rattle.buddy.specs.SetUp.{words, fitting, absent}
 use Rattle.buddy.specs.Map.{keeps}
 use Rattle.engine.specs.declared.Place.{Place}

@@ -1,6 +1,6 @@
 -- The engine's state: places, the fresh engine, and each change of one part.
 -- Document 01: "Steps". Assumes nothing.
-use Prim.Native.Nat.{ℕ, _+_}
+use Prim.Native.Nat.{ℕ}
 use mathlib.Core.Bool.{Bool, false, not}
 use mathlib.Core.List.{List}
 use lib.Dec.{eqb}

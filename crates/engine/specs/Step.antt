@@ -1,21 +1,18 @@
 -- One step, the relation "this step answers as demand 2 has it", and the run.
 -- Document 01: "Steps" and the order of all refusals. Assumes nothing.
 use Prim.Native.Nat.{ℕ, zero, suc, _-_}
-use mathlib.Core.Bool.{Bool, true, false, not, _&&_, cond}
-use mathlib.Core.List.{List, [], _∷_, List·Memᴰ}
+use mathlib.Core.Bool.{true, false, not, _&&_, cond}
+use mathlib.Core.List.{List, _∷_, List·Memᴰ}
 use mathlib.Core.Path.{_≡_}
 use lib.Dec.{eqb, ltb}
 use lib.ListN.{getD}
 use Rattle.buddy.specs.declared.SetUp.{SetUp}
-use Rattle.table.specs.declared.Row.{Row}
 use Rattle.table.specs.Row.{lengthFits, rows, rowAt, firstTest, firstOperation, goTo, done}
 use Rattle.table.specs.Table.{usable}
-use Rattle.engine.specs.declared.Refusal.{Refusal}
 use Rattle.engine.specs.declared.Refusal.the-variants.{TableLength, BadRow, Unsound, BeforeSetUp, SecondSetUp, StackEmpty}
 use Rattle.engine.specs.declared.Answer.{Answer}
 use Rattle.engine.specs.declared.Answer.the-variants.{Running, Finished, Refused}
 use Rattle.engine.specs.declared.Place.{Place}
-use Rattle.engine.specs.declared.State.{State}
 use Rattle.engine.specs.declared.Stepped.{Stepped}
 use Rattle.engine.specs.declared.Ran.{Ran}
 use Rattle.engine.specs.Answer.{Checked, refused, passed, _>>=_, _>>_, need, isRunning}

@@ -1,6 +1,6 @@
 -- What a report says of the storage. A step changes storage words only as its report, or a set-up, says.
 -- Document 01: "Steps" (the report), "Blocks" and "Fields and references". Assumes nothing.
-use Prim.Native.Nat.{ℕ, zero, suc, _+_, _-_}
+use Prim.Native.Nat.{ℕ, _+_, _-_}
 use mathlib.Core.Bool.{cond}
 use mathlib.Core.List.{List, _++_}
 use lib.Dec.{eqb}

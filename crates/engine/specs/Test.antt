@@ -6,11 +6,10 @@ use mathlib.Core.List.{List, [], _∷_}
 use lib.Dec.{eqb, ltb}
 use lib.ListN.{getD}
 use Rattle.word.specs.Word.{both}
-use Rattle.table.specs.declared.Row.{Row}
 use Rattle.table.specs.Row.{rowAt}
 use Rattle.table.specs.Table.{usable}
 use Rattle.engine.specs.declared.Refusal.the-variants.{BadRow}
-use Rattle.engine.specs.Answer.{Checked, refused, passed, _>>=_, _>>_, need}
+use Rattle.engine.specs.Answer.{Checked, passed, _>>=_, _>>_, need}
 use Rattle.engine.specs.Sound.{Engine}
 use Rattle.engine.specs.Locate.{operand}
 

@@ -1,4 +1,5 @@
 // The engine's state, answers and reports: what they mean stands in specs/.
+pub mod references;
 
 // Why a step is refused: document 01's refusals 1 to 21, in its order.
 pub enum Refusal {
@@ -84,6 +85,12 @@ pub struct State {
 pub enum Location {
     Bug(table::BugLetter),
     Field(u64, u8, u8),
+}
+
+// Where the links of a reference lead, or why one of them is refused.
+pub enum Linked {
+    At(Location),
+    Stopped(Refusal),
 }
 
 // A store into storage, all zero where there is none.
