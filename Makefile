@@ -1,8 +1,12 @@
 # make test: the gate. make fmt: lay every .rt and .antt file out.
-.PHONY: test fmt
+.PHONY: test fmt expected
 
 test:
 	bash .ci/run
 
 fmt:
 	rt fmt
+
+# Writes crates/leaves/stdout again: what the program leaves must print, computed independently.
+expected:
+	mkdir -p target && rustc -O -o target/leaves-reference reference/leaves.rs && target/leaves-reference > crates/leaves/stdout
