@@ -3,7 +3,7 @@ use mathlib.Core.Path.{sym, ap₂, _∙_}
 use native.Mathlib.Omega.{arith}
 use Rattle.buddy.proofs.Halves.{size-first, size-pred, size-small}
 use Prim.Native.Nat.{ℕ, _<_, _+_, _-_}
-use borrow.Fn.Kinds.{In}
+use borrow.Fn.Kinds.{In, Out}
 use borrow.Fn.PlainCycle.{Measures, is, falls, and}
 use Rattle.buddy.proofs.sizes.size_of.Reads as size-of
 use Rattle.buddy.proofs.sizes.size_of.Kinds as size-of-kinds
@@ -20,6 +20,13 @@ size-of-at t = and 0 size-of-kinds.ps (is 0 size-of-kinds.ps μ-size-of t) size-
 abbrev size-of-below : ℕ → In 0 size-of-kinds.ps
 size-of-below t = and 0 size-of-kinds.ps (falls 0 size-of-kinds.ps _<_ μ-size-of t) size-of.Pre
 
+-- what the calls ask and give, below the measure t
+abbrev size-of-calls : ℕ → In 0 size-of-kinds.ps × Out 0 size-of-kinds.ps size-of-kinds.r
+size-of-calls t = (
+  size-of-below t,
+  size-of.Post,
+)
+
 size-of-returns :
     (t : ℕ) → size-of-lts.Need-returns (size-of-below t, size-of.Post) (size-of-at t) size-of.Post
 size-of-returns t c = sym (size-first _ (c .if1 .taken))
@@ -29,10 +36,7 @@ size-of-sub-size-of :
     size-of-lts.Need-sub-size-of (size-of-below t, size-of.Post) (size-of-at t) size-of.Post
 size-of-sub-size-of t c = omega arith
 
-size-of-size-of-requires : (t : ℕ) → size-of-lts.Need-size-of-requires (
-  size-of-below t,
-  size-of.Post,
-) (size-of-at t) size-of.Post
+size-of-size-of-requires : (t : ℕ) → size-of-lts.Need-size-of-requires (size-of-calls t) (size-of-at t) size-of.Post
 size-of-size-of-requires t c κs = (omega arith, omega arith)
 
 size-of-add-result :

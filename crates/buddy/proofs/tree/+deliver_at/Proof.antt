@@ -9,8 +9,10 @@ use Rattle.buddy.proofs.Size.{size-pos}
 use Rattle.buddy.proofs.Halves.{half-size, size-pred, low-length, high-length}
 use Rattle.buddy.proofs.Delivered.{delivers-free, delivers-none, delivers-low, delivers-high}
 use Prim.Native.Nat.{ℕ, _<_}
-use borrow.Fn.Kinds.{In}
+use borrow.Fn.Kinds.{In, Out}
 use borrow.Fn.PlainCycle.{Measures, is, falls, and}
+use Rattle.buddy.proofs.tree.free_tag.Kinds as free-tag-kinds
+use Rattle.buddy.proofs.tree.split.Kinds as split-kinds
 use Rattle.buddy.proofs.tree.deliver_at.Reads as deliver-at
 use Rattle.buddy.proofs.tree.deliver_at.Kinds as deliver-at-kinds
 use Rattle.buddy.proofs.tree.+deliver_at.Lts-deliver_at as deliver-at-lts
@@ -30,74 +32,36 @@ abbrev deliver-at-below : ℕ → In 1 deliver-at-kinds.ps
 deliver-at-below t =
     and 1 deliver-at-kinds.ps (falls 1 deliver-at-kinds.ps _<_ μ-deliver-at t) deliver-at.Pre
 
-deliver-at-slice-read-if1 : (t : ℕ) → deliver-at-lts.Need-slice-read-if1 (
+-- what the calls ask and give, below the measure t
+abbrev deliver-at-calls : ℕ → In 0 free-tag-kinds.ps × Out 0 free-tag-kinds.ps free-tag-kinds.r × In 1 split-kinds.ps × Out 1 split-kinds.ps split-kinds.r × In 1 deliver-at-kinds.ps × Out 1 deliver-at-kinds.ps deliver-at-kinds.r
+deliver-at-calls t = (
   free-tag-reads.Asked,
   free-tag-reads.Learnt,
   split-reads.Asked,
   split-reads.Learnt,
   deliver-at-below t,
   deliver-at.Post,
-) (deliver-at-at t) deliver-at.Post
+)
+
+deliver-at-slice-read-if1 : (t : ℕ) → deliver-at-lts.Need-slice-read-if1 (deliver-at-calls t) (deliver-at-at t) deliver-at.Post
 deliver-at-slice-read-if1 t c = omega (arith, size-pos (c .before .before .args .k))
 
-deliver-at-free-tag-requires : (t : ℕ) → deliver-at-lts.Need-free-tag-requires (
-  free-tag-reads.Asked,
-  free-tag-reads.Learnt,
-  split-reads.Asked,
-  split-reads.Learnt,
-  deliver-at-below t,
-  deliver-at.Post,
-) (deliver-at-at t) deliver-at.Post
+deliver-at-free-tag-requires : (t : ℕ) → deliver-at-lts.Need-free-tag-requires (deliver-at-calls t) (deliver-at-at t) deliver-at.Post
 deliver-at-free-tag-requires t c κs = omega arith
 
-deliver-at-split-requires : (t : ℕ) → deliver-at-lts.Need-split-requires (
-  free-tag-reads.Asked,
-  free-tag-reads.Learnt,
-  split-reads.Asked,
-  split-reads.Learnt,
-  deliver-at-below t,
-  deliver-at.Post,
-) (deliver-at-at t) deliver-at.Post
+deliver-at-split-requires : (t : ℕ) → deliver-at-lts.Need-split-requires (deliver-at-calls t) (deliver-at-at t) deliver-at.Post
 deliver-at-split-requires t c κs = (omega arith, omega arith, c .before .before .before .before .before .pre .1 .2)
 
-deliver-at-same-length : (t : ℕ) → deliver-at-lts.Need-same-length (
-  free-tag-reads.Asked,
-  free-tag-reads.Learnt,
-  split-reads.Asked,
-  split-reads.Learnt,
-  deliver-at-below t,
-  deliver-at.Post,
-) (deliver-at-at t) deliver-at.Post
+deliver-at-same-length : (t : ℕ) → deliver-at-lts.Need-same-length (deliver-at-calls t) (deliver-at-at t) deliver-at.Post
 deliver-at-same-length t c = search needs
 
-deliver-at-returns : (t : ℕ) → deliver-at-lts.Need-returns (
-  free-tag-reads.Asked,
-  free-tag-reads.Learnt,
-  split-reads.Asked,
-  split-reads.Learnt,
-  deliver-at-below t,
-  deliver-at.Post,
-) (deliver-at-at t) deliver-at.Post
+deliver-at-returns : (t : ℕ) → deliver-at-lts.Need-returns (deliver-at-calls t) (deliver-at-at t) deliver-at.Post
 deliver-at-returns t c = λ at s whole w e. delivers-free (c .before .before .before .before .before .before .before .before .args .k) (c .before .before .before .before .before .before .before .before .args .j) (c .before .before .before .before .before .before .before .before .args .offset) at (c .before .before .before .before .before .before .before .before .args .tags .now) _ s (c .before .before .before .before .if1 .taken ∙ c .before .before .before .before .before .free-tag .ensures) w e (c .before .before .split .ensures at)
 
-deliver-at-returns-2 : (t : ℕ) → deliver-at-lts.Need-returns-2 (
-  free-tag-reads.Asked,
-  free-tag-reads.Learnt,
-  split-reads.Asked,
-  split-reads.Learnt,
-  deliver-at-below t,
-  deliver-at.Post,
-) (deliver-at-at t) deliver-at.Post
+deliver-at-returns-2 : (t : ℕ) → deliver-at-lts.Need-returns-2 (deliver-at-calls t) (deliver-at-at t) deliver-at.Post
 deliver-at-returns-2 t c = λ at s whole w e. absurd (delivers-none (c .before .before .before .before .before .args .k) (c .before .before .before .before .before .args .j) (c .before .before .before .before .before .args .offset) at (c .before .before .before .before .before .args .tags .now) s (c .if2 .taken) (λ q. c .before .if1 .left (q ∙ sym (c .before .before .free-tag .ensures))) w e)
 
-deliver-at-sub-deliver-at : (t : ℕ) → deliver-at-lts.Need-sub-deliver-at (
-  free-tag-reads.Asked,
-  free-tag-reads.Learnt,
-  split-reads.Asked,
-  split-reads.Learnt,
-  deliver-at-below t,
-  deliver-at.Post,
-) (deliver-at-at t) deliver-at.Post
+deliver-at-sub-deliver-at : (t : ℕ) → deliver-at-lts.Need-sub-deliver-at (deliver-at-calls t) (deliver-at-at t) deliver-at.Post
 deliver-at-sub-deliver-at t c = omega arith
 
 deliver-at-slice-relend-prefix-deliver-at :
@@ -111,131 +75,47 @@ deliver-at-slice-relend-prefix-deliver-at :
     ) (deliver-at-at t) deliver-at.Post
 deliver-at-slice-relend-prefix-deliver-at t c = omega arith
 
-deliver-at-slice-aggregate-deliver-at : (t : ℕ) → deliver-at-lts.Need-slice-aggregate-deliver-at (
-  free-tag-reads.Asked,
-  free-tag-reads.Learnt,
-  split-reads.Asked,
-  split-reads.Learnt,
-  deliver-at-below t,
-  deliver-at.Post,
-) (deliver-at-at t) deliver-at.Post
+deliver-at-slice-aggregate-deliver-at : (t : ℕ) → deliver-at-lts.Need-slice-aggregate-deliver-at (deliver-at-calls t) (deliver-at-at t) deliver-at.Post
 deliver-at-slice-aggregate-deliver-at t c = sym (length-take-le _ _ (omega arith))
 
-deliver-at-deliver-at-requires : (t : ℕ) → deliver-at-lts.Need-deliver-at-requires (
-  free-tag-reads.Asked,
-  free-tag-reads.Learnt,
-  split-reads.Asked,
-  split-reads.Learnt,
-  deliver-at-below t,
-  deliver-at.Post,
-) (deliver-at-at t) deliver-at.Post
+deliver-at-deliver-at-requires : (t : ℕ) → deliver-at-lts.Need-deliver-at-requires (deliver-at-calls t) (deliver-at-at t) deliver-at.Post
 deliver-at-deliver-at-requires t c κs = (omega arith, (omega arith, omega arith, low-length _ (c .before .before .before .before .before .before .before .args .tags .now) (omega arith) (c .before .before .before .before .before .before .before .pre .1 .2), omega (arith, half-size (c .before .before .before .before .before .before .before .args .k) _ (omega arith) (c .before .before .before .before .before .before .before .pre .1 .2))))
 
-deliver-at-sub-deliver-at-2 : (t : ℕ) → deliver-at-lts.Need-sub-deliver-at-2 (
-  free-tag-reads.Asked,
-  free-tag-reads.Learnt,
-  split-reads.Asked,
-  split-reads.Learnt,
-  deliver-at-below t,
-  deliver-at.Post,
-) (deliver-at-at t) deliver-at.Post
+deliver-at-sub-deliver-at-2 : (t : ℕ) → deliver-at-lts.Need-sub-deliver-at-2 (deliver-at-calls t) (deliver-at-at t) deliver-at.Post
 deliver-at-sub-deliver-at-2 t c = omega arith
 
-deliver-at-sub-deliver-at-3 : (t : ℕ) → deliver-at-lts.Need-sub-deliver-at-3 (
-  free-tag-reads.Asked,
-  free-tag-reads.Learnt,
-  split-reads.Asked,
-  split-reads.Learnt,
-  deliver-at-below t,
-  deliver-at.Post,
-) (deliver-at-at t) deliver-at.Post
+deliver-at-sub-deliver-at-3 : (t : ℕ) → deliver-at-lts.Need-sub-deliver-at-3 (deliver-at-calls t) (deliver-at-at t) deliver-at.Post
 deliver-at-sub-deliver-at-3 t c = omega arith
 
-deliver-at-part-deliver-at-start : (t : ℕ) → deliver-at-lts.Need-part-deliver-at-start (
-  free-tag-reads.Asked,
-  free-tag-reads.Learnt,
-  split-reads.Asked,
-  split-reads.Learnt,
-  deliver-at-below t,
-  deliver-at.Post,
-) (deliver-at-at t) deliver-at.Post
+deliver-at-part-deliver-at-start : (t : ℕ) → deliver-at-lts.Need-part-deliver-at-start (deliver-at-calls t) (deliver-at-at t) deliver-at.Post
 deliver-at-part-deliver-at-start t c = omega arith
 
-deliver-at-part-deliver-at-end : (t : ℕ) → deliver-at-lts.Need-part-deliver-at-end (
-  free-tag-reads.Asked,
-  free-tag-reads.Learnt,
-  split-reads.Asked,
-  split-reads.Learnt,
-  deliver-at-below t,
-  deliver-at.Post,
-) (deliver-at-at t) deliver-at.Post
+deliver-at-part-deliver-at-end : (t : ℕ) → deliver-at-lts.Need-part-deliver-at-end (deliver-at-calls t) (deliver-at-at t) deliver-at.Post
 deliver-at-part-deliver-at-end t c = omega arith
 
-deliver-at-deliver-at-requires-2 : (t : ℕ) → deliver-at-lts.Need-deliver-at-requires-2 (
-  free-tag-reads.Asked,
-  free-tag-reads.Learnt,
-  split-reads.Asked,
-  split-reads.Learnt,
-  deliver-at-below t,
-  deliver-at.Post,
-) (deliver-at-at t) deliver-at.Post
+deliver-at-deliver-at-requires-2 : (t : ℕ) → deliver-at-lts.Need-deliver-at-requires-2 (deliver-at-calls t) (deliver-at-at t) deliver-at.Post
 deliver-at-deliver-at-requires-2 t c κs = (omega arith, (omega arith, omega arith, high-length _ (c .before .before .before .before .before .before .before .args .tags .now) (omega arith) (c .before .before .before .before .before .before .before .pre .1 .2), omega (arith, half-size (c .before .before .before .before .before .before .before .args .k) _ (omega arith) (c .before .before .before .before .before .before .before .pre .1 .2), size-pred (c .before .before .before .before .before .before .before .args .k) (omega arith))))
 
-deliver-at-same-length-2 : (t : ℕ) → deliver-at-lts.Need-same-length-2 (
-  free-tag-reads.Asked,
-  free-tag-reads.Learnt,
-  split-reads.Asked,
-  split-reads.Learnt,
-  deliver-at-below t,
-  deliver-at.Post,
-) (deliver-at-at t) deliver-at.Post
+deliver-at-same-length-2 : (t : ℕ) → deliver-at-lts.Need-same-length-2 (deliver-at-calls t) (deliver-at-at t) deliver-at.Post
 deliver-at-same-length-2 t c = c .before .tags2 .given .1
 
-deliver-at-returns-3 : (t : ℕ) → deliver-at-lts.Need-returns-3 (
-  free-tag-reads.Asked,
-  free-tag-reads.Learnt,
-  split-reads.Asked,
-  split-reads.Learnt,
-  deliver-at-below t,
-  deliver-at.Post,
-) (deliver-at-at t) deliver-at.Post
+deliver-at-returns-3 : (t : ℕ) → deliver-at-lts.Need-returns-3 (deliver-at-calls t) (deliver-at-at t) deliver-at.Post
 deliver-at-returns-3 t c = λ at s whole w q.
     let e = c .before .before .before .before .before .before .before .before .before .before in
     delivers-low (e .args .j) (e .args .offset) at (e .args .tags .now) (c .before .before .deliver-at .last .1 .1 .1 .0) s (e .args .k) (omega arith) (c .before .before .before .before .if3 .taken) (omega arith)
     (half-size _ _ (omega arith) (e .pre .1 .2)) (λ p. c .before .before .before .before .before .before .if1 .left (p ∙ sym (c .before .before .before .before .before .before .before .free-tag .ensures))) whole w q (c .before .before .deliver-at .ensures at)
 
-deliver-at-same-length-3 : (t : ℕ) → deliver-at-lts.Need-same-length-3 (
-  free-tag-reads.Asked,
-  free-tag-reads.Learnt,
-  split-reads.Asked,
-  split-reads.Learnt,
-  deliver-at-below t,
-  deliver-at.Post,
-) (deliver-at-at t) deliver-at.Post
+deliver-at-same-length-3 : (t : ℕ) → deliver-at-lts.Need-same-length-3 (deliver-at-calls t) (deliver-at-at t) deliver-at.Post
 deliver-at-same-length-3 t c = c .before .tags3 .given .1
 
-deliver-at-returns-4 : (t : ℕ) → deliver-at-lts.Need-returns-4 (
-  free-tag-reads.Asked,
-  free-tag-reads.Learnt,
-  split-reads.Asked,
-  split-reads.Learnt,
-  deliver-at-below t,
-  deliver-at.Post,
-) (deliver-at-at t) deliver-at.Post
+deliver-at-returns-4 : (t : ℕ) → deliver-at-lts.Need-returns-4 (deliver-at-calls t) (deliver-at-at t) deliver-at.Post
 deliver-at-returns-4 t c = λ at s whole w q.
     let e = c .before .before .before .before .before .before .before .before .before .before in
     delivers-high (e .args .j) (e .args .offset) at (e .args .tags .now) (c .before .before .deliver-at2 .last .1 .1 .1 .0) s (e .args .k) (omega arith) (omega arith) (omega arith)
     (half-size _ _ (omega arith) (e .pre .1 .2)) (λ p. c .before .before .before .before .before .before .if1 .left (p ∙ sym (c .before .before .before .before .before .before .before .free-tag .ensures))) whole w q (c .before .before .deliver-at2 .ensures (at + length (e .args .tags .now) / 2))
 
 pub +deliver-at-spec : {M : Type 1} → statement M
-+deliver-at-spec = close μ-deliver-at λ t. deliver-at-lts.spec (
-  free-tag-reads.Asked,
-  free-tag-reads.Learnt,
-  split-reads.Asked,
-  split-reads.Learnt,
-  deliver-at-below t,
-  deliver-at.Post,
-)
++deliver-at-spec = close μ-deliver-at λ t. deliver-at-lts.spec (deliver-at-calls t)
     (deliver-at-at t)
     deliver-at.Post
     (deliver-at-slice-read-if1 t)

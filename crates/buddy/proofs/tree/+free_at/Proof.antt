@@ -10,8 +10,11 @@ use Rattle.buddy.proofs.Size.{size-pos}
 use Rattle.buddy.proofs.Halves.{half-size, size-pred, low-length, high-length}
 use Rattle.buddy.proofs.Tags.{frees-live, frees-free, frees-word, frees-low, frees-high}
 use Prim.Native.Nat.{ℕ, _<_}
-use borrow.Fn.Kinds.{In}
+use borrow.Fn.Kinds.{In, Out}
 use borrow.Fn.PlainCycle.{Measures, is, falls, and}
+use Rattle.buddy.proofs.tree.live_tag.Kinds as live-tag-kinds
+use Rattle.buddy.proofs.tree.free_tag.Kinds as free-tag-kinds
+use Rattle.buddy.proofs.tree.rejoin.Kinds as rejoin-kinds
 use Rattle.buddy.proofs.tree.free_at.Reads as free-at
 use Rattle.buddy.proofs.tree.free_at.Kinds as free-at-kinds
 use Rattle.buddy.proofs.tree.+free_at.Lts-free_at as free-at-lts
@@ -30,316 +33,9 @@ free-at-at t = and 1 free-at-kinds.ps (is 1 free-at-kinds.ps μ-free-at t) free-
 abbrev free-at-below : ℕ → In 1 free-at-kinds.ps
 free-at-below t = and 1 free-at-kinds.ps (falls 1 free-at-kinds.ps _<_ μ-free-at t) free-at.Pre
 
-free-at-slice-read-if1 : (t : ℕ) → free-at-lts.Need-slice-read-if1 (
-  live-tag-reads.Asked,
-  live-tag-reads.Learnt,
-  free-tag-reads.Asked,
-  free-tag-reads.Learnt,
-  free-at-below t,
-  free-at.Post,
-  rejoin-reads.Asked,
-  rejoin-reads.Learnt,
-) (free-at-at t) free-at.Post
-free-at-slice-read-if1 t c = omega (arith, size-pos (c .before .before .args .k))
-
-free-at-live-tag-requires : (t : ℕ) → free-at-lts.Need-live-tag-requires (
-  live-tag-reads.Asked,
-  live-tag-reads.Learnt,
-  free-tag-reads.Asked,
-  free-tag-reads.Learnt,
-  free-at-below t,
-  free-at.Post,
-  rejoin-reads.Asked,
-  rejoin-reads.Learnt,
-) (free-at-at t) free-at.Post
-free-at-live-tag-requires t c κs = omega arith
-
-free-at-free-tag-requires : (t : ℕ) → free-at-lts.Need-free-tag-requires (
-  live-tag-reads.Asked,
-  live-tag-reads.Learnt,
-  free-tag-reads.Asked,
-  free-tag-reads.Learnt,
-  free-at-below t,
-  free-at.Post,
-  rejoin-reads.Asked,
-  rejoin-reads.Learnt,
-) (free-at-at t) free-at.Post
-free-at-free-tag-requires t c κs = omega arith
-
-free-at-slice-write-tags : (t : ℕ) → free-at-lts.Need-slice-write-tags (
-  live-tag-reads.Asked,
-  live-tag-reads.Learnt,
-  free-tag-reads.Asked,
-  free-tag-reads.Learnt,
-  free-at-below t,
-  free-at.Post,
-  rejoin-reads.Asked,
-  rejoin-reads.Learnt,
-) (free-at-at t) free-at.Post
-free-at-slice-write-tags t c = omega (arith, size-pos (c .before .before .before .before .before .args .k))
-
-free-at-same-length : (t : ℕ) → free-at-lts.Need-same-length (
-  live-tag-reads.Asked,
-  live-tag-reads.Learnt,
-  free-tag-reads.Asked,
-  free-tag-reads.Learnt,
-  free-at-below t,
-  free-at.Post,
-  rejoin-reads.Asked,
-  rejoin-reads.Learnt,
-) (free-at-at t) free-at.Post
-free-at-same-length t c = search needs
-
-free-at-returns : (t : ℕ) → free-at-lts.Need-returns (
-  live-tag-reads.Asked,
-  live-tag-reads.Learnt,
-  free-tag-reads.Asked,
-  free-tag-reads.Learnt,
-  free-at-below t,
-  free-at.Post,
-  rejoin-reads.Asked,
-  rejoin-reads.Learnt,
-) (free-at-at t) free-at.Post
-free-at-returns t c = λ at s whole w. frees-live (c .before .before .before .before .before .args .k) (c .free-tag .result) _ at _ s (c .before .if1 .taken ∙ c .before .before .live-tag .ensures) (c .free-tag .ensures) w
-
-free-at-slice-read-if2 : (t : ℕ) → free-at-lts.Need-slice-read-if2 (
-  live-tag-reads.Asked,
-  live-tag-reads.Learnt,
-  free-tag-reads.Asked,
-  free-tag-reads.Learnt,
-  free-at-below t,
-  free-at.Post,
-  rejoin-reads.Asked,
-  rejoin-reads.Learnt,
-) (free-at-at t) free-at.Post
-free-at-slice-read-if2 t c = omega (arith, size-pos (c .before .before .before .before .before .args .k))
-
-free-at-free-tag-requires-2 : (t : ℕ) → free-at-lts.Need-free-tag-requires-2 (
-  live-tag-reads.Asked,
-  live-tag-reads.Learnt,
-  free-tag-reads.Asked,
-  free-tag-reads.Learnt,
-  free-at-below t,
-  free-at.Post,
-  rejoin-reads.Asked,
-  rejoin-reads.Learnt,
-) (free-at-at t) free-at.Post
-free-at-free-tag-requires-2 t c κs = omega arith
-
-free-at-returns-2 : (t : ℕ) → free-at-lts.Need-returns-2 (
-  live-tag-reads.Asked,
-  live-tag-reads.Learnt,
-  free-tag-reads.Asked,
-  free-tag-reads.Learnt,
-  free-at-below t,
-  free-at.Post,
-  rejoin-reads.Asked,
-  rejoin-reads.Learnt,
-) (free-at-at t) free-at.Post
-free-at-returns-2 t c = λ at s whole w. frees-free (c .before .before .before .before .before .before .before .args .k) _ at _ s (c .if2 .taken ∙ c .before .free-tag2 .ensures) w
-
-free-at-returns-3 : (t : ℕ) → free-at-lts.Need-returns-3 (
-  live-tag-reads.Asked,
-  live-tag-reads.Learnt,
-  free-tag-reads.Asked,
-  free-tag-reads.Learnt,
-  free-at-below t,
-  free-at.Post,
-  rejoin-reads.Asked,
-  rejoin-reads.Learnt,
-) (free-at-at t) free-at.Post
-free-at-returns-3 t c = λ at s whole w. frees-word (c .before .before .before .before .before .before .before .before .args .k) _ at _ s (c .if3 .taken) (λ q. c .before .before .before .before .if1 .left (q ∙ sym (c .before .before .before .before .before .live-tag .ensures))) w
-
-free-at-sub-free-at : (t : ℕ) → free-at-lts.Need-sub-free-at (
-  live-tag-reads.Asked,
-  live-tag-reads.Learnt,
-  free-tag-reads.Asked,
-  free-tag-reads.Learnt,
-  free-at-below t,
-  free-at.Post,
-  rejoin-reads.Asked,
-  rejoin-reads.Learnt,
-) (free-at-at t) free-at.Post
-free-at-sub-free-at t c = omega arith
-
-free-at-slice-relend-prefix-free-at : (t : ℕ) → free-at-lts.Need-slice-relend-prefix-free-at (
-  live-tag-reads.Asked,
-  live-tag-reads.Learnt,
-  free-tag-reads.Asked,
-  free-tag-reads.Learnt,
-  free-at-below t,
-  free-at.Post,
-  rejoin-reads.Asked,
-  rejoin-reads.Learnt,
-) (free-at-at t) free-at.Post
-free-at-slice-relend-prefix-free-at t c = omega arith
-
-free-at-slice-aggregate-free-at : (t : ℕ) → free-at-lts.Need-slice-aggregate-free-at (
-  live-tag-reads.Asked,
-  live-tag-reads.Learnt,
-  free-tag-reads.Asked,
-  free-tag-reads.Learnt,
-  free-at-below t,
-  free-at.Post,
-  rejoin-reads.Asked,
-  rejoin-reads.Learnt,
-) (free-at-at t) free-at.Post
-free-at-slice-aggregate-free-at t c = sym (length-take-le _ _ (omega arith))
-
-free-at-free-at-requires : (t : ℕ) → free-at-lts.Need-free-at-requires (
-  live-tag-reads.Asked,
-  live-tag-reads.Learnt,
-  free-tag-reads.Asked,
-  free-tag-reads.Learnt,
-  free-at-below t,
-  free-at.Post,
-  rejoin-reads.Asked,
-  rejoin-reads.Learnt,
-) (free-at-at t) free-at.Post
-free-at-free-at-requires t c κs = (omega arith, (omega arith, low-length _ (c .before .before .before .before .before .before .before .before .before .before .args .tags .now) (omega arith) (c .before .before .before .before .before .before .before .before .before .before .pre .1 .1), omega (arith, half-size (c .before .before .before .before .before .before .before .before .before .before .args .k) _ (omega arith) (c .before .before .before .before .before .before .before .before .before .before .pre .1 .1))))
-
-free-at-rejoin-requires : (t : ℕ) → free-at-lts.Need-rejoin-requires (
-  live-tag-reads.Asked,
-  live-tag-reads.Learnt,
-  free-tag-reads.Asked,
-  free-tag-reads.Learnt,
-  free-at-below t,
-  free-at.Post,
-  rejoin-reads.Asked,
-  rejoin-reads.Learnt,
-) (free-at-at t) free-at.Post
-free-at-rejoin-requires t c κs = (omega arith, omega arith, c .before .before .tags .given .1 ∙ c .before .before .before .before .before .before .before .before .before .before .before .before .before .before .pre .1 .1)
-
-free-at-sub-free-at-2 : (t : ℕ) → free-at-lts.Need-sub-free-at-2 (
-  live-tag-reads.Asked,
-  live-tag-reads.Learnt,
-  free-tag-reads.Asked,
-  free-tag-reads.Learnt,
-  free-at-below t,
-  free-at.Post,
-  rejoin-reads.Asked,
-  rejoin-reads.Learnt,
-) (free-at-at t) free-at.Post
-free-at-sub-free-at-2 t c = omega arith
-
-free-at-sub-free-at-3 : (t : ℕ) → free-at-lts.Need-sub-free-at-3 (
-  live-tag-reads.Asked,
-  live-tag-reads.Learnt,
-  free-tag-reads.Asked,
-  free-tag-reads.Learnt,
-  free-at-below t,
-  free-at.Post,
-  rejoin-reads.Asked,
-  rejoin-reads.Learnt,
-) (free-at-at t) free-at.Post
-free-at-sub-free-at-3 t c = omega arith
-
-free-at-part-free-at-start : (t : ℕ) → free-at-lts.Need-part-free-at-start (
-  live-tag-reads.Asked,
-  live-tag-reads.Learnt,
-  free-tag-reads.Asked,
-  free-tag-reads.Learnt,
-  free-at-below t,
-  free-at.Post,
-  rejoin-reads.Asked,
-  rejoin-reads.Learnt,
-) (free-at-at t) free-at.Post
-free-at-part-free-at-start t c = omega arith
-
-free-at-part-free-at-end : (t : ℕ) → free-at-lts.Need-part-free-at-end (
-  live-tag-reads.Asked,
-  live-tag-reads.Learnt,
-  free-tag-reads.Asked,
-  free-tag-reads.Learnt,
-  free-at-below t,
-  free-at.Post,
-  rejoin-reads.Asked,
-  rejoin-reads.Learnt,
-) (free-at-at t) free-at.Post
-free-at-part-free-at-end t c = omega arith
-
-free-at-free-at-requires-2 : (t : ℕ) → free-at-lts.Need-free-at-requires-2 (
-  live-tag-reads.Asked,
-  live-tag-reads.Learnt,
-  free-tag-reads.Asked,
-  free-tag-reads.Learnt,
-  free-at-below t,
-  free-at.Post,
-  rejoin-reads.Asked,
-  rejoin-reads.Learnt,
-) (free-at-at t) free-at.Post
-free-at-free-at-requires-2 t c κs = (omega arith, (omega arith, high-length _ (c .before .before .before .before .before .before .before .before .before .before .args .tags .now) (omega arith) (c .before .before .before .before .before .before .before .before .before .before .pre .1 .1), omega (arith, half-size (c .before .before .before .before .before .before .before .before .before .before .args .k) _ (omega arith) (c .before .before .before .before .before .before .before .before .before .before .pre .1 .1), size-pred (c .before .before .before .before .before .before .before .before .before .before .args .k) (omega arith))))
-
-free-at-rejoin-requires-2 : (t : ℕ) → free-at-lts.Need-rejoin-requires-2 (
-  live-tag-reads.Asked,
-  live-tag-reads.Learnt,
-  free-tag-reads.Asked,
-  free-tag-reads.Learnt,
-  free-at-below t,
-  free-at.Post,
-  rejoin-reads.Asked,
-  rejoin-reads.Learnt,
-) (free-at-at t) free-at.Post
-free-at-rejoin-requires-2 t c κs = (omega arith, omega arith, c .before .before .tags3 .given .1 ∙ c .before .before .before .before .before .before .before .before .before .before .before .before .before .before .pre .1 .1)
-
-free-at-same-length-2 : (t : ℕ) → free-at-lts.Need-same-length-2 (
-  live-tag-reads.Asked,
-  live-tag-reads.Learnt,
-  free-tag-reads.Asked,
-  free-tag-reads.Learnt,
-  free-at-below t,
-  free-at.Post,
-  rejoin-reads.Asked,
-  rejoin-reads.Learnt,
-) (free-at-at t) free-at.Post
-free-at-same-length-2 t c = search needs
-
-free-at-returns-4 : (t : ℕ) → free-at-lts.Need-returns-4 (
-  live-tag-reads.Asked,
-  live-tag-reads.Learnt,
-  free-tag-reads.Asked,
-  free-tag-reads.Learnt,
-  free-at-below t,
-  free-at.Post,
-  rejoin-reads.Asked,
-  rejoin-reads.Learnt,
-) (free-at-at t) free-at.Post
-free-at-returns-4 t c = λ at s whole w.
-    let e = c .before .before .before .before .before .before .before .before .before .before .before .before .before .before .before .before .before in
-    frees-low (e .args .offset) at (e .args .tags .now) (c .before .before .before .before .before .before .free-at .last .1 .1 .0) (c .before .before .rejoin .last .1 .0) s (e .args .k) (omega arith) (c .before .before .before .before .before .before .before .before .if4 .taken)
-    (half-size _ _ (omega arith) (e .pre .1 .1)) (λ q. c .before .before .before .before .before .before .before .before .before .before .before .before .before .if1 .left (q ∙ sym (c .before .before .before .before .before .before .before .before .before .before .before .before .before .before .live-tag .ensures))) (λ q. c .before .before .before .before .before .before .before .before .before .before .if2 .left (q ∙ sym (c .before .before .before .before .before .before .before .before .before .before .before .free-tag2 .ensures)))
-    whole w (c .before .before .before .before .before .before .free-at .ensures at) (c .before .before .rejoin .ensures)
-
-free-at-same-length-3 : (t : ℕ) → free-at-lts.Need-same-length-3 (
-  live-tag-reads.Asked,
-  live-tag-reads.Learnt,
-  free-tag-reads.Asked,
-  free-tag-reads.Learnt,
-  free-at-below t,
-  free-at.Post,
-  rejoin-reads.Asked,
-  rejoin-reads.Learnt,
-) (free-at-at t) free-at.Post
-free-at-same-length-3 t c = search needs
-
-free-at-returns-5 : (t : ℕ) → free-at-lts.Need-returns-5 (
-  live-tag-reads.Asked,
-  live-tag-reads.Learnt,
-  free-tag-reads.Asked,
-  free-tag-reads.Learnt,
-  free-at-below t,
-  free-at.Post,
-  rejoin-reads.Asked,
-  rejoin-reads.Learnt,
-) (free-at-at t) free-at.Post
-free-at-returns-5 t c = λ at s whole w.
-    let e = c .before .before .before .before .before .before .before .before .before .before .before .before .before .before .before .before .before in
-    frees-high (e .args .offset) at (e .args .tags .now) (c .before .before .before .before .before .before .free-at2 .last .1 .1 .0) (c .before .before .rejoin2 .last .1 .0) s (e .args .k) (omega arith) (omega arith)
-    (half-size _ _ (omega arith) (e .pre .1 .1)) (λ q. c .before .before .before .before .before .before .before .before .before .before .before .before .before .if1 .left (q ∙ sym (c .before .before .before .before .before .before .before .before .before .before .before .before .before .before .live-tag .ensures))) (λ q. c .before .before .before .before .before .before .before .before .before .before .if2 .left (q ∙ sym (c .before .before .before .before .before .before .before .before .before .before .before .free-tag2 .ensures)))
-    whole w (c .before .before .before .before .before .before .free-at2 .ensures (at + length (e .args .tags .now) / 2)) (c .before .before .rejoin2 .ensures)
-
-pub +free-at-spec : {M : Type 1} → statement M
-+free-at-spec = close μ-free-at λ t. free-at-lts.spec (
+-- what the calls ask and give, below the measure t
+abbrev free-at-calls : ℕ → In 0 live-tag-kinds.ps × Out 0 live-tag-kinds.ps live-tag-kinds.r × In 0 free-tag-kinds.ps × Out 0 free-tag-kinds.ps free-tag-kinds.r × In 1 free-at-kinds.ps × Out 1 free-at-kinds.ps free-at-kinds.r × In 1 rejoin-kinds.ps × Out 1 rejoin-kinds.ps rejoin-kinds.r
+free-at-calls t = (
   live-tag-reads.Asked,
   live-tag-reads.Learnt,
   free-tag-reads.Asked,
@@ -349,6 +45,92 @@ pub +free-at-spec : {M : Type 1} → statement M
   rejoin-reads.Asked,
   rejoin-reads.Learnt,
 )
+
+free-at-slice-read-if1 : (t : ℕ) → free-at-lts.Need-slice-read-if1 (free-at-calls t) (free-at-at t) free-at.Post
+free-at-slice-read-if1 t c = omega (arith, size-pos (c .before .before .args .k))
+
+free-at-live-tag-requires : (t : ℕ) → free-at-lts.Need-live-tag-requires (free-at-calls t) (free-at-at t) free-at.Post
+free-at-live-tag-requires t c κs = omega arith
+
+free-at-free-tag-requires : (t : ℕ) → free-at-lts.Need-free-tag-requires (free-at-calls t) (free-at-at t) free-at.Post
+free-at-free-tag-requires t c κs = omega arith
+
+free-at-slice-write-tags : (t : ℕ) → free-at-lts.Need-slice-write-tags (free-at-calls t) (free-at-at t) free-at.Post
+free-at-slice-write-tags t c = omega (arith, size-pos (c .before .before .before .before .before .args .k))
+
+free-at-same-length : (t : ℕ) → free-at-lts.Need-same-length (free-at-calls t) (free-at-at t) free-at.Post
+free-at-same-length t c = search needs
+
+free-at-returns : (t : ℕ) → free-at-lts.Need-returns (free-at-calls t) (free-at-at t) free-at.Post
+free-at-returns t c = λ at s whole w. frees-live (c .before .before .before .before .before .args .k) (c .free-tag .result) _ at _ s (c .before .if1 .taken ∙ c .before .before .live-tag .ensures) (c .free-tag .ensures) w
+
+free-at-slice-read-if2 : (t : ℕ) → free-at-lts.Need-slice-read-if2 (free-at-calls t) (free-at-at t) free-at.Post
+free-at-slice-read-if2 t c = omega (arith, size-pos (c .before .before .before .before .before .args .k))
+
+free-at-free-tag-requires-2 : (t : ℕ) → free-at-lts.Need-free-tag-requires-2 (free-at-calls t) (free-at-at t) free-at.Post
+free-at-free-tag-requires-2 t c κs = omega arith
+
+free-at-returns-2 : (t : ℕ) → free-at-lts.Need-returns-2 (free-at-calls t) (free-at-at t) free-at.Post
+free-at-returns-2 t c = λ at s whole w. frees-free (c .before .before .before .before .before .before .before .args .k) _ at _ s (c .if2 .taken ∙ c .before .free-tag2 .ensures) w
+
+free-at-returns-3 : (t : ℕ) → free-at-lts.Need-returns-3 (free-at-calls t) (free-at-at t) free-at.Post
+free-at-returns-3 t c = λ at s whole w. frees-word (c .before .before .before .before .before .before .before .before .args .k) _ at _ s (c .if3 .taken) (λ q. c .before .before .before .before .if1 .left (q ∙ sym (c .before .before .before .before .before .live-tag .ensures))) w
+
+free-at-sub-free-at : (t : ℕ) → free-at-lts.Need-sub-free-at (free-at-calls t) (free-at-at t) free-at.Post
+free-at-sub-free-at t c = omega arith
+
+free-at-slice-relend-prefix-free-at : (t : ℕ) → free-at-lts.Need-slice-relend-prefix-free-at (free-at-calls t) (free-at-at t) free-at.Post
+free-at-slice-relend-prefix-free-at t c = omega arith
+
+free-at-slice-aggregate-free-at : (t : ℕ) → free-at-lts.Need-slice-aggregate-free-at (free-at-calls t) (free-at-at t) free-at.Post
+free-at-slice-aggregate-free-at t c = sym (length-take-le _ _ (omega arith))
+
+free-at-free-at-requires : (t : ℕ) → free-at-lts.Need-free-at-requires (free-at-calls t) (free-at-at t) free-at.Post
+free-at-free-at-requires t c κs = (omega arith, (omega arith, low-length _ (c .before .before .before .before .before .before .before .before .before .before .args .tags .now) (omega arith) (c .before .before .before .before .before .before .before .before .before .before .pre .1 .1), omega (arith, half-size (c .before .before .before .before .before .before .before .before .before .before .args .k) _ (omega arith) (c .before .before .before .before .before .before .before .before .before .before .pre .1 .1))))
+
+free-at-rejoin-requires : (t : ℕ) → free-at-lts.Need-rejoin-requires (free-at-calls t) (free-at-at t) free-at.Post
+free-at-rejoin-requires t c κs = (omega arith, omega arith, c .before .before .tags .given .1 ∙ c .before .before .before .before .before .before .before .before .before .before .before .before .before .before .pre .1 .1)
+
+free-at-sub-free-at-2 : (t : ℕ) → free-at-lts.Need-sub-free-at-2 (free-at-calls t) (free-at-at t) free-at.Post
+free-at-sub-free-at-2 t c = omega arith
+
+free-at-sub-free-at-3 : (t : ℕ) → free-at-lts.Need-sub-free-at-3 (free-at-calls t) (free-at-at t) free-at.Post
+free-at-sub-free-at-3 t c = omega arith
+
+free-at-part-free-at-start : (t : ℕ) → free-at-lts.Need-part-free-at-start (free-at-calls t) (free-at-at t) free-at.Post
+free-at-part-free-at-start t c = omega arith
+
+free-at-part-free-at-end : (t : ℕ) → free-at-lts.Need-part-free-at-end (free-at-calls t) (free-at-at t) free-at.Post
+free-at-part-free-at-end t c = omega arith
+
+free-at-free-at-requires-2 : (t : ℕ) → free-at-lts.Need-free-at-requires-2 (free-at-calls t) (free-at-at t) free-at.Post
+free-at-free-at-requires-2 t c κs = (omega arith, (omega arith, high-length _ (c .before .before .before .before .before .before .before .before .before .before .args .tags .now) (omega arith) (c .before .before .before .before .before .before .before .before .before .before .pre .1 .1), omega (arith, half-size (c .before .before .before .before .before .before .before .before .before .before .args .k) _ (omega arith) (c .before .before .before .before .before .before .before .before .before .before .pre .1 .1), size-pred (c .before .before .before .before .before .before .before .before .before .before .args .k) (omega arith))))
+
+free-at-rejoin-requires-2 : (t : ℕ) → free-at-lts.Need-rejoin-requires-2 (free-at-calls t) (free-at-at t) free-at.Post
+free-at-rejoin-requires-2 t c κs = (omega arith, omega arith, c .before .before .tags3 .given .1 ∙ c .before .before .before .before .before .before .before .before .before .before .before .before .before .before .pre .1 .1)
+
+free-at-same-length-2 : (t : ℕ) → free-at-lts.Need-same-length-2 (free-at-calls t) (free-at-at t) free-at.Post
+free-at-same-length-2 t c = search needs
+
+free-at-returns-4 : (t : ℕ) → free-at-lts.Need-returns-4 (free-at-calls t) (free-at-at t) free-at.Post
+free-at-returns-4 t c = λ at s whole w.
+    let e = c .before .before .before .before .before .before .before .before .before .before .before .before .before .before .before .before .before in
+    frees-low (e .args .offset) at (e .args .tags .now) (c .before .before .before .before .before .before .free-at .last .1 .1 .0) (c .before .before .rejoin .last .1 .0) s (e .args .k) (omega arith) (c .before .before .before .before .before .before .before .before .if4 .taken)
+    (half-size _ _ (omega arith) (e .pre .1 .1)) (λ q. c .before .before .before .before .before .before .before .before .before .before .before .before .before .if1 .left (q ∙ sym (c .before .before .before .before .before .before .before .before .before .before .before .before .before .before .live-tag .ensures))) (λ q. c .before .before .before .before .before .before .before .before .before .before .if2 .left (q ∙ sym (c .before .before .before .before .before .before .before .before .before .before .before .free-tag2 .ensures)))
+    whole w (c .before .before .before .before .before .before .free-at .ensures at) (c .before .before .rejoin .ensures)
+
+free-at-same-length-3 : (t : ℕ) → free-at-lts.Need-same-length-3 (free-at-calls t) (free-at-at t) free-at.Post
+free-at-same-length-3 t c = search needs
+
+free-at-returns-5 : (t : ℕ) → free-at-lts.Need-returns-5 (free-at-calls t) (free-at-at t) free-at.Post
+free-at-returns-5 t c = λ at s whole w.
+    let e = c .before .before .before .before .before .before .before .before .before .before .before .before .before .before .before .before .before in
+    frees-high (e .args .offset) at (e .args .tags .now) (c .before .before .before .before .before .before .free-at2 .last .1 .1 .0) (c .before .before .rejoin2 .last .1 .0) s (e .args .k) (omega arith) (omega arith)
+    (half-size _ _ (omega arith) (e .pre .1 .1)) (λ q. c .before .before .before .before .before .before .before .before .before .before .before .before .before .if1 .left (q ∙ sym (c .before .before .before .before .before .before .before .before .before .before .before .before .before .before .live-tag .ensures))) (λ q. c .before .before .before .before .before .before .before .before .before .before .if2 .left (q ∙ sym (c .before .before .before .before .before .before .before .before .before .before .before .free-tag2 .ensures)))
+    whole w (c .before .before .before .before .before .before .free-at2 .ensures (at + length (e .args .tags .now) / 2)) (c .before .before .rejoin2 .ensures)
+
+pub +free-at-spec : {M : Type 1} → statement M
++free-at-spec = close μ-free-at λ t. free-at-lts.spec (free-at-calls t)
     (free-at-at t)
     free-at.Post
     (free-at-slice-read-if1 t)

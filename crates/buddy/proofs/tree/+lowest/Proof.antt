@@ -12,8 +12,10 @@ use Rattle.buddy.proofs.Size.{size-pos}
 use Rattle.buddy.proofs.Halves.{half-size, size-pred, low-length, high-length}
 use Rattle.buddy.proofs.Lowest.{lowest-free, lowest-live, lowest-small, lowest-halves}
 use Prim.Native.Nat.{ℕ, _<_}
-use borrow.Fn.Kinds.{In}
+use borrow.Fn.Kinds.{In, Out}
 use borrow.Fn.PlainCycle.{Measures, is, falls, and}
+use Rattle.buddy.proofs.tree.free_tag.Kinds as free-tag-kinds
+use Rattle.buddy.proofs.tree.live_tag.Kinds as live-tag-kinds
 use Rattle.buddy.proofs.tree.lowest.Reads as lowest
 use Rattle.buddy.proofs.tree.lowest.Kinds as lowest-kinds
 use Rattle.buddy.proofs.tree.+lowest.Lts-lowest as lowest-lts
@@ -31,194 +33,72 @@ lowest-at t = and 1 lowest-kinds.ps (is 1 lowest-kinds.ps μ-lowest t) lowest.Pr
 abbrev lowest-below : ℕ → In 1 lowest-kinds.ps
 lowest-below t = and 1 lowest-kinds.ps (falls 1 lowest-kinds.ps _<_ μ-lowest t) lowest.Pre
 
-lowest-shared-slice-read-if1 : (t : ℕ) → lowest-lts.Need-shared-slice-read-if1 (
+-- what the calls ask and give, below the measure t
+abbrev lowest-calls : ℕ → In 0 free-tag-kinds.ps × Out 0 free-tag-kinds.ps free-tag-kinds.r × In 0 live-tag-kinds.ps × Out 0 live-tag-kinds.ps live-tag-kinds.r × In 1 lowest-kinds.ps × Out 1 lowest-kinds.ps lowest-kinds.r
+lowest-calls t = (
   free-tag-reads.Asked,
   free-tag-reads.Learnt,
   live-tag-reads.Asked,
   live-tag-reads.Learnt,
   lowest-below t,
   lowest.Post,
-) (lowest-at t) lowest.Post
+)
+
+lowest-shared-slice-read-if1 : (t : ℕ) → lowest-lts.Need-shared-slice-read-if1 (lowest-calls t) (lowest-at t) lowest.Post
 lowest-shared-slice-read-if1 t c = omega (arith, size-pos (c .before .before .args .k))
 
-lowest-free-tag-requires : (t : ℕ) → lowest-lts.Need-free-tag-requires (
-  free-tag-reads.Asked,
-  free-tag-reads.Learnt,
-  live-tag-reads.Asked,
-  live-tag-reads.Learnt,
-  lowest-below t,
-  lowest.Post,
-) (lowest-at t) lowest.Post
+lowest-free-tag-requires : (t : ℕ) → lowest-lts.Need-free-tag-requires (lowest-calls t) (lowest-at t) lowest.Post
 lowest-free-tag-requires t c κs = omega arith
 
-lowest-returns : (t : ℕ) → lowest-lts.Need-returns (
-  free-tag-reads.Asked,
-  free-tag-reads.Learnt,
-  live-tag-reads.Asked,
-  live-tag-reads.Learnt,
-  lowest-below t,
-  lowest.Post,
-) (lowest-at t) lowest.Post
+lowest-returns : (t : ℕ) → lowest-lts.Need-returns (lowest-calls t) (lowest-at t) lowest.Post
 lowest-returns t c = λ s whole w. lowest-free _ (c .before .before .before .before .args .k) _ _ s w (c .if1 .taken ∙ c .before .free-tag .ensures)
 
-lowest-shared-slice-read-if2 : (t : ℕ) → lowest-lts.Need-shared-slice-read-if2 (
-  free-tag-reads.Asked,
-  free-tag-reads.Learnt,
-  live-tag-reads.Asked,
-  live-tag-reads.Learnt,
-  lowest-below t,
-  lowest.Post,
-) (lowest-at t) lowest.Post
+lowest-shared-slice-read-if2 : (t : ℕ) → lowest-lts.Need-shared-slice-read-if2 (lowest-calls t) (lowest-at t) lowest.Post
 lowest-shared-slice-read-if2 t c = omega (arith, size-pos (c .before .before .before .before .before .args .k))
 
-lowest-live-tag-requires : (t : ℕ) → lowest-lts.Need-live-tag-requires (
-  free-tag-reads.Asked,
-  free-tag-reads.Learnt,
-  live-tag-reads.Asked,
-  live-tag-reads.Learnt,
-  lowest-below t,
-  lowest.Post,
-) (lowest-at t) lowest.Post
+lowest-live-tag-requires : (t : ℕ) → lowest-lts.Need-live-tag-requires (lowest-calls t) (lowest-at t) lowest.Post
 lowest-live-tag-requires t c κs = omega arith
 
-lowest-returns-2 : (t : ℕ) → lowest-lts.Need-returns-2 (
-  free-tag-reads.Asked,
-  free-tag-reads.Learnt,
-  live-tag-reads.Asked,
-  live-tag-reads.Learnt,
-  lowest-below t,
-  lowest.Post,
-) (lowest-at t) lowest.Post
+lowest-returns-2 : (t : ℕ) → lowest-lts.Need-returns-2 (lowest-calls t) (lowest-at t) lowest.Post
 lowest-returns-2 t c = λ s whole w. lowest-live _ (c .before .before .before .before .before .before .before .args .k) _ _ s w (c .if2 .taken ∙ c .before .live-tag .ensures)
 
-lowest-returns-3 : (t : ℕ) → lowest-lts.Need-returns-3 (
-  free-tag-reads.Asked,
-  free-tag-reads.Learnt,
-  live-tag-reads.Asked,
-  live-tag-reads.Learnt,
-  lowest-below t,
-  lowest.Post,
-) (lowest-at t) lowest.Post
+lowest-returns-3 : (t : ℕ) → lowest-lts.Need-returns-3 (lowest-calls t) (lowest-at t) lowest.Post
 lowest-returns-3 t c = λ s whole w. lowest-small _ (c .before .before .before .before .before .before .before .before .args .k) _ _ s w (c .if3 .taken) (λ q. c .before .before .before .before .if1 .left (q ∙ sym (c .before .before .before .before .before .free-tag .ensures)))
 
-lowest-sub-lowest : (t : ℕ) → lowest-lts.Need-sub-lowest (
-  free-tag-reads.Asked,
-  free-tag-reads.Learnt,
-  live-tag-reads.Asked,
-  live-tag-reads.Learnt,
-  lowest-below t,
-  lowest.Post,
-) (lowest-at t) lowest.Post
+lowest-sub-lowest : (t : ℕ) → lowest-lts.Need-sub-lowest (lowest-calls t) (lowest-at t) lowest.Post
 lowest-sub-lowest t c = omega arith
 
-lowest-slice-aggregate-lowest : (t : ℕ) → lowest-lts.Need-slice-aggregate-lowest (
-  free-tag-reads.Asked,
-  free-tag-reads.Learnt,
-  live-tag-reads.Asked,
-  live-tag-reads.Learnt,
-  lowest-below t,
-  lowest.Post,
-) (lowest-at t) lowest.Post
+lowest-slice-aggregate-lowest : (t : ℕ) → lowest-lts.Need-slice-aggregate-lowest (lowest-calls t) (lowest-at t) lowest.Post
 lowest-slice-aggregate-lowest t c = sym (length-take-le _ _ (omega arith))
 
-lowest-lowest-requires : (t : ℕ) → lowest-lts.Need-lowest-requires (
-  free-tag-reads.Asked,
-  free-tag-reads.Learnt,
-  live-tag-reads.Asked,
-  live-tag-reads.Learnt,
-  lowest-below t,
-  lowest.Post,
-) (lowest-at t) lowest.Post
+lowest-lowest-requires : (t : ℕ) → lowest-lts.Need-lowest-requires (lowest-calls t) (lowest-at t) lowest.Post
 lowest-lowest-requires t c κs = (omega arith, (omega arith, omega arith, low-length _ (c .before .before .before .before .before .before .before .before .before .args .tags .now) (omega arith) (c .before .before .before .before .before .before .before .before .before .pre .1 .2), omega (arith, size-pred (c .before .before .before .before .before .before .before .before .before .args .k) (omega arith))))
 
-lowest-enum-known-low : (t : ℕ) → lowest-lts.Need-enum-known-low (
-  free-tag-reads.Asked,
-  free-tag-reads.Learnt,
-  live-tag-reads.Asked,
-  live-tag-reads.Learnt,
-  lowest-below t,
-  lowest.Post,
-) (lowest-at t) lowest.Post
+lowest-enum-known-low : (t : ℕ) → lowest-lts.Need-enum-known-low (lowest-calls t) (lowest-at t) lowest.Post
 lowest-enum-known-low t c = search needs
 
-lowest-enum-told : (t : ℕ) → lowest-lts.Need-enum-told (
-  free-tag-reads.Asked,
-  free-tag-reads.Learnt,
-  live-tag-reads.Asked,
-  live-tag-reads.Learnt,
-  lowest-below t,
-  lowest.Post,
-) (lowest-at t) lowest.Post
+lowest-enum-told : (t : ℕ) → lowest-lts.Need-enum-told (lowest-calls t) (lowest-at t) lowest.Post
 lowest-enum-told t c = search needs
 
-lowest-sub-lowest-2 : (t : ℕ) → lowest-lts.Need-sub-lowest-2 (
-  free-tag-reads.Asked,
-  free-tag-reads.Learnt,
-  live-tag-reads.Asked,
-  live-tag-reads.Learnt,
-  lowest-below t,
-  lowest.Post,
-) (lowest-at t) lowest.Post
+lowest-sub-lowest-2 : (t : ℕ) → lowest-lts.Need-sub-lowest-2 (lowest-calls t) (lowest-at t) lowest.Post
 lowest-sub-lowest-2 t c = omega arith
 
-lowest-add-lowest : (t : ℕ) → lowest-lts.Need-add-lowest (
-  free-tag-reads.Asked,
-  free-tag-reads.Learnt,
-  live-tag-reads.Asked,
-  live-tag-reads.Learnt,
-  lowest-below t,
-  lowest.Post,
-) (lowest-at t) lowest.Post
+lowest-add-lowest : (t : ℕ) → lowest-lts.Need-add-lowest (lowest-calls t) (lowest-at t) lowest.Post
 lowest-add-lowest t c = record { fits = omega (arith, half-size (c .before .before .before .before .before .before .before .before .before .before .before .before .args .k) _ (omega arith) (c .before .before .before .before .before .before .before .before .before .before .before .before .pre .1 .2), size-pred (c .before .before .before .before .before .before .before .before .before .before .before .before .args .k) (omega arith)) }
 
-lowest-sub-lowest-3 : (t : ℕ) → lowest-lts.Need-sub-lowest-3 (
-  free-tag-reads.Asked,
-  free-tag-reads.Learnt,
-  live-tag-reads.Asked,
-  live-tag-reads.Learnt,
-  lowest-below t,
-  lowest.Post,
-) (lowest-at t) lowest.Post
+lowest-sub-lowest-3 : (t : ℕ) → lowest-lts.Need-sub-lowest-3 (lowest-calls t) (lowest-at t) lowest.Post
 lowest-sub-lowest-3 t c = omega arith
 
-lowest-part-lowest-start : (t : ℕ) → lowest-lts.Need-part-lowest-start (
-  free-tag-reads.Asked,
-  free-tag-reads.Learnt,
-  live-tag-reads.Asked,
-  live-tag-reads.Learnt,
-  lowest-below t,
-  lowest.Post,
-) (lowest-at t) lowest.Post
+lowest-part-lowest-start : (t : ℕ) → lowest-lts.Need-part-lowest-start (lowest-calls t) (lowest-at t) lowest.Post
 lowest-part-lowest-start t c = omega arith
 
-lowest-part-lowest-end : (t : ℕ) → lowest-lts.Need-part-lowest-end (
-  free-tag-reads.Asked,
-  free-tag-reads.Learnt,
-  live-tag-reads.Asked,
-  live-tag-reads.Learnt,
-  lowest-below t,
-  lowest.Post,
-) (lowest-at t) lowest.Post
+lowest-part-lowest-end : (t : ℕ) → lowest-lts.Need-part-lowest-end (lowest-calls t) (lowest-at t) lowest.Post
 lowest-part-lowest-end t c = omega arith
 
-lowest-lowest-requires-2 : (t : ℕ) → lowest-lts.Need-lowest-requires-2 (
-  free-tag-reads.Asked,
-  free-tag-reads.Learnt,
-  live-tag-reads.Asked,
-  live-tag-reads.Learnt,
-  lowest-below t,
-  lowest.Post,
-) (lowest-at t) lowest.Post
+lowest-lowest-requires-2 : (t : ℕ) → lowest-lts.Need-lowest-requires-2 (lowest-calls t) (lowest-at t) lowest.Post
 lowest-lowest-requires-2 t c κs = (omega arith, (omega arith, omega arith, high-length _ (c .before .before .before .before .before .before .before .before .before .before .before .before .before .args .tags .now) (omega arith) (c .before .before .before .before .before .before .before .before .before .before .before .before .before .pre .1 .2), omega (arith, half-size (c .before .before .before .before .before .before .before .before .before .before .before .before .before .args .k) _ (omega arith) (c .before .before .before .before .before .before .before .before .before .before .before .before .before .pre .1 .2), size-pred (c .before .before .before .before .before .before .before .before .before .before .before .before .before .args .k) (omega arith))))
 
-lowest-returns-4 : (t : ℕ) → lowest-lts.Need-returns-4 (
-  free-tag-reads.Asked,
-  free-tag-reads.Learnt,
-  live-tag-reads.Asked,
-  live-tag-reads.Learnt,
-  lowest-below t,
-  lowest.Post,
-) (lowest-at t) lowest.Post
+lowest-returns-4 : (t : ℕ) → lowest-lts.Need-returns-4 (lowest-calls t) (lowest-at t) lowest.Post
 unfolding orElse
 lowest-returns-4 t c = λ s whole w.
     let e = c .before .before .before .before .before .before .before .before .before .before .before .before .before in
@@ -228,14 +108,7 @@ lowest-returns-4 t c = λ s whole w.
     (half-size _ _ (omega arith) (e .pre .1 .2)) (λ q. c .before .before .before .before .before .before .if2 .left (q ∙ sym (c .before .before .before .before .before .before .before .live-tag .ensures))) (λ q. c .before .before .before .before .before .before .before .before .before .if1 .left (q ∙ sym (c .before .before .before .before .before .before .before .before .before .before .free-tag .ensures)))
     whole w (c .before .before .before .lowest .ensures) (λ none. absurd (let z : _≡_ {A = ℕ} 0 1 = cc (none, found) in omega arith))
 
-lowest-returns-5 : (t : ℕ) → lowest-lts.Need-returns-5 (
-  free-tag-reads.Asked,
-  free-tag-reads.Learnt,
-  live-tag-reads.Asked,
-  live-tag-reads.Learnt,
-  lowest-below t,
-  lowest.Post,
-) (lowest-at t) lowest.Post
+lowest-returns-5 : (t : ℕ) → lowest-lts.Need-returns-5 (lowest-calls t) (lowest-at t) lowest.Post
 unfolding orElse
 lowest-returns-5 t c = λ s whole w.
     let e = c .before .before .before .before .before .before .before .before .before .before .before .before .before .before in
@@ -246,14 +119,7 @@ lowest-returns-5 t c = λ s whole w.
     whole w (c .before .before .before .before .lowest .ensures) (λ _. c .lowest2 .ensures)
 
 pub +lowest-spec : {M : Type 1} → statement M
-+lowest-spec = close μ-lowest λ t. lowest-lts.spec (
-  free-tag-reads.Asked,
-  free-tag-reads.Learnt,
-  live-tag-reads.Asked,
-  live-tag-reads.Learnt,
-  lowest-below t,
-  lowest.Post,
-)
++lowest-spec = close μ-lowest λ t. lowest-lts.spec (lowest-calls t)
     (lowest-at t)
     lowest.Post
     (lowest-shared-slice-read-if1 t)

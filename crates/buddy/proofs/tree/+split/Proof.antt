@@ -9,8 +9,10 @@ use Rattle.buddy.proofs.Size.{size-pos}
 use Rattle.buddy.proofs.Halves.{half-size}
 use Rattle.buddy.proofs.Tags.{split-ends, split-goes}
 use Prim.Native.Nat.{ℕ, _<_}
-use borrow.Fn.Kinds.{In}
+use borrow.Fn.Kinds.{In, Out}
 use borrow.Fn.PlainCycle.{Measures, is, falls, and}
+use Rattle.buddy.proofs.tree.live_tag.Kinds as live-tag-kinds
+use Rattle.buddy.proofs.tree.free_tag.Kinds as free-tag-kinds
 use Rattle.buddy.proofs.tree.split.Reads as split
 use Rattle.buddy.proofs.tree.split.Kinds as split-kinds
 use Rattle.buddy.proofs.tree.+split.Lts-split as split-lts
@@ -28,148 +30,9 @@ split-at t = and 1 split-kinds.ps (is 1 split-kinds.ps μ-split t) split.Pre
 abbrev split-below : ℕ → In 1 split-kinds.ps
 split-below t = and 1 split-kinds.ps (falls 1 split-kinds.ps _<_ μ-split t) split.Pre
 
-split-live-tag-requires : (t : ℕ) → split-lts.Need-live-tag-requires (
-  live-tag-reads.Asked,
-  live-tag-reads.Learnt,
-  free-tag-reads.Asked,
-  free-tag-reads.Learnt,
-  split-below t,
-  split.Post,
-) (split-at t) split.Post
-split-live-tag-requires t c κs = omega arith
-
-split-slice-write-tags : (t : ℕ) → split-lts.Need-slice-write-tags (
-  live-tag-reads.Asked,
-  live-tag-reads.Learnt,
-  free-tag-reads.Asked,
-  free-tag-reads.Learnt,
-  split-below t,
-  split.Post,
-) (split-at t) split.Post
-split-slice-write-tags t c = omega (arith, size-pos (c .before .before .before .args .k))
-
-split-same-length : (t : ℕ) → split-lts.Need-same-length (
-  live-tag-reads.Asked,
-  live-tag-reads.Learnt,
-  free-tag-reads.Asked,
-  free-tag-reads.Learnt,
-  split-below t,
-  split.Post,
-) (split-at t) split.Post
-split-same-length t c = search needs
-
-split-returns : (t : ℕ) → split-lts.Need-returns (
-  live-tag-reads.Asked,
-  live-tag-reads.Learnt,
-  free-tag-reads.Asked,
-  free-tag-reads.Learnt,
-  split-below t,
-  split.Post,
-) (split-at t) split.Post
-split-returns t c = λ at w. split-ends (c .before .before .before .args .k) (c .before .before .before .args .j) (c .live-tag .result) at _ (c .before .if1 .taken) (c .live-tag .ensures) w
-
-split-sub-free-tag : (t : ℕ) → split-lts.Need-sub-free-tag (
-  live-tag-reads.Asked,
-  live-tag-reads.Learnt,
-  free-tag-reads.Asked,
-  free-tag-reads.Learnt,
-  split-below t,
-  split.Post,
-) (split-at t) split.Post
-split-sub-free-tag t c = omega arith
-
-split-free-tag-requires : (t : ℕ) → split-lts.Need-free-tag-requires (
-  live-tag-reads.Asked,
-  live-tag-reads.Learnt,
-  free-tag-reads.Asked,
-  free-tag-reads.Learnt,
-  split-below t,
-  split.Post,
-) (split-at t) split.Post
-split-free-tag-requires t c κs = omega arith
-
-split-slice-write-tags-2 : (t : ℕ) → split-lts.Need-slice-write-tags-2 (
-  live-tag-reads.Asked,
-  live-tag-reads.Learnt,
-  free-tag-reads.Asked,
-  free-tag-reads.Learnt,
-  split-below t,
-  split.Post,
-) (split-at t) split.Post
-split-slice-write-tags-2 t c = omega (arith, size-pos (c .before .before .before .args .k))
-
-split-slice-write-tags-3 : (t : ℕ) → split-lts.Need-slice-write-tags-3 (
-  live-tag-reads.Asked,
-  live-tag-reads.Learnt,
-  free-tag-reads.Asked,
-  free-tag-reads.Learnt,
-  split-below t,
-  split.Post,
-) (split-at t) split.Post
-split-slice-write-tags-3 t c = simp length-set (omega (arith, size-pos (c .before .before .before .args .k)))
-
-split-sub-split : (t : ℕ) → split-lts.Need-sub-split (
-  live-tag-reads.Asked,
-  live-tag-reads.Learnt,
-  free-tag-reads.Asked,
-  free-tag-reads.Learnt,
-  split-below t,
-  split.Post,
-) (split-at t) split.Post
-split-sub-split t c = omega arith
-
-split-slice-relend-prefix-split : (t : ℕ) → split-lts.Need-slice-relend-prefix-split (
-  live-tag-reads.Asked,
-  live-tag-reads.Learnt,
-  free-tag-reads.Asked,
-  free-tag-reads.Learnt,
-  split-below t,
-  split.Post,
-) (split-at t) split.Post
-split-slice-relend-prefix-split t c = simp length-set (omega arith)
-
-split-slice-aggregate-split : (t : ℕ) → split-lts.Need-slice-aggregate-split (
-  live-tag-reads.Asked,
-  live-tag-reads.Learnt,
-  free-tag-reads.Asked,
-  free-tag-reads.Learnt,
-  split-below t,
-  split.Post,
-) (split-at t) split.Post
-split-slice-aggregate-split t c = sym (length-take-le _ _ (simp length-set (omega arith)))
-
-split-split-requires : (t : ℕ) → split-lts.Need-split-requires (
-  live-tag-reads.Asked,
-  live-tag-reads.Learnt,
-  free-tag-reads.Asked,
-  free-tag-reads.Learnt,
-  split-below t,
-  split.Post,
-) (split-at t) split.Post
-split-split-requires t c κs = (omega arith, (omega arith, omega arith, length-take-le _ _ (simp length-set (omega arith)) ∙ half-size _ _ (omega arith) (c .before .before .before .before .pre .1 .2)))
-
-split-same-length-2 : (t : ℕ) → split-lts.Need-same-length-2 (
-  live-tag-reads.Asked,
-  live-tag-reads.Learnt,
-  free-tag-reads.Asked,
-  free-tag-reads.Learnt,
-  split-below t,
-  split.Post,
-) (split-at t) split.Post
-split-same-length-2 t c = c .before .tags .given .1 ∙ simp length-set
-
-split-returns-2 : (t : ℕ) → split-lts.Need-returns-2 (
-  live-tag-reads.Asked,
-  live-tag-reads.Learnt,
-  free-tag-reads.Asked,
-  free-tag-reads.Learnt,
-  split-below t,
-  split.Post,
-) (split-at t) split.Post
-split-returns-2 t c = λ at w. split-goes (c .before .before .before .before .before .before .before .args .k) (c .before .before .before .before .before .before .before .args .j) (c .before .before .before .before .free-tag .result) at (c .before .before .before .before .before .before .before .args .tags .now) (c .before .before .split .last .1 .1 .0) (omega arith) (half-size _ _ (omega arith) (c .before .before .before .before .before .before .before .pre .1 .2)) (c .before .before .before .before .free-tag .ensures) w (c .before .before .split .ensures at)
-
-pub +split-spec : {M : Type 1} → statement M
-+split-spec = close μ-split λ t. split-lts.spec (
+-- what the calls ask and give, below the measure t
+abbrev split-calls : ℕ → In 0 live-tag-kinds.ps × Out 0 live-tag-kinds.ps live-tag-kinds.r × In 0 free-tag-kinds.ps × Out 0 free-tag-kinds.ps free-tag-kinds.r × In 1 split-kinds.ps × Out 1 split-kinds.ps split-kinds.r
+split-calls t = (
   live-tag-reads.Asked,
   live-tag-reads.Learnt,
   free-tag-reads.Asked,
@@ -177,6 +40,51 @@ pub +split-spec : {M : Type 1} → statement M
   split-below t,
   split.Post,
 )
+
+split-live-tag-requires : (t : ℕ) → split-lts.Need-live-tag-requires (split-calls t) (split-at t) split.Post
+split-live-tag-requires t c κs = omega arith
+
+split-slice-write-tags : (t : ℕ) → split-lts.Need-slice-write-tags (split-calls t) (split-at t) split.Post
+split-slice-write-tags t c = omega (arith, size-pos (c .before .before .before .args .k))
+
+split-same-length : (t : ℕ) → split-lts.Need-same-length (split-calls t) (split-at t) split.Post
+split-same-length t c = search needs
+
+split-returns : (t : ℕ) → split-lts.Need-returns (split-calls t) (split-at t) split.Post
+split-returns t c = λ at w. split-ends (c .before .before .before .args .k) (c .before .before .before .args .j) (c .live-tag .result) at _ (c .before .if1 .taken) (c .live-tag .ensures) w
+
+split-sub-free-tag : (t : ℕ) → split-lts.Need-sub-free-tag (split-calls t) (split-at t) split.Post
+split-sub-free-tag t c = omega arith
+
+split-free-tag-requires : (t : ℕ) → split-lts.Need-free-tag-requires (split-calls t) (split-at t) split.Post
+split-free-tag-requires t c κs = omega arith
+
+split-slice-write-tags-2 : (t : ℕ) → split-lts.Need-slice-write-tags-2 (split-calls t) (split-at t) split.Post
+split-slice-write-tags-2 t c = omega (arith, size-pos (c .before .before .before .args .k))
+
+split-slice-write-tags-3 : (t : ℕ) → split-lts.Need-slice-write-tags-3 (split-calls t) (split-at t) split.Post
+split-slice-write-tags-3 t c = simp length-set (omega (arith, size-pos (c .before .before .before .args .k)))
+
+split-sub-split : (t : ℕ) → split-lts.Need-sub-split (split-calls t) (split-at t) split.Post
+split-sub-split t c = omega arith
+
+split-slice-relend-prefix-split : (t : ℕ) → split-lts.Need-slice-relend-prefix-split (split-calls t) (split-at t) split.Post
+split-slice-relend-prefix-split t c = simp length-set (omega arith)
+
+split-slice-aggregate-split : (t : ℕ) → split-lts.Need-slice-aggregate-split (split-calls t) (split-at t) split.Post
+split-slice-aggregate-split t c = sym (length-take-le _ _ (simp length-set (omega arith)))
+
+split-split-requires : (t : ℕ) → split-lts.Need-split-requires (split-calls t) (split-at t) split.Post
+split-split-requires t c κs = (omega arith, (omega arith, omega arith, length-take-le _ _ (simp length-set (omega arith)) ∙ half-size _ _ (omega arith) (c .before .before .before .before .pre .1 .2)))
+
+split-same-length-2 : (t : ℕ) → split-lts.Need-same-length-2 (split-calls t) (split-at t) split.Post
+split-same-length-2 t c = c .before .tags .given .1 ∙ simp length-set
+
+split-returns-2 : (t : ℕ) → split-lts.Need-returns-2 (split-calls t) (split-at t) split.Post
+split-returns-2 t c = λ at w. split-goes (c .before .before .before .before .before .before .before .args .k) (c .before .before .before .before .before .before .before .args .j) (c .before .before .before .before .free-tag .result) at (c .before .before .before .before .before .before .before .args .tags .now) (c .before .before .split .last .1 .1 .0) (omega arith) (half-size _ _ (omega arith) (c .before .before .before .before .before .before .before .pre .1 .2)) (c .before .before .before .before .free-tag .ensures) w (c .before .before .split .ensures at)
+
+pub +split-spec : {M : Type 1} → statement M
++split-spec = close μ-split λ t. split-lts.spec (split-calls t)
     (split-at t)
     split.Post
     (split-live-tag-requires t)
