@@ -12,7 +12,7 @@ use lib.ListN.{replicate}
 use borrow.Author.Tests.{eqb-true, eq-eqb, leb-true, le-leb}
 use Rattle.buddy.specs.Blocks.{size, Block, Tree, Free, Live, Halves, liveIn, freeIn, gathered}
 use Rattle.buddy.specs.Map.{isFree, canonical, allCanonical}
-use Rattle.buddy.proofs.Tests.{and-true, by-test, by-leb}
+use Rattle.word.proofs.Tests.{and-true, by-test, by-leb}
 use Rattle.buddy.proofs.Size.{size-pos, size-suc, size-mono, aligned-smaller}
 use Rattle.buddy.proofs.Map.{canonical-halves}
 use Rattle.buddy.proofs.Each.{each-mem}

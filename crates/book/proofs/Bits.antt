@@ -14,7 +14,7 @@ use Rattle.word.specs.Word.{bit}
 use Rattle.word.specs.Field.{kept, stored}
 use Rattle.word.proofs.Field.{bit-stored-inside, bit-stored-left, bit-stored-right}
 use Rattle.buddy.specs.Blocks.{sizeAt}
-use Rattle.buddy.proofs.Tests.{by-leb, by-eqb}
+use Rattle.word.proofs.Tests.{by-leb, by-eqb}
 use Rattle.buddy.proofs.Each.{Each, each-nil, each-cons}
 use Rattle.engine.specs.declared.Store.{Store}
 use Rattle.engine.specs.Storage.{wordAt, placed}

@@ -12,7 +12,7 @@ use lib.ListN.{length}
 use borrow.Author.Tests.{lt-ltb, le-ltb, le-leb, eq-eqb}
 use Rattle.buddy.specs.Blocks.{size, Block, Tree, Free, Live, Halves, liveIn, freeIn, delivered, gathered, changed, outside}
 use Rattle.buddy.specs.Map.{canonical, allCanonical}
-use Rattle.buddy.proofs.Tests.{by-leb, either-way}
+use Rattle.word.proofs.Tests.{by-leb, either-way}
 use Rattle.buddy.proofs.Size.{size-suc, size-pos, size-mono}
 use Rattle.buddy.proofs.Map.{canonical-halves}
 use Rattle.buddy.proofs.Each.{each-mem}

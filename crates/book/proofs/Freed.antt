@@ -12,7 +12,7 @@ use lib.ListN.{length}
 use borrow.Author.Tests.{eq-eqb}
 use Rattle.buddy.specs.Blocks.{size, Block, Tree, Free, Live, Halves, joined, liveIn, freeIn, freed, gathered, changed, sizeAt}
 use Rattle.buddy.specs.Map.{canonical, allCanonical}
-use Rattle.buddy.proofs.Tests.{and-true}
+use Rattle.word.proofs.Tests.{and-true}
 use Rattle.buddy.proofs.Size.{size-suc, aligned-smaller}
 use Rattle.buddy.proofs.Map.{canonical-halves}
 use Rattle.buddy.proofs.Change.{freed-canonical, changed-canonical}

@@ -12,7 +12,7 @@ use lib.ListN.{length}
 use borrow.Author.Tests.{le-leb, lt-leb, le-ltb, ne-eqb}
 use Rattle.buddy.specs.Blocks.{size, Block, Tree, Halves, liveIn, freeIn, gathered, changed, outside}
 use Rattle.buddy.specs.Map.{canonical, allCanonical}
-use Rattle.buddy.proofs.Tests.{and-true, and-false, by-leb}
+use Rattle.word.proofs.Tests.{and-true, and-false, by-leb}
 use Rattle.buddy.proofs.Size.{size-suc, aligned-smaller}
 use Rattle.buddy.proofs.Each.{Each, each-nil, each-cons, each-map, each-mem}
 use Rattle.buddy.proofs.Tiling.{lies-pos, InOrder, order-each, tree-order, gathered-order}

@@ -14,7 +14,7 @@ use Rattle.buddy.specs.declared.SetUp.{SetUp}
 use Rattle.buddy.specs.Blocks.{Block, size, sizeAt}
 use Rattle.buddy.specs.SetUp.{top, words, fitting, runs}
 use Rattle.buddy.specs.Map.{live, free, keeps, freshMap, freedMap, deliveredMap}
-use Rattle.buddy.proofs.Tests.{by-eqb, either-way}
+use Rattle.word.proofs.Tests.{by-eqb, either-way}
 use Rattle.buddy.proofs.Size.{size-pos, fitting-facts}
 use Rattle.buddy.proofs.Each.{Each, each-nil, each-map, each-mem, mem-each}
 use Rattle.buddy.proofs.Tiling.{Lies, map-order, order-each, order-sizeAt}

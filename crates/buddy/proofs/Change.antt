@@ -12,7 +12,7 @@ use Rattle.buddy.specs.declared.SetUp.{SetUp}
 use Rattle.buddy.specs.Blocks.{size, Tree, Free, Live, Halves, joined, freed, delivered, changed}
 use Rattle.buddy.specs.SetUp.{top, words, fitting}
 use Rattle.buddy.specs.Map.{isFree, canonical, allCanonical, allWritten, trees, mapOf, keeps, freshMap, freedMap, deliveredMap}
-use Rattle.buddy.proofs.Tests.{and-true, and-false, either-way, by-leb}
+use Rattle.word.proofs.Tests.{and-true, and-false, either-way, by-leb}
 use Rattle.buddy.proofs.Size.{fitting-facts}
 use Rattle.buddy.proofs.Map.{canonical-halves, keeps-parts, keeps-words, keeps-mapOf, trees-mapOf, trees-fill, length-mapOf}
 

@@ -13,7 +13,7 @@ use Rattle.buddy.specs.SetUp.{top, words, runs}
 use Rattle.buddy.specs.Map.{same, allTold, trees, keeps, live}
 use Rattle.buddy.specs.Part.{allWhole}
 use Rattle.buddy.specs.Lowest.{firstOf, lowestOf}
-use Rattle.buddy.proofs.Tests.{either-way}
+use Rattle.word.proofs.Tests.{either-way}
 use Rattle.buddy.proofs.Keeping.{keeps-whole, keeps-all}
 use Rattle.buddy.proofs.First.{first-run}
 

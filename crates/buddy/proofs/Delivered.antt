@@ -12,7 +12,7 @@ use Rattle.buddy.specs.declared.tree.Found.the-variants.{At, Nothing}
 use Rattle.buddy.specs.Blocks.{size, Tree, Free, Live, Halves, delivered}
 use Rattle.buddy.specs.Map.{freeTag, liveTag, written, canonical}
 use Rattle.buddy.specs.Lowest.{orElse, lowestIn, lowestOf}
-use Rattle.buddy.proofs.Tests.{by-leb}
+use Rattle.word.proofs.Tests.{by-leb}
 use Rattle.buddy.proofs.Size.{size-pos, size-suc}
 use Rattle.buddy.proofs.Halves.{one-less, upper}
 use Rattle.buddy.proofs.Tags.{first-free, written-halves, Halved, halved-tree}

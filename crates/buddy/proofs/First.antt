@@ -16,7 +16,7 @@ use Rattle.buddy.specs.Map.{isFree, canonical, allCanonical, trees, live
 use Rattle.buddy.specs.declared.SetUp.{SetUp}
 use Rattle.buddy.specs.SetUp.{top, words, runs}
 use Rattle.buddy.specs.Lowest.{firstOf, orElse, lowestIn, lowestOf}
-use Rattle.buddy.proofs.Tests.{and-true, and-false, by-leb, by-test}
+use Rattle.word.proofs.Tests.{and-true, and-false, by-leb, by-test}
 use Rattle.buddy.proofs.Size.{size-pos, size-suc, size-divides}
 use Rattle.buddy.proofs.Map.{canonical-halves, keeps-parts, trees-fill}
 use Rattle.buddy.proofs.Each.{Each, each-nil, each-cons, each-append, each-map}

@@ -14,7 +14,7 @@ use Rattle.buddy.specs.Blocks.{size, Block, Tree, Free, Live, Halves, fr
 use Rattle.buddy.specs.SetUp.{top, fitting, runs}
 use Rattle.buddy.specs.Map.{trees, keeps, live, free}
 use Rattle.buddy.specs.Lowest.{firstOf, orElse, lowestIn, lowestOf}
-use Rattle.buddy.proofs.Tests.{by-leb, either-way}
+use Rattle.word.proofs.Tests.{by-leb, either-way}
 use Rattle.buddy.proofs.Size.{size-suc, size-pos, size-mono, aligned-smaller, fitting-facts}
 use Rattle.buddy.proofs.Change.{words-whole}
 use Rattle.buddy.proofs.Each.{Each, each-nil, each-cons, each-append, each-parts, each-map}

@@ -18,7 +18,7 @@ use Rattle.buddy.specs.SetUp.{top, words}
 use Rattle.buddy.specs.Map.{written, told, isFree, canonical, same, allWritten, allTold, allCanonical, trees, mapOf, keeps}
 use Rattle.buddy.specs.Part.{part, whole, allWhole}
 use Rattle.buddy.specs.Lowest.{orElse, lowestIn, lowestOf}
-use Rattle.buddy.proofs.Tests.{and-true}
+use Rattle.word.proofs.Tests.{and-true}
 use Rattle.buddy.proofs.Map.{length-written, same-true}
 use Rattle.buddy.proofs.Part.{same-append, and-assoc}
 use Rattle.buddy.proofs.Halves.{one-less}

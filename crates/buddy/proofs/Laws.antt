@@ -14,7 +14,7 @@ use Rattle.buddy.specs.declared.SetUp.{SetUp}
 use Rattle.buddy.specs.Blocks.{size, Block, Tree, Free, Live, Halves, joined, liveIn, freed, delivered, gathered, changed, outside}
 use Rattle.buddy.specs.SetUp.{top, words, fitting}
 use Rattle.buddy.specs.Map.{isFree, canonical, allCanonical, trees, mapOf, keeps, live, free, freedMap, deliveredMap}
-use Rattle.buddy.proofs.Tests.{and-true, either-way, by-leb}
+use Rattle.word.proofs.Tests.{and-true, either-way, by-leb}
 use Rattle.buddy.proofs.Size.{size-suc, size-pos, size-mono, aligned-smaller, fitting-facts}
 use Rattle.buddy.proofs.Map.{canonical-halves, keeps-parts, length-trees}
 use Rattle.buddy.proofs.Change.{words-whole, keeps-delivered}

@@ -1,5 +1,4 @@
 -- The laws of set-up numbers, blocks and the block map that the crates above cite.
-pub mod Tests
 pub mod Size
 pub mod Map
 pub mod Change

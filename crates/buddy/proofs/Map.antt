@@ -14,7 +14,7 @@ use Rattle.buddy.specs.declared.SetUp.{SetUp}
 use Rattle.buddy.specs.Blocks.{size, Tree, Free, Live, Halves, gathered}
 use Rattle.buddy.specs.SetUp.{top, words}
 use Rattle.buddy.specs.Map.{freeTag, liveTag, written, told, isFree, canonical, allWritten, allTold, allCanonical, same, trees, mapOf, keeps, live, free}
-use Rattle.buddy.proofs.Tests.{and-true}
+use Rattle.word.proofs.Tests.{and-true}
 use Rattle.buddy.proofs.Size.{size-zero, size-suc, size-pos}
 
 -- a block of the k-th size has as many bytes

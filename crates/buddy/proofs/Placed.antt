@@ -15,7 +15,7 @@ use Rattle.buddy.specs.Blocks.{size, Tree, Free, Live, Halves, changed}
 use Rattle.buddy.specs.SetUp.{top, words}
 use Rattle.buddy.specs.Map.{written, canonical, allWritten, allCanonical, trees, mapOf, keeps}
 use Rattle.buddy.specs.Lowest.{orElse, lowestIn, lowestOf}
-use Rattle.buddy.proofs.Tests.{and-true}
+use Rattle.word.proofs.Tests.{and-true}
 use Rattle.buddy.proofs.Size.{size-pos}
 use Rattle.buddy.proofs.Delivered.{found-where, lowest-bound, lowestOf-bound}
 use Rattle.buddy.proofs.Map.{length-written, keeps-parts, trees-fill}

@@ -12,7 +12,7 @@ use borrow.Author.Tests.{leb-true, le-leb}
 use Rattle.buddy.specs.declared.SetUp.{SetUp}
 use Rattle.buddy.specs.Blocks.{Block, outside, runsFrom}
 use Rattle.buddy.specs.SetUp.{words, runs}
-use Rattle.buddy.proofs.Tests.{and-true, either-way, by-test, by-leb}
+use Rattle.word.proofs.Tests.{and-true, either-way, by-test, by-leb}
 use Rattle.buddy.proofs.Each.{Each, each-nil, each-cons, each-mem, mem-each}
 
 -- one of two tests of a disjunction that holds

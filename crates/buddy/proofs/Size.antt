@@ -10,7 +10,7 @@ use borrow.Author.Tests.{ltb-true, leb-true, eqb-true, eq-eqb, ne-eqb}
 use Rattle.buddy.specs.declared.SetUp.{SetUp}
 use Rattle.buddy.specs.Blocks.{size, level}
 use Rattle.buddy.specs.SetUp.{top, words, fitting, absent}
-use Rattle.buddy.proofs.Tests.{and-true, by-leb}
+use Rattle.word.proofs.Tests.{and-true, by-leb}
 
 -- the first size
 pub size-zero : size 0 ≡ 1

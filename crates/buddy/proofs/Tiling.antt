@@ -14,7 +14,7 @@ use Rattle.buddy.specs.declared.SetUp.{SetUp}
 use Rattle.buddy.specs.Blocks.{size, Block, Tree, Free, Live, Halves, liveIn, freeIn, gathered, sizeAt}
 use Rattle.buddy.specs.SetUp.{top, words, fitting}
 use Rattle.buddy.specs.Map.{canonical, allCanonical, trees, keeps, live, free}
-use Rattle.buddy.proofs.Tests.{and-true, by-leb, by-eqb}
+use Rattle.word.proofs.Tests.{and-true, by-leb, by-eqb}
 use Rattle.buddy.proofs.Size.{size-pos, size-suc, aligned-smaller, fitting-facts}
 use Rattle.buddy.proofs.Map.{canonical-halves, keeps-parts, trees-fill}
 use Rattle.buddy.proofs.Change.{words-whole}

@@ -12,7 +12,7 @@ use borrow.Author.Tests.{eq-eqb, ne-eqb, lt-ltb, le-ltb}
 use Rattle.buddy.specs.Blocks.{size, Block, Tree, Free, Live, Halves, liveIn, gathered, sizeAt}
 use Rattle.buddy.specs.Map.{freeTag, liveTag, written, allWritten}
 use Rattle.buddy.specs.Tag.{tagSize}
-use Rattle.buddy.proofs.Tests.{by-leb}
+use Rattle.word.proofs.Tests.{by-leb}
 use Rattle.buddy.proofs.Size.{size-pos, size-suc, size-zero}
 use Rattle.buddy.proofs.Map.{length-written}
 use Rattle.buddy.proofs.Each.{Each, each-nil, each-cons, each-append, each-map}

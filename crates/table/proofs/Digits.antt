@@ -9,7 +9,7 @@ use mathlib.Core.Path.{_≡_, refl, ap, sym, _∙_}
 use borrow.Author.Tests.{lt-ltb, le-ltb, ne-eqb, ltb-true, leb-true}
 use lib.Dec.{leb, ltb}
 use lib.ListN.{length, drop, set, length-set, drop-of-length-le}
-use Rattle.buddy.proofs.Tests.{by-leb, and-true as both-parts}
+use Rattle.word.proofs.Tests.{by-leb, and-true as both-parts}
 use Rattle.table.specs.declared.FieldName.{FieldName}
 use Rattle.table.specs.Reference.{digitsBefore, digitsOf, names, namesField, namesBug, nameFields, startsWithBug, isReference, named, referenceOf, namesOf}
 

@@ -1,4 +1,5 @@
 -- The laws of words and fields that the crates above cite.
+pub mod Tests
 pub mod Field
 pub mod Modulo
 pub mod Bitwise
