@@ -173,10 +173,6 @@ fn fields() {
         let right = c.b as usize % b;
         (b, c.c as usize % (right + 2), right)
     };
-    line("places_right", |c| {
-        let (b, _, right) = field(c);
-        (right + 1..b).count() as u64
-    });
     line("read_field", |c| {
         let (b, left, right) = field(c);
         read(b, left, right, c.x ^ c.y)

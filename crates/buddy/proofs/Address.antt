@@ -8,8 +8,8 @@ use native.Mathlib.Nat.{div-add-mod', mod-lt, div-lt-iff-lt-mul, mul-le-mul-righ
 use native.Mathlib.Omega.{arith}
 use lib.ListN.{length, getD, take, drop, replicate}
 use Rattle.buddy.specs.declared.SetUp.{SetUp}
-use Rattle.buddy.specs.declared.tree.Found.{Found}
-use Rattle.buddy.specs.declared.tree.Found.the-variants.{At}
+use Rattle.buddy.specs.declared.Found.{Found}
+use Rattle.buddy.specs.declared.Found.the-variants.{At}
 use Rattle.buddy.specs.Blocks.{size, Tree, changed, freed, delivered, sizeAt}
 use Rattle.buddy.specs.SetUp.{top, words}
 use Rattle.buddy.specs.Map.{written, canonical, allWritten, trees, mapOf, keeps, live, freedMap, deliveredMap}

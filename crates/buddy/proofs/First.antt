@@ -9,8 +9,8 @@ use native.Mathlib.Omega.{arith}
 use lib.Dec.{leb}
 use lib.ListN.{length}
 use borrow.Author.Tests.{le-leb, lt-leb}
-use Rattle.buddy.specs.declared.tree.Found.{Found}
-use Rattle.buddy.specs.declared.tree.Found.the-variants.{At, Nothing}
+use Rattle.buddy.specs.declared.Found.{Found}
+use Rattle.buddy.specs.declared.Found.the-variants.{At, Nothing}
 use Rattle.buddy.specs.Blocks.{size, Block, Tree, Free, Live, Halves, liveIn, gathered, outside, runsFrom}
 use Rattle.buddy.specs.Map.{isFree, canonical, allCanonical, trees, live, keeps}
 use Rattle.buddy.specs.declared.SetUp.{SetUp}

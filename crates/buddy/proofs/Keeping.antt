@@ -11,8 +11,8 @@ use lib.Seq.{drop-drop, length-take-le}
 use Rattle.buddy.specs.declared.SetUp.{SetUp}
 use Rattle.buddy.specs.declared.tree.Part.{Part}
 use Rattle.buddy.specs.declared.tree.Part.the-variants as tells
-use Rattle.buddy.specs.declared.tree.Found.{Found}
-use Rattle.buddy.specs.declared.tree.Found.the-variants.{Nothing}
+use Rattle.buddy.specs.declared.Found.{Found}
+use Rattle.buddy.specs.declared.Found.the-variants.{Nothing}
 use Rattle.buddy.specs.Blocks.{size, Tree}
 use Rattle.buddy.specs.SetUp.{top, words}
 use Rattle.buddy.specs.Map.{written, told, isFree, canonical, same, allWritten, allTold, allCanonical, trees, mapOf, keeps}

@@ -9,8 +9,8 @@ use lib.ListN.{length, take, drop, replicate}
 use lib.Seq.{take-at, drop-at, drop-drop, take-add}
 use borrow.Author.Tests.{lt-ltb, le-ltb}
 use Rattle.buddy.specs.declared.SetUp.{SetUp}
-use Rattle.buddy.specs.declared.tree.Found.{Found}
-use Rattle.buddy.specs.declared.tree.Found.the-variants.{At, Nothing}
+use Rattle.buddy.specs.declared.Found.{Found}
+use Rattle.buddy.specs.declared.Found.the-variants.{At, Nothing}
 use Rattle.buddy.specs.Blocks.{size, Tree, Free, Live, Halves, changed}
 use Rattle.buddy.specs.SetUp.{top, words}
 use Rattle.buddy.specs.Map.{written, canonical, allWritten, allCanonical, trees, mapOf, keeps}

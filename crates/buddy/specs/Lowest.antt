@@ -3,8 +3,8 @@ use Prim.Native.Nat.{ℕ, zero, suc, _+_}
 use mathlib.Core.Bool.{cond}
 use mathlib.Core.List.{List, [], _∷_}
 use lib.Dec.{leb}
-use Rattle.buddy.specs.declared.tree.Found.{Found}
-use Rattle.buddy.specs.declared.tree.Found.the-variants.{At, Nothing}
+use Rattle.buddy.specs.declared.Found.{Found}
+use Rattle.buddy.specs.declared.Found.the-variants.{At, Nothing}
 use Rattle.buddy.specs.Blocks.{size, Tree, Free, Live, Halves}
 
 -- the first of a list

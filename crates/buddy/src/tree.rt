@@ -8,23 +8,18 @@ ghost use Rattle.buddy.specs.Blocks.{Tree, Free, size, joined, freed, de
 ghost use Rattle.buddy.specs.Map.{freeTag, liveTag, written, same, canonical};
 ghost use Rattle.buddy.specs.Part.{part, both, leaf};
 ghost use Rattle.buddy.specs.Lowest.{lowestIn};
-ghost use Rattle.buddy.specs.declared.tree.Found.the-variants.{At};
+ghost use Rattle.buddy.specs.declared.Found.the-variants.{At};
+use super::Found;
 
 // What the bytes of one block tell: no tree that keeps the section, one free block, or a tree with a live block in it.
-pub enum Part {
+pub(crate) enum Part {
     Broken,
     Free,
     Taken,
 }
 
-// An address, or none.
-pub enum Found {
-    At(usize),
-    Nothing,
-}
-
 // The byte of a free block of the k-th size.
-pub fn free_tag(k: u8) -> u8
+pub(crate) fn free_tag(k: u8) -> u8
     requires { ⌜ k ≤ 7 ⌝ }
     ensures { λ r. ⌜ r ≡ freeTag k ⌝ }
 {
@@ -32,7 +27,7 @@ pub fn free_tag(k: u8) -> u8
 }
 
 // The byte of a live block of the k-th size.
-pub fn live_tag(k: u8) -> u8
+pub(crate) fn live_tag(k: u8) -> u8
     requires { ⌜ k ≤ 7 ⌝ }
     ensures { λ r. ⌜ r ≡ liveTag k ⌝ }
 {
@@ -40,7 +35,7 @@ pub fn live_tag(k: u8) -> u8
 }
 
 // Whether every byte from a place on is zero.
-pub fn zero_from(from: usize, tags: &[u8]) -> bool
+pub(crate) fn zero_from(from: usize, tags: &[u8]) -> bool
     requires { ⌜ from ≤ length (now tags) ⌝ }
     ensures { λ r. ⌜ r ≡ same (replicate (length (now (tags .entry)) - from) 0) (drop from (now (tags .entry))) ⌝ }
 {
@@ -87,7 +82,7 @@ fn both_parts(low: Part, high: Part) -> Part
 }
 
 // What the bytes of a block of the k-th size tell.
-pub fn check(k: u8, tags: &[u8]) -> Part
+pub(crate) fn check(k: u8, tags: &[u8]) -> Part
     requires { ⌜ (k ≤ 7) × (length (now tags) ≡ size k) ⌝ }
     ensures { λ r. ⌜ r ≡ part k (now (tags .entry)) ⌝ }
 {
@@ -107,7 +102,7 @@ pub fn check(k: u8, tags: &[u8]) -> Part
 }
 
 // Delivers the first words of a free block of the k-th size: it is halved until the j-th size is reached, the low half going on.
-pub fn split(k: u8, j: u8, tags: &mut [u8])
+pub(crate) fn split(k: u8, j: u8, tags: &mut [u8])
     requires { ⌜ (j ≤ k) × (k ≤ 7) × (length (now tags) ≡ size k) ⌝ }
     ensures { λ _. ⌜ ((at : ℕ) → now (tags .entry) ≡ written k Free → now (tags .exit) ≡ written k (delivered j at k at Free)) ⌝ }
 {
@@ -138,7 +133,7 @@ fn rejoin(k: u8, tags: &mut [u8])
 }
 
 // Frees the live block around an offset, and rejoins free halves on the way back.
-pub fn free_at(k: u8, offset: usize, tags: &mut [u8])
+pub(crate) fn free_at(k: u8, offset: usize, tags: &mut [u8])
     requires { ⌜ (k ≤ 7) × (length (now tags) ≡ size k) × (offset < size k) ⌝ }
     ensures { λ _. ⌜ ((at : ℕ) (t : Tree) → canonical k t ≡ true → now (tags .entry) ≡ written k t → now (tags .exit) ≡ written k (freed (at + offset) k at t)) ⌝ }
 {
@@ -163,7 +158,7 @@ pub fn free_at(k: u8, offset: usize, tags: &mut [u8])
 }
 
 // The start of the first free block of the j-th size or a larger, in a block of the k-th size at an address.
-pub fn lowest(k: u8, j: u8, at: usize, tags: &[u8]) -> Found
+pub(crate) fn lowest(k: u8, j: u8, at: usize, tags: &[u8]) -> Found
     requires { ⌜ (j ≤ k) × (k ≤ 7) × (length (now tags) ≡ size k) × (at + size k ≤ 65536) ⌝ }
     ensures { λ r. ⌜ ((t : Tree) → canonical k t ≡ true → now (tags .entry) ≡ written k t → r ≡ lowestIn j k at t) ⌝ }
 {
@@ -185,7 +180,7 @@ pub fn lowest(k: u8, j: u8, at: usize, tags: &[u8]) -> Found
 }
 
 // Delivers the lowest run of the j-th size, which starts at an offset: the free block there is split.
-pub fn deliver_at(k: u8, j: u8, offset: usize, tags: &mut [u8])
+pub(crate) fn deliver_at(k: u8, j: u8, offset: usize, tags: &mut [u8])
     requires { ⌜ (j ≤ k) × (k ≤ 7) × (length (now tags) ≡ size k) × (offset < size k) ⌝ }
     ensures { λ _. ⌜ ((at : ℕ) (t : Tree) → canonical k t ≡ true → now (tags .entry) ≡ written k t → lowestIn j k at t ≡ At (at + offset) → now (tags .exit) ≡ written k (delivered j (at + offset) k at t)) ⌝ }
 {

@@ -1008,7 +1008,7 @@ const THOUSAND: [u64; 1000] = [
 ];
 
 // The three decimal digits of a number.
-pub fn three(k: u64) -> u64
+pub(crate) fn three(k: u64) -> u64
     requires { ⌜ k < 1000 ⌝ }
     ensures { λ r. ⌜ r ≡ fromBinary 10 3 k ⌝ }
 {

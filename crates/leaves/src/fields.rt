@@ -33,11 +33,6 @@ fn width(c: Case) -> u64 {
     fields::width(c.a % 70, c.b % 64)
 }
 
-fn places_right(c: Case) -> u64 {
-    let b = draws::width(c.a) + 1;
-    fields::places_right(b, words::below(b, c.b))
-}
-
 fn read_field(c: Case) -> u64 {
     let b = draws::width(c.a) + 1;
     let right = words::below(b, c.b);
@@ -59,7 +54,6 @@ fn store_field(c: Case) -> u64 {
 fn field_result(which: u64, c: Case) -> u64 {
     match which {
         18 => width(c),
-        19 => places_right(c),
         20 => read_field(c),
         21 => kept_bits(c),
         _ => store_field(c),

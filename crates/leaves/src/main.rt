@@ -139,7 +139,6 @@ fn try_fields() {
     line(b"leftmost_zero ", checksum(16));
     line(b"rightmost_zero ", checksum(17));
     line(b"width ", checksum(18));
-    line(b"places_right ", checksum(19));
     line(b"read_field ", checksum(20));
     line(b"kept_bits ", checksum(21));
     line(b"store_field ", checksum(22));

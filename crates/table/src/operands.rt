@@ -12,7 +12,7 @@ use crate::tests;
 use word::arithmetic;
 
 // Form 0, absent.
-pub fn is_absent(p: Pair) -> bool
+pub(crate) fn is_absent(p: Pair) -> bool
     ensures { λ r. ⌜ r ≡ isAbsent p ⌝ }
 {
     tests::both(p.form == 0, p.value == 0)
@@ -78,7 +78,7 @@ fn largest_name(named: bool) -> u64
 }
 
 // And the name is one where there is one and otherwise zero.
-pub fn has_shape(b: u64, rows: u64, s: Shape, row: Row) -> bool
+pub(crate) fn has_shape(b: u64, rows: u64, s: Shape, row: Row) -> bool
     requires { ⌜ b < 64 ⌝ }
     ensures { λ r. ⌜ r ≡ fits b rows s row ⌝ }
 {

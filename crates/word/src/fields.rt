@@ -15,7 +15,7 @@ pub fn width(left: u64, right: u64) -> u64
 }
 
 // The places right of a field.
-pub fn places_right(b: u64, right: u64) -> u64
+pub(crate) fn places_right(b: u64, right: u64) -> u64
     requires { ⌜ right < b ⌝ }
     ensures { λ r. ⌜ r ≡ shiftOf b right ⌝ }
 {

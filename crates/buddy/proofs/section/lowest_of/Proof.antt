@@ -5,7 +5,7 @@ use mathlib.Core.Bool.{true}
 use Prim.Native.Nat.{ℕ, _+_, _-_, _*_, _≤_}
 use native.Mathlib.Omega.{arith}
 use lib.ListN.{length, drop}
-use Rattle.buddy.specs.declared.tree.Found.{Found}
+use Rattle.buddy.specs.declared.Found.{Found}
 use Rattle.buddy.specs.Map.{allTold}
 use Rattle.buddy.specs.Part.{allWhole}
 use Rattle.buddy.specs.Lowest.{orElse, lowestOf}
