@@ -1,6 +1,6 @@
 // Well-formed rows, and the check of a whole table.
 ghost use mathlib.Core.Path.{_≡_};
-ghost use Prim.Native.Nat.{_-_, _<_, _≤_};
+ghost use Prim.Native.Nat.{_-_, _≤_};
 ghost use Rattle.table.specs.Operands.{shape, namedShape};
 ghost use Rattle.table.specs.Table.{shapeOf, rowOrNone, namesRows, hasMode, hasTests};
 ghost use Rattle.table.specs.Table.{goesOn, restUnused, complete, isLine, isTest, isOperation};
@@ -181,7 +181,6 @@ fn is_line(rows: u64, row: Row) -> bool
 
 // Kind 2, a test: codes 1 to 7.
 fn is_test(b: u64, rows: u64, row: Row) -> bool
-    requires { ⌜ b < 64 ⌝ }
     ensures { λ x. ⌜ x ≡ isTest b rows row ⌝ }
 {
     let shaped = operands::has_shape(b, rows, a_and_cd(), row);
@@ -190,7 +189,6 @@ fn is_test(b: u64, rows: u64, row: Row) -> bool
 
 // Kind 3, an operation: codes 1 to 36.
 fn is_operation(b: u64, rows: u64, row: Row) -> bool
-    requires { ⌜ b < 64 ⌝ }
     ensures { λ x. ⌜ x ≡ isOperation b rows row ⌝ }
 {
     if row.code < 1 {
@@ -204,7 +202,6 @@ fn is_operation(b: u64, rows: u64, row: Row) -> bool
 
 // Row r is a well-formed row of this kind.
 fn well_formed_as(kind: u64, b: u64, rows: u64, r: u64, row: Row) -> bool
-    requires { ⌜ b < 64 ⌝ }
     ensures { λ x. ⌜ x ≡ wellFormedAs kind b rows r row ⌝ }
 {
     if row.kind != kind {
@@ -218,7 +215,6 @@ fn well_formed_as(kind: u64, b: u64, rows: u64, r: u64, row: Row) -> bool
 
 // The row's own numbers are those of its kind.
 fn has_kind(kind: u64, b: u64, rows: u64, row: Row) -> bool
-    requires { ⌜ b < 64 ⌝ }
     ensures { λ x. ⌜ x ≡ shaped kind b rows row ⌝ }
 {
     if kind == 1 {
@@ -239,7 +235,6 @@ fn is_chained(rows: u64, r: u64, next: u64) -> bool
 
 // Row r is well-formed.
 fn well_formed(b: u64, rows: u64, r: u64, row: Row) -> bool
-    requires { ⌜ b < 64 ⌝ }
     ensures { λ x. ⌜ x ≡ wellFormed b rows r row ⌝ }
 {
     let line = well_formed_as(1, b, rows, r, row);
@@ -258,7 +253,6 @@ pub fn has_length(table: &[u64]) -> bool
 
 // Row r can be used as this kind: it is there, well-formed and of this kind.
 pub fn is_usable(kind: u64, b: u64, table: &[u64], r: usize) -> bool
-    requires { ⌜ b < 64 ⌝ }
     ensures { λ x. ⌜ x ≡ usable kind b (now (table .entry)) r ⌝ }
 {
     let rows = table.len() / 10;
@@ -273,7 +267,6 @@ pub fn is_usable(kind: u64, b: u64, table: &[u64], r: usize) -> bool
 
 // The lowest ill-formed row, 0 if none.
 fn lowest_ill_formed(b: u64, table: &[u64]) -> u64
-    requires { ⌜ b < 64 ⌝ }
     ensures { λ x. ⌜ x ≡ lowestFrom b (now (table .entry)) 1 (rows (now (table .entry)) - 1) ⌝ }
 {
     let rows = table.len() / 10;
@@ -289,7 +282,6 @@ fn lowest_ill_formed(b: u64, table: &[u64]) -> u64
 
 // The table check: the lowest ill-formed row, 0 if none; it refuses only by 1.
 pub fn check(b: u64, table: &[u64]) -> TableCheck
-    requires { ⌜ b < 64 ⌝ }
     ensures { λ x. ⌜ x ≡ checked b (now (table .entry)) ⌝ }
 {
     if has_length(table) {

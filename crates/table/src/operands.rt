@@ -1,6 +1,7 @@
 // The operands that a row has, and those that its code takes.
 ghost use mathlib.Core.Path.{_≡_};
-ghost use Prim.Native.Nat.{_<_};
+ghost use Prim.Native.Nat.{_^_};
+ghost use lib.Dec.{ltb};
 ghost use Rattle.table.specs.Operands.{isAbsent, isLiteral, isRef, isZero, takes};
 ghost use Rattle.table.specs.Table.{fitPairs, largestName, fits};
 use crate::Operand;
@@ -18,12 +19,22 @@ pub(crate) fn is_absent(p: Pair) -> bool
     tests::both(p.form == 0, p.value == 0)
 }
 
+// A number below 2^b: each is, where b is 64 or more.
+fn fits_word(b: u64, v: u64) -> bool
+    ensures { λ r. ⌜ r ≡ ltb v (2 ^ b) ⌝ }
+{
+    if b < 64 {
+        v < arithmetic::power(b)
+    } else {
+        true
+    }
+}
+
 // Form 1, a literal below 2^b.
 fn is_literal(b: u64, p: Pair) -> bool
-    requires { ⌜ b < 64 ⌝ }
     ensures { λ r. ⌜ r ≡ isLiteral b p ⌝ }
 {
-    tests::both(p.form == 1, p.value < arithmetic::power(b))
+    tests::both(p.form == 1, fits_word(b, p.value))
 }
 
 // Form 2, a reference.
@@ -42,7 +53,6 @@ fn is_zero(p: Pair) -> bool
 
 // A pair is such an operand, in a table of this many rows.
 fn is_operand(b: u64, rows: u64, x: Operand, p: Pair) -> bool
-    requires { ⌜ b < 64 ⌝ }
     ensures { λ r. ⌜ r ≡ takes b rows x p ⌝ }
 {
     match x {
@@ -58,7 +68,6 @@ fn is_operand(b: u64, rows: u64, x: Operand, p: Pair) -> bool
 
 // The pairs are what the shape says.
 fn has_pairs(b: u64, rows: u64, s: Shape, row: Row) -> bool
-    requires { ⌜ b < 64 ⌝ }
     ensures { λ r. ⌜ r ≡ fitPairs b rows s row ⌝ }
 {
     let x = s.first;
@@ -79,7 +88,6 @@ fn largest_name(named: bool) -> u64
 
 // And the name is one where there is one and otherwise zero.
 pub(crate) fn has_shape(b: u64, rows: u64, s: Shape, row: Row) -> bool
-    requires { ⌜ b < 64 ⌝ }
     ensures { λ r. ⌜ r ≡ fits b rows s row ⌝ }
 {
     let most = largest_name(s.named);

@@ -3,8 +3,8 @@ use borrow.Author.Needs.{needs}
 use Rattle.table.proofs.operands.is_literal.Statement.{statement}
 use Rattle.table.proofs.operands.is_literal.Tie as tie
 
-power-requires : tie.Need-power-requires
-power-requires c κs = search needs
+fits-word-requires : tie.Need-fits-word-requires
+fits-word-requires c κs = search needs
 
 both-requires : tie.Need-both-requires
 both-requires c κs = search needs
@@ -13,4 +13,4 @@ returns : tie.Need-returns
 returns c = cc
 
 pub is-literal-spec : {M : Type 1} → statement M
-is-literal-spec = tie.close (tie.spec power-requires both-requires returns)
+is-literal-spec = tie.close (tie.spec fits-word-requires both-requires returns)
