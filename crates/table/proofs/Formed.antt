@@ -11,9 +11,15 @@ use lib.ListN.{length}
 use Rattle.table.specs.declared.Row.{Row}
 use Rattle.table.specs.declared.Shape.{Shape}
 use Rattle.table.specs.declared.TableCheck.the-variants.{Lowest, BadLength}
-use Rattle.table.specs.Operands.{testShape}
+use Rattle.table.specs.declared.Operand.{Operand}
+use Rattle.table.specs.declared.Pair.{Pair}
+use Rattle.table.specs.Operands.{testShape, takes}
 use Rattle.table.specs.Table.{fits, hasMode, hasTests, goesOn, restUnused, complete, isLine, isTest, shapeOf, isOperation, chained, shaped, wellFormedAs, wellFormed, usable, lowestFrom, checked}
 use Rattle.table.specs.Row.{lengthFits, rows, rowAt}
+
+-- a pair's test is the definition's at the operand that is told
+pub takes-at : (b rows : ℕ) (p : Pair) {x y : Operand} {t : Bool} → x ≡ y → t ≡ takes b rows y p → t ≡ takes b rows x p
+takes-at b rows p e h = h ∙ ap (λ (z : Operand). takes b rows z p) (sym e)
 
 -- a line's numbers
 pub complete-from : (row : Row) {mode tests on unused rest more : Bool} {all : Bool} → mode ≡ hasMode row → tests ≡ hasTests row → on ≡ goesOn row

@@ -1,5 +1,8 @@
 -- `table::check::is_chained` meets its contract. Assumes nothing.
 use borrow.Author.Needs.{needs}
+use mathlib.Core.Bool.{Bool, _||_}
+use mathlib.Core.Path.{ap, _∙_}
+use lib.Dec.{eqb}
 use Rattle.table.proofs.check.is_chained.Statement.{statement}
 use Rattle.table.proofs.check.is_chained.Tie as tie
 
@@ -10,7 +13,7 @@ either-requires : tie.Need-either-requires
 either-requires c κs = search needs
 
 returns : tie.Need-returns
-returns c = cc
+returns c = c .either .ensures ∙ ap (λ (t : Bool). eqb (c .before .before .args .next) 0 || t) (c .before .both .ensures)
 
 pub is-chained-spec : {M : Type 1} → statement M
 is-chained-spec = tie.close (tie.spec both-requires either-requires returns)

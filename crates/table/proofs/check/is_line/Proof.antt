@@ -1,5 +1,7 @@
 -- `table::check::is_line` meets its contract: its two tests joined are the definition. Assumes nothing.
 use borrow.Author.Needs.{needs}
+use mathlib.Core.Bool.{_&&_}
+use mathlib.Core.Path.{ap₂, _∙_}
 use Rattle.table.specs.Table.{isLine}
 use Rattle.table.proofs.check.is_line.Statement.{statement}
 use Rattle.table.proofs.check.is_line.Tie as tie
@@ -15,7 +17,7 @@ both-requires c κs = search needs
 
 returns : tie.Need-returns
 unfolding isLine
-returns c = cc
+returns c = c .both .ensures ∙ ap₂ _&&_ (c .before .before .names-rows .ensures) (c .before .is-complete .ensures)
 
 pub is-line-spec : {M : Type 1} → statement M
 is-line-spec =

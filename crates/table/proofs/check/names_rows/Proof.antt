@@ -1,5 +1,8 @@
 -- `table::check::names_rows` meets its contract. Assumes nothing.
 use borrow.Author.Needs.{needs}
+use mathlib.Core.Bool.{Bool, _&&_, _||_}
+use mathlib.Core.Path.{ap, ap₂, _∙_}
+use lib.Dec.{eqb}
 use Rattle.table.specs.Table.{namesRows}
 use Rattle.table.proofs.check.names_rows.Statement.{statement}
 use Rattle.table.proofs.check.names_rows.Tie as tie
@@ -24,7 +27,12 @@ both-requires-2 c κs = search needs
 
 returns : tie.Need-returns
 unfolding namesRows
-returns c = cc
+returns c =
+    let goes = c .before .before in
+    let third = goes .before .before in
+    let go-to = goes .either .ensures ∙ ap (λ (t : Bool). t || eqb (third .before .before .before .args .row .second .form) 65535) (third .row-or-none3 .ensures) in
+    let last = c .before .both .ensures ∙ ap₂ _&&_ (third .before .row-or-none2 .ensures) go-to in
+    c .both2 .ensures ∙ ap₂ _&&_ (third .before .before .row-or-none .ensures) last
 
 pub names-rows-spec : {M : Type 1} → statement M
 names-rows-spec =

@@ -1,5 +1,8 @@
--- `table::operands::is_operand` meets its contract. Assumes nothing.
+-- `table::operands::is_operand` meets its contract: each arm's tests joined are the definition at its operand. Assumes nothing.
 use borrow.Author.Needs.{needs}
+use mathlib.Core.Bool.{_&&_, _||_}
+use mathlib.Core.Path.{ap₂, _∙_}
+use Rattle.table.proofs.Formed.{takes-at}
 use Rattle.table.proofs.operands.is_operand.Statement.{statement}
 use Rattle.table.proofs.operands.is_operand.Tie as tie
 
@@ -70,25 +73,33 @@ both-requires-2 : tie.Need-both-requires-2
 both-requires-2 c κs = search needs
 
 returns : tie.Need-returns
-returns c = cc
+returns c = takes-at _ _ _ (c .before .enum-told .given .1) (c .is-absent .ensures)
 
 returns-2 : tie.Need-returns-2
-returns-2 c = cc
+returns-2 c = takes-at _ _ _ (c .before .enum-told2 .given .1) (c .is-literal .ensures)
 
 returns-3 : tie.Need-returns-3
-returns-3 c = cc
+returns-3 c = takes-at _ _ _ (c .before .enum-told3 .given .1) (c .is-ref .ensures)
 
 returns-4 : tie.Need-returns-4
-returns-4 c = cc
+returns-4 c =
+    let literal = c .before .before in
+    takes-at _ _ _ (literal .before .enum-told4 .given .1) (c .either .ensures ∙ ap₂ _||_ (literal .is-literal2 .ensures) (c .before .is-ref2 .ensures))
 
 returns-5 : tie.Need-returns-5
-returns-5 c = cc
+returns-5 c =
+    let ref = c .before .before in
+    takes-at _ _ _ (ref .before .enum-told5 .given .1) (c .either2 .ensures ∙ ap₂ _||_ (ref .is-ref3 .ensures) (c .before .is-absent2 .ensures))
 
 returns-6 : tie.Need-returns-6
-returns-6 c = cc
+returns-6 c =
+    let ref = c .before .before in
+    takes-at _ _ _ (ref .before .enum-told6 .given .1) (c .either3 .ensures ∙ ap₂ _||_ (ref .is-ref4 .ensures) (c .before .is-zero .ensures))
 
 returns-7 : tie.Need-returns-7
-returns-7 c = cc
+returns-7 c =
+    let literal = c .before .before .before .before in
+    takes-at _ _ _ (literal .before .enum-told7 .given .1) (c .both2 .ensures ∙ ap₂ _&&_ (literal .is-literal3 .ensures) (c .before .both .ensures))
 
 pub is-operand-spec : {M : Type 1} → statement M
 is-operand-spec =
