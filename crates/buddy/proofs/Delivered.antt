@@ -1,11 +1,12 @@
 -- What delivering the lowest run writes: the free block that it starts is split, in the tree and in the half around it. Assumes nothing.
 use mathlib.Core.Path.{_≡_, refl, sym, ap, ap₂, _∙_}
 use mathlib.Core.Bool.{true, cond}
-use mathlib.Core.List.{List, [], _∷_, _++_, append-nil}
+use mathlib.Core.List.{List, [], _∷_, _++_}
 use mathlib.Core.Logic.{_⊎_, inl, inr, ⊎-elim}
 use Prim.Native.Nat.{ℕ, zero, suc, _+_, _-_, _*_, _/_, _≤_, _<_}
 use native.Mathlib.Omega.{arith}
-use lib.ListN.{length, getD, take, drop, length-drop, drop-of-length-le}
+use lib.Dec.{ltb}
+use lib.ListN.{length, getD, take, drop}
 use borrow.Author.Tests.{lt-ltb, le-ltb, lt-leb}
 use Rattle.buddy.specs.declared.Found.{Found}
 use Rattle.buddy.specs.declared.Found.the-variants.{At, Nothing}
@@ -14,7 +15,7 @@ use Rattle.buddy.specs.Map.{freeTag, liveTag, written, canonical}
 use Rattle.buddy.specs.Lowest.{orElse, lowestIn, lowestOf}
 use Rattle.word.proofs.Tests.{by-leb}
 use Rattle.buddy.proofs.Size.{size-pos, size-suc}
-use Rattle.buddy.proofs.Halves.{one-less, upper}
+use Rattle.buddy.proofs.Halves.{one-less, low-part, low-changed, high-part, high-changed}
 use Rattle.buddy.proofs.Tags.{first-free, written-halves, Halved, halved-tree}
 use Rattle.buddy.proofs.Lowest.{lowest-live, lowest-small, lowest-large}
 
@@ -92,7 +93,7 @@ module _ (j offset at : ℕ) (l ys : List ℕ) (t : Tree) where
       (h, sym (lowest-large j k at (h .low) (h .high) below) ∙ ap (lowestIn j (suc k) at) (sym (h .tree)) ∙ e)
 
   -- delivering goes on in the low half
-  pub delivers-low : (k : ℕ) → 0 < k → offset < length l / 2 → j < k → length l / 2 ≡ size (k - 1)
+  delivers-low : (k : ℕ) → 0 < k → offset < length l / 2 → j < k → length l / 2 ≡ size (k - 1)
       → (getD l 0 0 ≡ freeTag k → ⊥) → canonical k t ≡ true → l ≡ written k t → lowestIn j k at t ≡ At (at + offset)
       → ((s : Tree) → canonical (k - 1) s ≡ true → take (length l / 2) l ≡ written (k - 1) s → lowestIn j (k - 1) at s ≡ At (at + offset)
       → ys ≡ written (k - 1) (delivered j (at + offset) (k - 1) at s))
@@ -115,33 +116,57 @@ module _ (j offset at : ℕ) (l ys : List ℕ) (t : Tree) where
       k pos
 
   -- or in the high half
-  pub delivers-high : (k : ℕ) → 0 < k → length l / 2 ≤ offset → j < k → length l / 2 ≡ size (k - 1)
+  delivers-high : (k : ℕ) → 0 < k → length l / 2 ≤ offset → j < k → length l / 2 ≡ size (k - 1)
       → (getD l 0 0 ≡ freeTag k → ⊥) → canonical k t ≡ true → l ≡ written k t → lowestIn j k at t ≡ At (at + offset)
-      → ((s : Tree) → canonical (k - 1) s ≡ true → take (length l - length l / 2) (drop (length l / 2) l) ≡ written (k - 1) s
-      → lowestIn j (k - 1) (at + length l / 2) s ≡ At ((at + length l / 2) + (offset - length l / 2))
-      → ys ≡ written (k - 1) (delivered j ((at + length l / 2) + (offset - length l / 2)) (k - 1) (at + length l / 2) s))
-      → take (length l / 2) l ++ (ys ++ drop (length l - length l / 2) (drop (length l / 2) l)) ≡ written k (delivered j (at + offset) k at t)
+      → ((s : Tree) → canonical (k - 1) s ≡ true → drop (length l / 2) l ≡ written (k - 1) s
+      → lowestIn j (k - 1) (at + length l / 2) s ≡ At (at + offset)
+      → ys ≡ written (k - 1) (delivered j (at + offset) (k - 1) (at + length l / 2) s))
+      → take (length l / 2) l ++ ys ≡ written k (delivered j (at + offset) k at t)
   delivers-high k pos high =
-      let none : drop (length l - length l / 2) (drop (length l / 2) l) ≡ [] = drop-of-length-le _ {i = length l - length l / 2} (rw length-drop (omega arith)) in
-      let far : (at + length l / 2) + (offset - length l / 2) ≡ at + offset = omega arith in
       one-less
       (λ k i. j < k → length l / 2 ≡ size i
       → (getD l 0 0 ≡ freeTag k → ⊥) → canonical k t ≡ true → l ≡ written k t → lowestIn j k at t ≡ At (at + offset)
-      → ((s : Tree) → canonical i s ≡ true → take (length l - length l / 2) (drop (length l / 2) l) ≡ written i s
-      → lowestIn j i (at + length l / 2) s ≡ At ((at + length l / 2) + (offset - length l / 2))
-      → ys ≡ written i (delivered j ((at + length l / 2) + (offset - length l / 2)) i (at + length l / 2) s))
-      → take (length l / 2) l ++ (ys ++ drop (length l - length l / 2) (drop (length l / 2) l)) ≡ written k (delivered j (at + offset) k at t))
+      → ((s : Tree) → canonical i s ≡ true → drop (length l / 2) l ≡ written i s
+      → lowestIn j i (at + length l / 2) s ≡ At (at + offset)
+      → ys ≡ written i (delivered j (at + offset) i (at + length l / 2) s))
+      → take (length l / 2) l ++ ys ≡ written k (delivered j (at + offset) k at t))
       (λ i below half free whole w e inner.
       let (h, found) = halves-found i (omega arith) half free whole w e in
       let here : lowestIn j i (at + size i) (h .high) ≡ At (at + offset)
       = ⊎-elim (λ q. absurd (let bound = lowest-bound j i at (at + offset) (h .low) q in omega (arith, bound .1))) (λ q. q .1)
       (found-where (lowestIn j i at (h .low)) (lowestIn j i (at + size i) (h .high)) (at + offset) found) in
-      let there : lowestIn j i (at + length l / 2) (h .high) ≡ At ((at + length l / 2) + (offset - length l / 2))
-      = ap (λ (n : ℕ). lowestIn j i (at + n) (h .high)) half ∙ here ∙ ap At (sym far) in
+      let there : lowestIn j i (at + length l / 2) (h .high) ≡ At (at + offset)
+      = ap (λ (n : ℕ). lowestIn j i (at + n) (h .high)) half ∙ here in
       let new : ys ≡ written i (delivered j (at + offset) i (at + size i) (h .high))
-      = inner (h .high) (h .highWhole) (upper (length l / 2) l ∙ h .highBytes) there
-      ∙ ap₂ (λ (a b : ℕ). written i (delivered j a i (at + b) (h .high))) far half in
-      ap₂ _++_ (h .lowBytes) (rw none (append-nil ys) ∙ new)
+      = inner (h .high) (h .highWhole) (h .highBytes) there ∙ ap (λ (b : ℕ). written i (delivered j (at + offset) i (at + b) (h .high))) half in
+      ap₂ _++_ (h .lowBytes) new
       ∙ sym (written-halves i (h .low) _)
       ∙ ap (written (suc i)) (sym (ap (delivered j (at + offset) (suc i) at) (h .tree) ∙ delivered-second j (at + offset) i at (h .low) (h .high) (omega arith))))
       k pos
+
+  -- so in the half around the offset
+  pub delivers-half : (k start : ℕ) → 0 < k → start ≡ cond (ltb offset (length l / 2)) 0 (length l / 2)
+      → length l ≡ length l / 2 + length l / 2 → j < k → length l / 2 ≡ size (k - 1)
+      → (getD l 0 0 ≡ freeTag k → ⊥) → canonical k t ≡ true → l ≡ written k t → lowestIn j k at t ≡ At (at + offset)
+      → ((s : Tree) → canonical (k - 1) s ≡ true → take (start + length l / 2 - start) (drop start l) ≡ written (k - 1) s
+      → lowestIn j (k - 1) (at + start) s ≡ At ((at + start) + (offset - start))
+      → ys ≡ written (k - 1) (delivered j ((at + start) + (offset - start)) (k - 1) (at + start) s))
+      → take start l ++ (ys ++ drop (start + length l / 2 - start) (drop start l)) ≡ written k (delivered j (at + offset) k at t)
+  delivers-half k start pos e twice below half free whole w found inner =
+      by-leb (λ b. start ≡ cond b 0 (length l / 2)
+      → take start l ++ (ys ++ drop (start + length l / 2 - start) (drop start l)) ≡ written k (delivered j (at + offset) k at t)) (suc offset) (length l / 2)
+      (λ less z.
+      let here : at + start ≡ at = omega arith in
+      let there : (at + start) + (offset - start) ≡ at + offset = omega arith in
+      low-changed (length l / 2) start l z ys
+      ∙ delivers-low k pos less below half free whole w found
+      (λ s c q f. inner s c (low-part (length l / 2) start l z ∙ q) (ap (λ (a : ℕ). lowestIn j (k - 1) a s) here ∙ f ∙ ap At (sym there))
+      ∙ ap₂ (λ (a b : ℕ). written (k - 1) (delivered j a (k - 1) b s)) there here))
+      (λ more z.
+      let here : at + start ≡ at + length l / 2 = omega arith in
+      let there : (at + start) + (offset - start) ≡ at + offset = omega arith in
+      high-changed (length l / 2) start l z twice ys
+      ∙ delivers-high k pos (omega arith) below half free whole w found
+      (λ s c q f. inner s c (high-part (length l / 2) start l z twice ∙ q) (ap (λ (a : ℕ). lowestIn j (k - 1) a s) here ∙ f ∙ ap At (sym there))
+      ∙ ap₂ (λ (a b : ℕ). written (k - 1) (delivered j a (k - 1) b s)) there here))
+      e

@@ -6,8 +6,8 @@ use mathlib.Core.List.{List, [], _∷_, _++_, append-assoc}
 use Prim.Native.Nat.{ℕ, zero, suc, _+_, _-_, _*_, _/_, _%_, _≤_, _<_}
 use native.Mathlib.Nat.{div-add-mod'}
 use native.Mathlib.Omega.{arith}
-use lib.ListN.{length, take, drop, replicate, length-drop}
-use lib.Seq.{drop-drop, length-take-le}
+use lib.ListN.{length, take, drop, replicate}
+use lib.Seq.{drop-drop}
 use Rattle.buddy.specs.declared.SetUp.{SetUp}
 use Rattle.buddy.specs.declared.tree.Part.{Part}
 use Rattle.buddy.specs.declared.tree.Part.the-variants as tells
@@ -97,12 +97,6 @@ pub lowest-end : (j k at left : ℕ) (m : List ℕ) → left ≡ 0 → lowestOf 
 unfolding allTold lowestOf
 lowest-end j k at zero m e = refl
 lowest-end j k at (suc left) m e = absurd (omega arith)
-
--- a part of a slice is as long as asked for
-pub part-length : (i n : ℕ) (m : List ℕ) → i + n ≤ length m → length (take (i + n - i) (drop i m)) ≡ n
-part-length i n m h =
-    let same : i + n - i ≡ n = omega arith in
-    length-take-le (i + n - i) (drop i m) (rw length-drop (omega arith)) ∙ same
 
 module _ (k n i : ℕ) (m : List ℕ) (e : n ≡ size k) where
   -- the bytes of the next tree as a part of the slice

@@ -1,18 +1,19 @@
 -- What the code writes into the bytes of a block: a free block halved, a live one freed, two free halves rejoined. Assumes nothing.
 use mathlib.Core.Path.{_≡_, refl, sym, ap, ap₂, subst, _∙_}
 use mathlib.Core.Bool.{Bool, true, false, _&&_, cond}
-use mathlib.Core.List.{List, [], _∷_, _++_, append-nil}
+use mathlib.Core.List.{List, [], _∷_, _++_}
 use Prim.Native.Nat.{ℕ, zero, suc, _+_, _-_, _/_, _≤_, _<_}
 use native.Mathlib.Omega.{arith}
 use lib.Dec.{eqb, ltb, leb}
-use lib.ListN.{length, getD, take, drop, set, replicate, length-take, length-drop, length-append, length-replicate, replicate-append-replicate, drop-of-length-le}
+use lib.ListN.{length, getD, take, drop, set, replicate, length-take, length-drop, length-append, length-replicate, replicate-append-replicate}
 use lib.Seq.{take-at, drop-at, set-at, getD-append-add}
 use borrow.Author.Tests.{lt-ltb, le-ltb, le-leb, lt-leb}
 use Rattle.buddy.specs.Blocks.{size, Tree, Free, Live, Halves, joined, freed, delivered}
 use Rattle.buddy.specs.Map.{freeTag, liveTag, written, canonical}
 use Rattle.buddy.proofs.Size.{size-pos, size-suc}
 use Rattle.buddy.proofs.Map.{length-written, first-append, first-le, canonical-halves}
-use Rattle.buddy.proofs.Halves.{one-less, upper}
+use Rattle.word.proofs.Tests.{by-leb}
+use Rattle.buddy.proofs.Halves.{one-less, low-part, low-changed, high-part, high-changed}
 
 -- halves begin with a smaller byte than the tags
 pub halves-first : (k : ℕ) (l r : Tree) → getD (written k (Halves l r)) 0 0 < freeTag k
@@ -87,10 +88,10 @@ unfolding written
 split-ends k j tag at l e g w = rw (w, delivered-here j at k at (omega arith), g)
 
 -- and goes on in the low half
-pub split-goes : (k j tag at : ℕ) (l ys : List ℕ) → j < k → length l / 2 ≡ size (k - 1) → tag ≡ freeTag (k - 1) → l ≡ written k Free
+split-low : (k j tag at : ℕ) (l ys : List ℕ) → j < k → length l / 2 ≡ size (k - 1) → tag ≡ freeTag (k - 1) → l ≡ written k Free
     → (take (length l / 2) (set (set l (length l / 2) tag) 0 tag) ≡ written (k - 1) Free → ys ≡ written (k - 1) (delivered j at (k - 1) at Free))
     → ys ++ drop (length l / 2) (set (set l (length l / 2) tag) 0 tag) ≡ written k (delivered j at k at Free)
-split-goes k j tag at l ys h =
+split-low k j tag at l ys h =
     one-less
     (λ i p. j < i → length l / 2 ≡ size p → tag ≡ freeTag p → l ≡ written i Free
     → (take (length l / 2) (set (set l (length l / 2) tag) 0 tag) ≡ written p Free → ys ≡ written p (delivered j at p at Free))
@@ -103,6 +104,16 @@ split-goes k j tag at l ys h =
     = ap₂ drop half m ∙ drop-at (written p Free) _ (size p) (length-written p Free) in
     ap₂ _++_ (low first) last ∙ sym (written-halves p _ Free) ∙ ap (written (suc p)) (sym (delivered-low j p at (omega arith))))
     k (omega arith) h
+
+-- the low half as a part of the slice
+pub split-goes : (k j tag at start : ℕ) (l m ys : List ℕ) → start ≡ 0 → m ≡ set (set l (length l / 2) tag) 0 tag
+    → j < k → length l / 2 ≡ size (k - 1) → tag ≡ freeTag (k - 1) → l ≡ written k Free
+    → (take (start + length l / 2 - start) (drop start m) ≡ written (k - 1) Free → ys ≡ written (k - 1) (delivered j at (k - 1) at Free))
+    → take start m ++ (ys ++ drop (start + length l / 2 - start) (drop start m)) ≡ written k (delivered j at k at Free)
+split-goes k j tag at start l m ys z e below half g w low =
+    low-changed (length l / 2) start m z ys
+    ∙ ap (λ (xs : List ℕ). ys ++ drop (length l / 2) xs) e
+    ∙ split-low k j tag at l ys below half g w (λ q. low (low-part (length l / 2) start m z ∙ ap (take (length l / 2)) e ∙ q))
 
 -- the first byte of the second of two trees
 second-append : (k : ℕ) (l r : Tree) → getD (written k l ++ written k r) (size k) 0 ≡ getD (written k r) 0 0
@@ -209,7 +220,7 @@ halved-tree k n l (Halves x y) half live free whole w =
 
 module _ (offset at : ℕ) (l ys zs : List ℕ) (t : Tree) where
   -- freeing goes on in the low half
-  pub frees-low : (k : ℕ) → 0 < k → offset < length l / 2 → length l / 2 ≡ size (k - 1)
+  frees-low : (k : ℕ) → 0 < k → offset < length l / 2 → length l / 2 ≡ size (k - 1)
       → (getD l 0 0 ≡ liveTag k → ⊥) → (getD l 0 0 ≡ freeTag k → ⊥) → canonical k t ≡ true → l ≡ written k t
       → ((s : Tree) → canonical (k - 1) s ≡ true → take (length l / 2) l ≡ written (k - 1) s → ys ≡ written (k - 1) (freed (at + offset) (k - 1) at s))
       → ((j : ℕ) (x y : Tree) → k ≡ suc j → ys ++ drop (length l / 2) l ≡ written j x ++ written j y → zs ≡ written k (joined x y))
@@ -228,29 +239,49 @@ module _ (offset at : ℕ) (l ys zs : List ℕ) (t : Tree) where
       k pos
 
   -- or in the high half
-  pub frees-high : (k : ℕ) → 0 < k → length l / 2 ≤ offset → length l / 2 ≡ size (k - 1)
+  frees-high : (k : ℕ) → 0 < k → length l / 2 ≤ offset → length l / 2 ≡ size (k - 1)
       → (getD l 0 0 ≡ liveTag k → ⊥) → (getD l 0 0 ≡ freeTag k → ⊥) → canonical k t ≡ true → l ≡ written k t
-      → ((s : Tree) → canonical (k - 1) s ≡ true → take (length l - length l / 2) (drop (length l / 2) l) ≡ written (k - 1) s
-      → ys ≡ written (k - 1) (freed ((at + length l / 2) + (offset - length l / 2)) (k - 1) (at + length l / 2) s))
-      → ((j : ℕ) (x y : Tree) → k ≡ suc j
-      → take (length l / 2) l ++ (ys ++ drop (length l - length l / 2) (drop (length l / 2) l)) ≡ written j x ++ written j y → zs ≡ written k (joined x y))
+      → ((s : Tree) → canonical (k - 1) s ≡ true → drop (length l / 2) l ≡ written (k - 1) s
+      → ys ≡ written (k - 1) (freed (at + offset) (k - 1) (at + length l / 2) s))
+      → ((j : ℕ) (x y : Tree) → k ≡ suc j → take (length l / 2) l ++ ys ≡ written j x ++ written j y → zs ≡ written k (joined x y))
       → zs ≡ written k (freed (at + offset) k at t)
   frees-high k pos above =
-      let none : drop (length l - length l / 2) (drop (length l / 2) l) ≡ [] = drop-of-length-le _ {i = length l - length l / 2} (rw length-drop (omega arith)) in
-      let far : (at + length l / 2) + (offset - length l / 2) ≡ at + offset = omega arith in
       one-less
       (λ k i. length l / 2 ≡ size i
       → (getD l 0 0 ≡ liveTag k → ⊥) → (getD l 0 0 ≡ freeTag k → ⊥) → canonical k t ≡ true → l ≡ written k t
-      → ((s : Tree) → canonical i s ≡ true → take (length l - length l / 2) (drop (length l / 2) l) ≡ written i s
-      → ys ≡ written i (freed ((at + length l / 2) + (offset - length l / 2)) i (at + length l / 2) s))
-      → ((j : ℕ) (x y : Tree) → k ≡ suc j
-      → take (length l / 2) l ++ (ys ++ drop (length l - length l / 2) (drop (length l / 2) l)) ≡ written j x ++ written j y → zs ≡ written k (joined x y))
+      → ((s : Tree) → canonical i s ≡ true → drop (length l / 2) l ≡ written i s
+      → ys ≡ written i (freed (at + offset) i (at + length l / 2) s))
+      → ((j : ℕ) (x y : Tree) → k ≡ suc j → take (length l / 2) l ++ ys ≡ written j x ++ written j y → zs ≡ written k (joined x y))
       → zs ≡ written k (freed (at + offset) k at t))
       (λ i half live free whole w inner join.
       let h = halved-tree i (length l / 2) l t half live free whole w in
       let same : ys ≡ written i (freed (at + offset) i (at + size i) (h .high))
-      = inner (h .high) (h .highWhole) (upper (length l / 2) l ∙ h .highBytes)
-      ∙ ap₂ (λ (a b : ℕ). written i (freed a i (at + b) (h .high))) far half in
-      join i (h .low) _ refl (ap₂ _++_ (h .lowBytes) (rw none (append-nil ys) ∙ same))
+      = inner (h .high) (h .highWhole) (h .highBytes) ∙ ap (λ (b : ℕ). written i (freed (at + offset) i (at + b) (h .high))) half in
+      join i (h .low) _ refl (ap₂ _++_ (h .lowBytes) same)
       ∙ ap (written (suc i)) (sym (ap (freed (at + offset) (suc i) at) (h .tree) ∙ freed-high (at + offset) i at (h .low) (h .high) (omega arith))))
       k pos
+
+  -- so in the half around the offset
+  pub frees-half : (k start : ℕ) → 0 < k → start ≡ cond (ltb offset (length l / 2)) 0 (length l / 2)
+      → length l ≡ length l / 2 + length l / 2 → length l / 2 ≡ size (k - 1)
+      → (getD l 0 0 ≡ liveTag k → ⊥) → (getD l 0 0 ≡ freeTag k → ⊥) → canonical k t ≡ true → l ≡ written k t
+      → ((s : Tree) → canonical (k - 1) s ≡ true → take (start + length l / 2 - start) (drop start l) ≡ written (k - 1) s
+      → ys ≡ written (k - 1) (freed ((at + start) + (offset - start)) (k - 1) (at + start) s))
+      → ((j : ℕ) (x y : Tree) → k ≡ suc j
+      → take start l ++ (ys ++ drop (start + length l / 2 - start) (drop start l)) ≡ written j x ++ written j y → zs ≡ written k (joined x y))
+      → zs ≡ written k (freed (at + offset) k at t)
+  frees-half k start pos e twice half live free whole w inner join =
+      by-leb (λ b. start ≡ cond b 0 (length l / 2) → zs ≡ written k (freed (at + offset) k at t)) (suc offset) (length l / 2)
+      (λ below z.
+      let here : at + start ≡ at = omega arith in
+      let there : (at + start) + (offset - start) ≡ at + offset = omega arith in
+      frees-low k pos below half live free whole w
+      (λ s c q. inner s c (low-part (length l / 2) start l z ∙ q) ∙ ap₂ (λ (a b : ℕ). written (k - 1) (freed a (k - 1) b s)) there here)
+      (λ j x y p q. join j x y p (low-changed (length l / 2) start l z ys ∙ q)))
+      (λ above z.
+      let here : at + start ≡ at + length l / 2 = omega arith in
+      let there : (at + start) + (offset - start) ≡ at + offset = omega arith in
+      frees-high k pos (omega arith) half live free whole w
+      (λ s c q. inner s c (high-part (length l / 2) start l z twice ∙ q) ∙ ap₂ (λ (a b : ℕ). written (k - 1) (freed a (k - 1) b s)) there here)
+      (λ j x y p q. join j x y p (high-changed (length l / 2) start l z twice ys ∙ q)))
+      e

@@ -1,8 +1,9 @@
 // One tree of the block map: the bytes of a block of the k-th size.
 ghost use mathlib.Core.Path.{_≡_};
-ghost use mathlib.Core.Bool.{true};
+ghost use mathlib.Core.Bool.{true, cond};
 ghost use mathlib.Core.List.{_∷_, _++_};
 ghost use Prim.Native.Nat.{ℕ, suc, _+_, _-_, _≤_, _<_};
+ghost use lib.Dec.{ltb};
 ghost use lib.ListN.{length, replicate, drop};
 ghost use Rattle.buddy.specs.Blocks.{Tree, Free, size, joined, freed, delivered};
 ghost use Rattle.buddy.specs.Map.{freeTag, liveTag, written, same, canonical};
@@ -114,7 +115,9 @@ pub(crate) fn split(k: u8, j: u8, tags: &mut [u8])
     let tag = free_tag(k - 1);
     tags[half] = tag;
     tags[0] = tag;
-    split(k - 1, j, &mut tags[..half]);
+    let low = 0;
+    let end = low + half;
+    split(k - 1, j, &mut tags[low..end]);
 }
 
 // Rejoins the halves of a block of the k-th size if both are free.
@@ -130,6 +133,13 @@ fn rejoin(k: u8, tags: &mut [u8])
             tags[0] = free_tag(k);
         }
     }
+}
+
+// Where the half around an offset starts.
+fn half_around(offset: usize, half: usize) -> usize
+    ensures { λ r. ⌜ r ≡ cond (ltb offset half) 0 half ⌝ }
+{
+    if offset < half { 0 } else { half }
 }
 
 // Frees the live block around an offset, and rejoins free halves on the way back.
@@ -148,13 +158,10 @@ pub(crate) fn free_at(k: u8, offset: usize, tags: &mut [u8])
         return;
     }
     let half = tags.len() / 2;
-    if offset < half {
-        free_at(k - 1, offset, &mut tags[..half]);
-        rejoin(k, tags);
-    } else {
-        free_at(k - 1, offset - half, &mut tags[half..]);
-        rejoin(k, tags);
-    }
+    let start = half_around(offset, half);
+    let end = start + half;
+    free_at(k - 1, offset - start, &mut tags[start..end]);
+    rejoin(k, tags);
 }
 
 // The start of the first free block of the j-th size or a larger, in a block of the k-th size at an address.
@@ -192,9 +199,7 @@ pub(crate) fn deliver_at(k: u8, j: u8, offset: usize, tags: &mut [u8])
         return;
     }
     let half = tags.len() / 2;
-    if offset < half {
-        deliver_at(k - 1, j, offset, &mut tags[..half]);
-    } else {
-        deliver_at(k - 1, j, offset - half, &mut tags[half..]);
-    }
+    let start = half_around(offset, half);
+    let end = start + half;
+    deliver_at(k - 1, j, offset - start, &mut tags[start..end]);
 }

@@ -4,8 +4,8 @@ use Prim.Native.Nat.{ℕ, _+_, _-_, _*_, _/_, _%_, _≤_, _<_}
 use native.Mathlib.Nat.{div-add-mod', mod-lt}
 use native.Mathlib.Omega.{arith}
 use lib.ListN.{length}
+use Rattle.buddy.proofs.Halves.{part-length}
 use Rattle.buddy.proofs.Size.{size-pos}
-use Rattle.buddy.proofs.Keeping.{part-length}
 use Rattle.buddy.proofs.Address.{top-le, tree-fits, frees-map}
 use borrow.Author.Needs.{needs}
 use Rattle.buddy.proofs.section.free_block.Statement.{statement}

@@ -9,8 +9,8 @@ use Rattle.buddy.specs.declared.Found.{Found}
 use Rattle.buddy.specs.Map.{allTold}
 use Rattle.buddy.specs.Part.{allWhole}
 use Rattle.buddy.specs.Lowest.{orElse, lowestOf}
-use Rattle.buddy.proofs.Halves.{times-pred}
-use Rattle.buddy.proofs.Keeping.{whole-rest, found-next, lowest-end, part-length}
+use Rattle.buddy.proofs.Halves.{times-pred, part-length}
+use Rattle.buddy.proofs.Keeping.{whole-rest, found-next, lowest-end}
 use Rattle.buddy.proofs.section.lowest_of.Statement.{statement}
 use Rattle.buddy.proofs.section.lowest_of.Tie as tie
 use Rattle.buddy.proofs.section.lowest_of.Reads as reads

@@ -1,12 +1,11 @@
 -- `split` delivers the first words of a free block, which is halved until the wanted size is reached. The measure is k. Assumes nothing.
 use borrow.Author.Needs.{needs}
-use mathlib.Core.Path.{sym, ap, _∙_}
-use Prim.Native.Nat.{_-_, _/_}
+use mathlib.Core.Path.{refl, _∙_}
+use Prim.Native.Nat.{_/_}
 use native.Mathlib.Omega.{arith}
-use lib.ListN.{length, set, length-set}
-use lib.Seq.{length-take-le, length-front}
+use lib.ListN.{length, length-set}
 use Rattle.buddy.proofs.Size.{size-pos}
-use Rattle.buddy.proofs.Halves.{half-size}
+use Rattle.buddy.proofs.Halves.{half-size, part-length}
 use Rattle.buddy.proofs.Tags.{split-ends, split-goes}
 use Prim.Native.Nat.{ℕ, _<_}
 use borrow.Fn.Kinds.{In, Out}
@@ -65,23 +64,36 @@ split-slice-write-tags-2 t c = omega (arith, size-pos (c .before .before .before
 split-slice-write-tags-3 : (t : ℕ) → split-lts.Need-slice-write-tags-3 (split-calls t) (split-at t) split.Post
 split-slice-write-tags-3 t c = simp length-set (omega (arith, size-pos (c .before .before .before .args .k)))
 
+split-add-end : (t : ℕ) → split-lts.Need-add-end (split-calls t) (split-at t) split.Post
+split-add-end t c = record { fits = omega arith }
+
 split-sub-split : (t : ℕ) → split-lts.Need-sub-split (split-calls t) (split-at t) split.Post
 split-sub-split t c = omega arith
 
-split-slice-relend-prefix-split : (t : ℕ) → split-lts.Need-slice-relend-prefix-split (split-calls t) (split-at t) split.Post
-split-slice-relend-prefix-split t c = simp length-set (omega arith)
+split-sub-split-2 : (t : ℕ) → split-lts.Need-sub-split-2 (split-calls t) (split-at t) split.Post
+split-sub-split-2 t c = omega arith
 
-split-slice-aggregate-split : (t : ℕ) → split-lts.Need-slice-aggregate-split (split-calls t) (split-at t) split.Post
-split-slice-aggregate-split t c = sym (length-take-le _ _ (simp length-set (omega arith)))
+split-part-split-start : (t : ℕ) → split-lts.Need-part-split-start (split-calls t) (split-at t) split.Post
+split-part-split-start t c = omega arith
+
+split-part-split-end : (t : ℕ) → split-lts.Need-part-split-end (split-calls t) (split-at t) split.Post
+split-part-split-end t c = simp length-set (omega arith)
 
 split-split-requires : (t : ℕ) → split-lts.Need-split-requires (split-calls t) (split-at t) split.Post
-split-split-requires t c κs = (omega arith, (omega arith, omega arith, length-take-le _ _ (simp length-set (omega arith)) ∙ half-size _ _ (omega arith) (c .before .before .before .before .pre .1 .2)))
+split-split-requires t c κs =
+    let e = c .before .before .before .before in
+    let half = length (e .args .tags .now) / 2 in
+    (omega arith, (omega arith, omega arith, part-length _ half _ (simp length-set (omega arith)) ∙ half-size _ _ (omega arith) (e .pre .1 .2)))
 
 split-same-length-2 : (t : ℕ) → split-lts.Need-same-length-2 (split-calls t) (split-at t) split.Post
 split-same-length-2 t c = c .before .tags .given .1 ∙ simp length-set
 
 split-returns-2 : (t : ℕ) → split-lts.Need-returns-2 (split-calls t) (split-at t) split.Post
-split-returns-2 t c = λ at w. split-goes (c .before .before .before .before .before .before .before .args .k) (c .before .before .before .before .before .before .before .args .j) (c .before .before .before .before .free-tag .result) at (c .before .before .before .before .before .before .before .args .tags .now) (c .before .before .split .last .1 .1 .0) (omega arith) (half-size _ _ (omega arith) (c .before .before .before .before .before .before .before .pre .1 .2)) (c .before .before .before .before .free-tag .ensures) w (c .before .before .split .ensures at)
+split-returns-2 t c = λ at w.
+    let e = c .before .before .before .before .before .before .before in
+    let tag = c .before .before .before .before .free-tag in
+    split-goes (e .args .k) (e .args .j) (tag .result) at _ (e .args .tags .now) _ (c .before .before .split .last .1 .1 .0) refl refl (omega arith)
+    (half-size _ _ (omega arith) (e .pre .1 .2)) (tag .ensures) w (c .before .before .split .ensures at)
 
 pub +split-spec : {M : Type 1} → statement M
 +split-spec = close μ-split λ t. split-lts.spec (split-calls t)
@@ -95,9 +107,11 @@ pub +split-spec : {M : Type 1} → statement M
     (split-free-tag-requires t)
     (split-slice-write-tags-2 t)
     (split-slice-write-tags-3 t)
+    (split-add-end t)
     (split-sub-split t)
-    (split-slice-relend-prefix-split t)
-    (split-slice-aggregate-split t)
+    (split-sub-split-2 t)
+    (split-part-split-start t)
+    (split-part-split-end t)
     (split-split-requires t)
     (split-same-length-2 t)
     (split-returns-2 t)
