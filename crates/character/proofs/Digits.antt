@@ -1,6 +1,6 @@
 -- Laws of digits that the code goes by: a power as a shift, the next digit and the value that grows by it, leading characters, digits in groups,
 -- what is printed and what is taken. Assumes nothing.
-use mathlib.Core.Path.{_≡_, refl}
+use mathlib.Core.Path.{_≡_, refl, sym, ap, _∙_}
 use mathlib.Core.Bool.{cond}
 use mathlib.Core.List.{List, [], _∷_, _++_}
 use Prim.Native.Nat.{ℕ, zero, suc, _+_, _-_, _*_, _/_, _%_, _^_, _≤_, _<_, min}
@@ -90,6 +90,17 @@ module _ {A : Type 0} (yes : ℕ → A) (no : A) where
     unfolding answer allBelow
     answer-stop h = rw (le-ltb x base h)
 
+  -- the first digit of a value that has some left
+  module _ (base m k v x : ℕ) (some-left : 0 < k) (first : x ≡ v / 64 ^ (k - 1) % 64) where
+    opened : answer base m (digits 64 k v) ≡ answer base m (x ∷ digits 64 (k - 1) v)
+    opened = ap (answer base m) (digits-first 64 k v some-left ∙ ap (λ (y : ℕ). y ∷ digits 64 (k - 1) v) (sym first))
+
+    pub answer-turn : x < base → answer base m (digits 64 k v) ≡ answer base (m * base + x) (digits 64 (k - 1) v)
+    answer-turn h = opened ∙ answer-next base m x (digits 64 (k - 1) v) h
+
+    pub answer-ends : base ≤ x → answer base m (digits 64 k v) ≡ no
+    answer-ends h = opened ∙ answer-stop base m x (digits 64 (k - 1) v) h
+
 module _ (old new m x : ℕ) (xs : List ℕ) where
   -- a leading character that changes
   pub leading-next : x ≡ old → number 64 m (leading old new (x ∷ xs)) ≡ number 64 (m * 64 + new) (leading old new xs)
@@ -100,6 +111,19 @@ module _ (old new m x : ℕ) (xs : List ℕ) where
   pub leading-stop : (x ≡ old → ⊥) → leading old new (x ∷ xs) ≡ x ∷ xs
   unfolding leading
   leading-stop e = rw (ne-eqb x old e)
+
+-- the first character of a value that has some left
+module _ (old new m k v x : ℕ) (some-left : 0 < k) (first : x ≡ v / 64 ^ (k - 1) % 64) where
+  opened-leading : leading old new (digits 64 k v) ≡ leading old new (x ∷ digits 64 (k - 1) v)
+  opened-leading = ap (leading old new) (digits-first 64 k v some-left ∙ ap (λ (y : ℕ). y ∷ digits 64 (k - 1) v) (sym first))
+
+  pub leading-turn : x ≡ old → number 64 m (leading old new (digits 64 k v)) ≡ number 64 (m * 64 + new) (leading old new (digits 64 (k - 1) v))
+  leading-turn e = ap (number 64 m) opened-leading ∙ leading-next old new m x (digits 64 (k - 1) v) e
+
+  pub leading-ends : (x ≡ old → ⊥) → number 64 m (leading old new (digits 64 k v)) ≡ m * 64 ^ k + v % 64 ^ k
+  leading-ends e =
+      let all = leading-stop old new m x (digits 64 (k - 1) v) e ∙ ap (λ (y : ℕ). y ∷ digits 64 (k - 1) v) first ∙ sym (digits-first 64 k v some-left) in
+      ap (number 64 m) (opened-leading ∙ all) ∙ number-digits 64 m k v (omega arith)
 
 -- blanks that become zeros in front of characters add nothing
 pub blanks-first : (k : ℕ) (cs : List ℕ) → packed (leading blank 0 (replicate k blank ++ cs)) ≡ packed (leading blank 0 cs)

@@ -1,13 +1,12 @@
 -- `character::changed` meets its contract. The loop's invariant: the characters that are left, with their leading ones changed, after those that were made, make the result.
 -- Assumes nothing.
-use mathlib.Core.Path.{_≡_, refl}
-use Prim.Native.Nat.{_+_, _-_, _*_, _%_, _^_, _<_}
+use mathlib.Core.Path.{_≡_, refl, sym, _∙_}
+use Prim.Native.Nat.{_+_, _*_, _%_, _^_, _<_}
 use native.Mathlib.Nat.{mod-lt, one-le-pow}
 use native.Mathlib.Omega.{arith}
 use borrow.Author.Needs.{needs}
 use Rattle.character.specs.Character.{digits, number, characters, packed, leading}
-use Rattle.character.proofs.RoundTrip.{number-digits}
-use Rattle.character.proofs.Digits.{Growing, growing, grown, grown-fits, whole-fits, digits-first, leading-next, leading-stop}
+use Rattle.character.proofs.Digits.{Growing, growing, grown, grown-fits, whole-fits, leading-turn, leading-ends}
 use Rattle.character.proofs.changed.Statement.{statement}
 use Rattle.character.proofs.changed.Tie as tie
 
@@ -53,14 +52,12 @@ add-result c = record { fits = whole c }
 
 returns : tie.Need-returns Inv-loop μ-loop
 returns c =
-    let t = c .before .before .before in
-    let l = t .before .loop in
-    let s = t .before .before .args in
-    let next = c .before .before .digit .result in
-    let e = digits-first 64 (l .left) (s .v) (t .loop-test .taken) in
-    let stop = leading-stop (s .old) (s .new) (l .made) next (digits 64 (l .left - 1) (s .v)) (c .before .if1 .taken) in
-    let whole-is = number-digits 64 (l .made) (l .left) (s .v) (omega arith) in
-    cc
+    let l = c .before .before .before .before .loop in
+    let a = c .before .before .before .before .before .args in
+    let digit = c .before .before .digit in
+    rw (c .power .ensures)
+    (sym (leading-ends (a .old) (a .new) (l .made) (l .left) (a .v) (digit .result) (c .before .before .before .loop-test .taken) (digit .ensures) (c .before .if1 .taken))
+    ∙ l .inv .1)
 
 sub-left : tie.Need-sub-left Inv-loop μ-loop
 sub-left c = search needs
@@ -83,13 +80,12 @@ loop-less c = search needs
 
 loop-again : tie.Need-loop-again Inv-loop μ-loop
 loop-again c =
-    let t = c .before .before in
-    let l = t .before .loop in
-    let s = t .before .before in
-    let next = c .before .digit .result in
-    let e = digits-first 64 (l .left) (s .args .v) (t .loop-test .taken) in (
-      grown (l .inv .0) (t .loop-test .taken) 64 (s .args .new) (omega arith) (s .pre .0),
-      cc (leading-next (s .args .old) (s .args .new) (l .made) next (digits 64 (l .left - 1) (s .args .v)) (c .if1 .left)),
+    let turn = c .before .before in
+    let l = turn .before .loop in
+    let s = turn .before .before in (
+      grown (l .inv .0) (turn .loop-test .taken) 64 (s .args .new) (omega arith) (s .pre .0),
+      sym (leading-turn (s .args .old) (s .args .new) (l .made) (l .left) (s .args .v) (c .before .digit .result) (turn .loop-test .taken) (c .before .digit .ensures) (c .if1 .left))
+          ∙ l .inv .1,
     )
 
 returns-2 : tie.Need-returns-2 Inv-loop μ-loop

@@ -1,13 +1,13 @@
 -- `character::to_binary` meets its contract. The loop's invariant: the characters that are left, after those that were read, come to the result.
 -- Assumes nothing.
-use mathlib.Core.Path.{_≡_, refl}
+use mathlib.Core.Path.{_≡_, refl, sym, _∙_}
 use mathlib.Core.Option.{none, some}
-use Prim.Native.Nat.{_+_, _-_, _*_, _^_, _<_}
+use Prim.Native.Nat.{_+_, _*_, _^_, _<_}
 use native.Mathlib.Omega.{arith}
 use borrow.Author.Needs.{needs}
 use Rattle.character.specs.Character.{digits, number, characters, allBelow, toBinary}
 use Rattle.character.specs.Converted.{converted}
-use Rattle.character.proofs.Digits.{Growing, growing, grown, grown-fits, digits-first, answer, answer-next, answer-stop}
+use Rattle.character.proofs.Digits.{Growing, growing, grown, grown-fits, answer, answer-turn, answer-ends}
 use Rattle.character.proofs.to_binary.Statement.{statement}
 use Rattle.character.proofs.to_binary.Tie as tie
 
@@ -30,13 +30,11 @@ digit-requires c κs = search needs
 returns : tie.Need-returns Inv-loop μ-loop
 unfolding converted
 returns c =
-    let t = c .before .before in
-    let l = t .before .loop in
-    let s = t .before .before .args in
-    let next = c .before .digit .result in
-    let e = digits-first 64 (l .left) (s .v) (t .loop-test .taken) in
-    let stop = answer-stop some none (s .base) (l .made) next (digits 64 (l .left - 1) (s .v)) (c .if1 .taken) in
-    let refused : toBinary (s .base) (s .n) (s .v) ≡ none = cc in
+    let loop = c .before .before .before in
+    let a = loop .before .args in
+    let next = c .before .digit in
+    let stop = answer-ends some none (a .base) (loop .loop .made) (loop .loop .left) (a .v) (next .result) (c .before .before .loop-test .taken) (next .ensures) (c .if1 .taken) in
+    let refused : toBinary (a .base) (a .n) (a .v) ≡ none = sym (loop .loop .inv .1) ∙ stop in
     rw refused
 
 -- the value still fits after a turn
@@ -57,13 +55,12 @@ loop-less c = search needs
 
 loop-again : tie.Need-loop-again Inv-loop μ-loop
 loop-again c =
-    let t = c .before .before in
-    let l = t .before .loop in
-    let s = t .before .before in
-    let next = c .before .digit .result in
-    let e = digits-first 64 (l .left) (s .args .v) (t .loop-test .taken) in (
-      grown (l .inv .0) (t .loop-test .taken) (s .args .base) next (s .pre .0) (omega arith),
-      cc (answer-next some none (s .args .base) (l .made) next (digits 64 (l .left - 1) (s .args .v)) (c .if1 .left)),
+    let loop = c .before .before .before in
+    let a = loop .before .args in
+    let next = c .before .digit in
+    let more = c .before .before .loop-test .taken in (
+      grown (loop .loop .inv .0) more (a .base) (next .result) (loop .before .pre .0) (omega arith),
+      sym (answer-turn some none (a .base) (loop .loop .made) (loop .loop .left) (a .v) (next .result) more (next .ensures) (c .if1 .left)) ∙ loop .loop .inv .1,
     )
 
 returns-2 : tie.Need-returns-2 Inv-loop μ-loop

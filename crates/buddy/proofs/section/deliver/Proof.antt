@@ -70,18 +70,5 @@ returns c = let e = c .before .before .before .before .before .before .before .b
 pub deliver-spec : {M : Type 1} → statement M
 deliver-spec =
     tie.close
-    (tie.spec
-    top-of-requires
-    size-of-requires
-    cast-offset
-    sub-offset
-    div-start
-    mul-start
-    add-end
-    rem-deliver-at
-    sub-deliver-at
-    part-deliver-at-start
-    part-deliver-at-end
-    deliver-at-requires
-    same-length
-    returns)
+    (tie.spec top-of-requires size-of-requires cast-offset sub-offset div-start mul-start add-end rem-deliver-at
+    sub-deliver-at part-deliver-at-start part-deliver-at-end deliver-at-requires same-length returns)

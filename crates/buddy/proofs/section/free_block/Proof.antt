@@ -69,18 +69,5 @@ returns c = let e = c .before .before .before .before .before .before .before .b
 pub free-block-spec : {M : Type 1} → statement M
 free-block-spec =
     tie.close
-    (tie.spec
-    top-of-requires
-    size-of-requires
-    cast-offset
-    sub-offset
-    div-start
-    mul-start
-    add-end
-    rem-free-at
-    sub-free-at
-    part-free-at-start
-    part-free-at-end
-    free-at-requires
-    same-length
-    returns)
+    (tie.spec top-of-requires size-of-requires cast-offset sub-offset div-start mul-start add-end rem-free-at sub-free-at
+    part-free-at-start part-free-at-end free-at-requires same-length returns)

@@ -64,20 +64,5 @@ returns-7 c = rw (c .before .before .enum-told6 .given .1, c .enum-told9 .given 
 pub both-parts-spec : {M : Type 1} → statement M
 both-parts-spec =
     tie.close
-    (tie.spec
-    enum-told
-    enum-told-2
-    enum-told-3
-    enum-told-4
-    enum-told-5
-    enum-told-6
-    enum-told-7
-    enum-told-8
-    enum-told-9
-    returns
-    returns-2
-    returns-3
-    returns-4
-    returns-5
-    returns-6
-    returns-7)
+    (tie.spec enum-told enum-told-2 enum-told-3 enum-told-4 enum-told-5 enum-told-6 enum-told-7 enum-told-8 enum-told-9
+    returns returns-2 returns-3 returns-4 returns-5 returns-6 returns-7)

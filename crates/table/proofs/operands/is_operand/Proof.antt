@@ -104,33 +104,7 @@ returns-7 c =
 pub is-operand-spec : {M : Type 1} → statement M
 is-operand-spec =
     tie.close
-    (tie.spec
-    enum-told
-    is-absent-requires
-    enum-told-2
-    is-literal-requires
-    enum-told-3
-    is-ref-requires
-    enum-told-4
-    is-literal-requires-2
-    is-ref-requires-2
-    either-requires
-    enum-told-5
-    is-ref-requires-3
-    is-absent-requires-2
-    either-requires-2
-    enum-told-6
-    is-ref-requires-4
-    is-zero-requires
-    either-requires-3
-    enum-told-7
-    is-literal-requires-3
-    both-requires
-    both-requires-2
-    returns
-    returns-2
-    returns-3
-    returns-4
-    returns-5
-    returns-6
-    returns-7)
+    (tie.spec enum-told is-absent-requires enum-told-2 is-literal-requires enum-told-3 is-ref-requires enum-told-4
+    is-literal-requires-2 is-ref-requires-2 either-requires enum-told-5 is-ref-requires-3 is-absent-requires-2
+    either-requires-2 enum-told-6 is-ref-requires-4 is-zero-requires either-requires-3 enum-told-7 is-literal-requires-3
+    both-requires both-requires-2 returns returns-2 returns-3 returns-4 returns-5 returns-6 returns-7)
