@@ -28,10 +28,9 @@ pub enum Packed {
 
 // The characters that a field of this width holds.
 pub fn holds(width: usize) -> usize
-    requires { ⌜ width ≤ 64 ⌝ }
     ensures { λ r. ⌜ r ≡ holds width ⌝ }
 {
-    (width + 5) / 6
+    width / 6 + (width % 6 + 5) / 6
 }
 
 // The lesser of two counts.
@@ -120,7 +119,7 @@ fn changed(old: u64, new: u64, n: usize, v: u64) -> u64
 
 // Operation 26: leading blanks become zeros, those that lead a narrow field too.
 pub fn blanks_to_zeros(n: usize, width: usize, v: u64) -> u64
-    requires { ⌜ (n ≤ 10) × (width ≤ 64) ⌝ }
+    requires { ⌜ n ≤ 10 ⌝ }
     ensures { λ r. ⌜ r ≡ blanksToZeros n width v ⌝ }
 {
     changed(BLANK, 0, least(n, holds(width)), v)

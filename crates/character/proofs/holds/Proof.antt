@@ -1,6 +1,6 @@
--- `character::holds` meets its contract: the definition is the code.
+-- `character::holds` meets its contract: rounding up the rest of the width rounds up the width.
 -- Assumes nothing.
-use mathlib.Core.Path.{refl}
+use native.Mathlib.Omega.{arith}
 use borrow.Author.Needs.{needs}
 use Rattle.character.specs.Character.{holds}
 use Rattle.character.proofs.holds.Statement.{statement}
@@ -9,9 +9,12 @@ use Rattle.character.proofs.holds.Tie as tie
 add-result : tie.Need-add-result
 add-result c = search needs
 
+add-result-2 : tie.Need-add-result-2
+add-result-2 c = search needs
+
 returns : tie.Need-returns
 unfolding holds
-returns c = refl
+returns c = omega arith
 
 pub holds-spec : {M : Type 1} → statement M
-holds-spec = tie.close (tie.spec add-result returns)
+holds-spec = tie.close (tie.spec add-result add-result-2 returns)

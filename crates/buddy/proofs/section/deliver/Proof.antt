@@ -56,7 +56,7 @@ deliver-at-requires c κs = let e = c .before .before .before .before .before in
       omega (arith, c .before .before .before .top-of .ensures),
       omega (arith, c .before .before .before .top-of .ensures, top-le (e .args .setup .d)),
       part-length ((e .args .address - e .args .setup .s1) / n * n) n (e .args .map .now) fits ∙ c .before .before .size-of .ensures,
-      omega (arith, c .before .before .size-of .ensures, mod-lt (e .args .address - e .args .setup .s1) {m = n} (omega (arith, c .before .before .size-of .ensures, size-pos (c .before .before .before .top-of .result)))),
+      rw (← (c .before .before .size-of .ensures)) (mod-lt _ {m = n} (omega (arith, c .before .before .size-of .ensures, size-pos (c .before .before .before .top-of .result)))),
     )
 
 same-length : tie.Need-same-length
