@@ -33,6 +33,10 @@ add-next c = search needs
 shared-slice-read-next : tie.Need-shared-slice-read-next Inv-loop μ-loop
 shared-slice-read-next c = search needs
 
+-- a byte fits a word
+byte-fits : (x : ℕ) → x < 256 → x < 2 ^ 64
+byte-fits x h = omega arith
+
 -- the byte that is taken
 abbrev next : tie.After-shared-slice-known Inv-loop μ-loop → ℕ
 next c =
@@ -41,10 +45,7 @@ next c =
     getD (a .input .now) (a .at + (a .count - l .loop .left)) 0
 
 cast-next : tie.Need-cast-next Inv-loop μ-loop
-cast-next c =
-    let l = c .before .before in
-    let a = l .before .args in
-    omega (arith, c .shared-slice-known .given (a .at + (a .count - l .loop .left)))
+cast-next c = record { fits = byte-fits _ (c .shared-slice-known .given _ .fits) }
 
 returns : tie.Need-returns Inv-loop μ-loop
 returns c =

@@ -18,7 +18,7 @@ abbrev μ-loop : tie.MeasureT-loop
 
 returns : tie.Need-returns Inv-loop μ-loop
 unfolding isReference
-returns c = simp (le-ltb _ _ (c .if1 .taken))
+returns c = simp (le-ltb (c .before .args .v) (64 ^ 6) (omega arith))
 
 loop-holds : tie.Need-loop-holds Inv-loop μ-loop
 loop-holds c = (5, is-reference-named _ (c .if1 .left), c .if1 .left)

@@ -19,7 +19,7 @@ sub-from : tie.Need-sub-from Inv-loop μ-loop
 sub-from c = found-pos (c .before .loop .inv) (c .loop-test .taken)
 
 sub-t8 : tie.Need-sub-t8 Inv-loop μ-loop
-sub-t8 c = found-digit (c .before .loop .inv) (c .loop-test .taken) .low
+sub-t8 c = let d = found-digit (c .before .loop .inv) (c .loop-test .taken) in omega (arith, d .low)
 
 cast-t9 : tie.Need-cast-t9 Inv-loop μ-loop
 cast-t9 c = let d = found-digit (c .before .loop .inv) (c .loop-test .taken) in omega (arith, d .high)
@@ -34,7 +34,7 @@ loop-again : tie.Need-loop-again Inv-loop μ-loop
 loop-again c = found-next (c .before .loop .inv) (c .loop-test .taken)
 
 sub-t13 : tie.Need-sub-t13 Inv-loop μ-loop
-sub-t13 c = found-last (c .before .loop .inv) (c .loop-test .left) .low
+sub-t13 c = let l = found-last (c .before .loop .inv) (c .loop-test .left) in omega (arith, l .low)
 
 cast-t14 : tie.Need-cast-t14 Inv-loop μ-loop
 cast-t14 c = let l = found-last (c .before .loop .inv) (c .loop-test .left) in omega (arith, l .high)

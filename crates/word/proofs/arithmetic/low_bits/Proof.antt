@@ -1,4 +1,5 @@
 -- `word::arithmetic::low_bits` meets its contract. Assumes nothing.
+use native.Mathlib.Omega.{arith}
 use lib.Pow.{pow-pos}
 use borrow.Author.Needs.{needs}
 use Rattle.word.proofs.arithmetic.low_bits.Statement.{statement}
@@ -8,7 +9,7 @@ power-requires : tie.Need-power-requires
 power-requires c κs = search needs
 
 rem-result : tie.Need-rem-result
-rem-result c = rw (c .power .ensures) (pow-pos (c .before .args .b))
+rem-result c = omega (arith, c .power .ensures, pow-pos (c .before .args .b))
 
 returns : tie.Need-returns
 returns c = rw (c .power .ensures)

@@ -1,6 +1,7 @@
 -- `word::count::count_ones` meets its contract. Assumes nothing.
 use native.Mathlib.Omega.{arith}
-use Rattle.word.proofs.Places.{ones-low, ones-le}
+use lib.Count.{ones-le}
+use Rattle.word.proofs.Places.{ones-low}
 use borrow.Author.Needs.{needs}
 use Rattle.word.proofs.count.count_ones.Statement.{statement}
 use Rattle.word.proofs.count.count_ones.Tie as tie
@@ -9,10 +10,7 @@ low-bits-requires : tie.Need-low-bits-requires
 low-bits-requires c κs = search needs
 
 cast-result : tie.Need-cast-result
-cast-result c =
-    let w = c .before .args .w in
-    let v = c .before .args .v in
-    rw (c .low-bits .ensures, ones-low w v) (record { fits = omega (arith, ones-le w v) })
+cast-result c = record { fits = omega (arith, ones-le 64 (c .low-bits .result) (omega arith)) }
 
 returns : tie.Need-returns
 returns c = rw (c .low-bits .ensures) (ones-low (c .before .args .w) (c .before .args .v))

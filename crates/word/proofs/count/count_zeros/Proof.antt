@@ -1,4 +1,6 @@
 -- `word::count::count_zeros` meets its contract. Assumes nothing.
+use Prim.Native.Nat.{_≤_}
+use native.Mathlib.Omega.{arith}
 use Rattle.word.specs.Word.{zeros}
 use Rattle.word.proofs.Places.{ones-le}
 use borrow.Author.Needs.{needs}
@@ -9,7 +11,9 @@ count-ones-requires : tie.Need-count-ones-requires
 count-ones-requires c κs = search needs
 
 sub-result : tie.Need-sub-result
-sub-result c = rw (c .count-ones .ensures) (ones-le (c .before .args .w) (c .before .args .v))
+sub-result c =
+    let few : c .count-ones .result ≤ c .before .args .w = rw (c .count-ones .ensures) (ones-le _ _) in
+    omega arith
 
 returns : tie.Need-returns
 unfolding zeros

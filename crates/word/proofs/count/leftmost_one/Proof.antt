@@ -1,6 +1,7 @@
 -- `word::count::leftmost_one` meets its contract. Assumes nothing.
 use native.Mathlib.Omega.{arith}
-use lib.Count.{leading-le}
+use Prim.Native.Nat.{ℕ, _-_, _%_, _^_, _≤_, _<_}
+use lib.Count.{leadingZeros, leading-le}
 use Rattle.word.proofs.Places.{leftmost-one}
 use borrow.Author.Needs.{needs}
 use Rattle.word.proofs.count.leftmost_one.Statement.{statement}
@@ -15,8 +16,12 @@ cast-result c = record { fits = omega (arith, leading-le 64 (c .low-bits .result
 sub-result : tie.Need-sub-result
 sub-result c = search needs
 
+-- the 64 bits begin with zeros outside the width
+outside : (w x : ℕ) → w < 64 → 64 - w ≤ leadingZeros 64 (x % 2 ^ w)
+outside w x h = omega (arith, leftmost-one w x h)
+
 sub-result-2 : tie.Need-sub-result-2
-sub-result-2 c = rw (c .low-bits .ensures) (omega (arith, leftmost-one (c .before .args .w) (c .before .args .v) (c .before .pre)))
+sub-result-2 c = rw (c .low-bits .ensures) (outside _ _ (c .before .pre))
 
 returns : tie.Need-returns
 returns c = rw (c .low-bits .ensures) (omega (arith, leftmost-one (c .before .args .w) (c .before .args .v) (c .before .pre)))
