@@ -21,7 +21,9 @@ outside : (w x : ℕ) → w < 64 → 64 - w ≤ leadingZeros 64 (x % 2 ^ w)
 outside w x h = omega (arith, leftmost-one w x h)
 
 sub-result-2 : tie.Need-sub-result-2
-sub-result-2 c = rw (c .low-bits .ensures) (outside _ _ (c .before .pre))
+sub-result-2 c =
+    let out : 64 - c .before .args .w ≤ leadingZeros 64 (c .low-bits .result) = rw (c .low-bits .ensures) (outside _ _ (c .before .pre)) in
+    omega arith
 
 returns : tie.Need-returns
 returns c = rw (c .low-bits .ensures) (omega (arith, leftmost-one (c .before .args .w) (c .before .args .v) (c .before .pre)))
