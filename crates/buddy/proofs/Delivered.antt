@@ -17,11 +17,7 @@ use Rattle.word.proofs.Tests.{by-leb}
 use Rattle.buddy.proofs.Size.{size-pos, size-suc}
 use Rattle.buddy.proofs.Halves.{one-less, low-part, low-changed, high-part, high-changed}
 use Rattle.buddy.proofs.Tags.{first-free, written-halves, Halved, halved-tree}
-use Rattle.buddy.proofs.Lowest.{lowest-live, lowest-small, lowest-large}
-
--- nothing is no address
-not-found : (a : ℕ) → Nothing ≡ At a → ⊥
-not-found a e = let z : _≡_ {A = ℕ} 0 1 = cc in omega arith
+use Rattle.buddy.proofs.Lowest.{not-found, lowest-live, lowest-small, lowest-large}
 
 -- an address is one
 same-address : (a b : ℕ) → At a ≡ At b → a ≡ b

@@ -25,6 +25,10 @@ module _ (j k at : ℕ) (l : List ℕ) (t : Tree) (w : l ≡ written k t) where
   unfolding lowestIn
   lowest-live first = rw (first-live k t (ap (λ (xs : List ℕ). getD xs 0 0) (sym w) ∙ first))
 
+-- nothing is no address
+pub not-found : (a : ℕ) → Nothing ≡ At a → ⊥
+not-found a e = let z : _≡_ {A = ℕ} 0 1 = cc in omega arith
+
 -- halves of the wanted size
 pub lowest-small : (j k at : ℕ) (l : List ℕ) (t : Tree) → l ≡ written k t → k ≡ j → (getD l 0 0 ≡ freeTag k → ⊥) → Nothing ≡ lowestIn j k at t
 unfolding lowestIn written
@@ -44,14 +48,22 @@ unfolding orElse
 orElse-both (At a) high x y e f = rw (← e)
 orElse-both Nothing high x y e f = rw (← e) (f refl)
 
+-- what is known of a block that is halved, and larger than the wanted size
+pub record Halved-above (j k : ℕ) (l : List ℕ) : Type 0 where
+  pub pos : 0 < k
+  pub below : j < k
+  pub half : length l / 2 ≡ size (k - 1)
+  pub live : getD l 0 0 ≡ liveTag k → ⊥
+  pub free : getD l 0 0 ≡ freeTag k → ⊥
+
 -- by the halves of the slice
-pub lowest-halves : (j at : ℕ) (l : List ℕ) (t : Tree) (low high : Found) (k : ℕ) → 0 < k → j < k → length l / 2 ≡ size (k - 1)
+halves-lowest : (j at : ℕ) (l : List ℕ) (t : Tree) (low high : Found) (k : ℕ) → 0 < k → j < k → length l / 2 ≡ size (k - 1)
     → (getD l 0 0 ≡ liveTag k → ⊥) → (getD l 0 0 ≡ freeTag k → ⊥) → canonical k t ≡ true → l ≡ written k t
     → ((s : Tree) → canonical (k - 1) s ≡ true → take (length l / 2) l ≡ written (k - 1) s → low ≡ lowestIn j (k - 1) at s)
     → (low ≡ Nothing → (s : Tree) → canonical (k - 1) s ≡ true → take (length l - length l / 2) (drop (length l / 2) l) ≡ written (k - 1) s
     → high ≡ lowestIn j (k - 1) (at + length l / 2) s)
     → orElse low high ≡ lowestIn j k at t
-lowest-halves j at l t low high =
+halves-lowest j at l t low high =
     one-less
     (λ k i. j < k → length l / 2 ≡ size i
     → (getD l 0 0 ≡ liveTag k → ⊥) → (getD l 0 0 ≡ freeTag k → ⊥) → canonical k t ≡ true → l ≡ written k t
@@ -64,3 +76,23 @@ lowest-halves j at l t low high =
     orElse-both low high _ _ (inLow (h .low) (h .lowWhole) (h .lowBytes))
     (λ none. inHigh none (h .high) (h .highWhole) (upper (length l / 2) l ∙ h .highBytes) ∙ ap (λ (n : ℕ). lowestIn j i (at + n) (h .high)) half)
     ∙ sym (ap (lowestIn j (suc i) at) (h .tree) ∙ lowest-large j i at (h .low) (h .high) (omega arith)))
+
+module _ (j at : ℕ) (l : List ℕ) (t : Tree) (low : Found) (k : ℕ) (known : Halved-above j k l) (whole : canonical k t ≡ true) (w : l ≡ written k t)
+    (inLow : (s : Tree) → canonical (k - 1) s ≡ true → take (length l / 2) l ≡ written (k - 1) s → low ≡ lowestIn j (k - 1) at s) where
+  -- what the low half has
+  pub lowest-low : (a : ℕ) → low ≡ At a → At a ≡ lowestIn j k at t
+  unfolding orElse
+  lowest-low a found =
+      ap (λ (f : Found). orElse f Nothing) (sym found)
+      ∙ halves-lowest j at l t low Nothing k (known .pos) (known .below) (known .half) (known .live) (known .free) whole w inLow
+      (λ none. absurd (not-found a (sym none ∙ found)))
+
+  -- and otherwise what the high half has
+  pub lowest-high : (high : Found) → low ≡ Nothing
+      → ((s : Tree) → canonical (k - 1) s ≡ true → take (length l - length l / 2) (drop (length l / 2) l) ≡ written (k - 1) s
+      → high ≡ lowestIn j (k - 1) (at + length l / 2) s)
+      → high ≡ lowestIn j k at t
+  unfolding orElse
+  lowest-high high none inHigh =
+      ap (λ (f : Found). orElse f high) (sym none)
+      ∙ halves-lowest j at l t low high k (known .pos) (known .below) (known .half) (known .live) (known .free) whole w inLow (λ _. inHigh)

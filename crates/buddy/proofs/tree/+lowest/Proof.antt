@@ -1,16 +1,13 @@
 -- `lowest` finds the start of the first free block that is large enough. The measure is k. Assumes nothing.
 use borrow.Author.Needs.{needs}
-use mathlib.Core.Path.{_≡_, sym, ap, _∙_}
+use mathlib.Core.Path.{sym, _∙_}
 use Prim.Native.Nat.{_-_, _/_, _+_}
 use native.Mathlib.Omega.{arith}
 use lib.ListN.{length}
 use lib.Seq.{length-take-le}
-use Rattle.buddy.specs.declared.Found.{Found}
-use Rattle.buddy.specs.declared.Found.the-variants.{Nothing}
-use Rattle.buddy.specs.Lowest.{orElse}
 use Rattle.buddy.proofs.Size.{size-pos}
 use Rattle.buddy.proofs.Halves.{half-size, size-pred, low-length, high-length}
-use Rattle.buddy.proofs.Lowest.{lowest-free, lowest-live, lowest-small, lowest-halves}
+use Rattle.buddy.proofs.Lowest.{lowest-free, lowest-live, lowest-small, Halved-above, lowest-low, lowest-high}
 use Prim.Native.Nat.{ℕ, _<_}
 use borrow.Fn.Kinds.{In, Out}
 use borrow.Fn.PlainCycle.{Measures, is, falls, and}
@@ -65,6 +62,19 @@ lowest-returns-2 t c = λ s whole w. lowest-live _ (c .before .before .before .b
 lowest-returns-3 : (t : ℕ) → lowest-lts.Need-returns-3 (lowest-calls t) (lowest-at t) lowest.Post
 lowest-returns-3 t c = λ s whole w. lowest-small _ (c .before .before .before .before .before .before .before .before .args .k) _ _ s w (c .if3 .taken) (λ q. c .before .before .before .before .if1 .left (q ∙ sym (c .before .before .before .before .before .free-tag .ensures)))
 
+-- the block is halved
+lowest-halved : (t : ℕ) (c : lowest-lts.Else3 (lowest-calls t) (lowest-at t) lowest.Post) → let a = c .before .before .before .before .before .before .before .before .args in Halved-above (a .j) (a .k) (a .tags .now)
+lowest-halved t c =
+    let e = c .before .before .before .before .before .before .before .before in
+    let pos : 0 < e .args .k = omega arith in
+    record {
+      pos = pos;
+      below = omega arith;
+      half = half-size (e .args .k) _ pos (e .pre .1 .2);
+      live = λ q. c .before .if2 .left (q ∙ sym (c .before .before .live-tag .ensures));
+      free = λ q. c .before .before .before .before .if1 .left (q ∙ sym (c .before .before .before .before .before .free-tag .ensures));
+    }
+
 lowest-sub-lowest : (t : ℕ) → lowest-lts.Need-sub-lowest (lowest-calls t) (lowest-at t) lowest.Post
 lowest-sub-lowest t c = omega arith
 
@@ -99,24 +109,18 @@ lowest-lowest-requires-2 : (t : ℕ) → lowest-lts.Need-lowest-requires-2 (lowe
 lowest-lowest-requires-2 t c κs = (omega arith, (omega arith, omega arith, high-length _ (c .before .before .before .before .before .before .before .before .before .before .before .before .before .args .tags .now) (omega arith) (c .before .before .before .before .before .before .before .before .before .before .before .before .before .pre .1 .2), omega (arith, half-size (c .before .before .before .before .before .before .before .before .before .before .before .before .before .args .k) _ (omega arith) (c .before .before .before .before .before .before .before .before .before .before .before .before .before .pre .1 .2), size-pred (c .before .before .before .before .before .before .before .before .before .before .before .before .before .args .k) (omega arith))))
 
 lowest-returns-4 : (t : ℕ) → lowest-lts.Need-returns-4 (lowest-calls t) (lowest-at t) lowest.Post
-unfolding orElse
 lowest-returns-4 t c = λ s whole w.
-    let e = c .before .before .before .before .before .before .before .before .before .before .before .before .before in
-    let found = c .before .low .given .1 in
-    ap (λ (f : Found). orElse f Nothing) (sym found)
-    ∙ lowest-halves (e .args .j) (e .args .at) (e .args .tags .now) s (c .before .before .before .lowest .result) Nothing (e .args .k) (omega arith) (omega arith)
-    (half-size _ _ (omega arith) (e .pre .1 .2)) (λ q. c .before .before .before .before .before .before .if2 .left (q ∙ sym (c .before .before .before .before .before .before .before .live-tag .ensures))) (λ q. c .before .before .before .before .before .before .before .before .before .if1 .left (q ∙ sym (c .before .before .before .before .before .before .before .before .before .before .free-tag .ensures)))
-    whole w (c .before .before .before .lowest .ensures) (λ none. absurd (let z : _≡_ {A = ℕ} 0 1 = cc (none, found) in omega arith))
+    let first = c .before .before .before in
+    let a = first .before .before .before .before .before .before .before .before .before .before .args in
+    lowest-low (a .j) (a .at) (a .tags .now) s (first .lowest .result) (a .k) (lowest-halved t (first .before .before)) whole w (first .lowest .ensures)
+    _ (c .before .low .given .1)
 
 lowest-returns-5 : (t : ℕ) → lowest-lts.Need-returns-5 (lowest-calls t) (lowest-at t) lowest.Post
-unfolding orElse
 lowest-returns-5 t c = λ s whole w.
-    let e = c .before .before .before .before .before .before .before .before .before .before .before .before .before .before in
-    let none = c .before .before .enum-told .given .1 in
-    ap (λ (f : Found). orElse f (c .lowest2 .result)) (sym none)
-    ∙ lowest-halves (e .args .j) (e .args .at) (e .args .tags .now) s (c .before .before .before .before .lowest .result) (c .lowest2 .result) (e .args .k) (omega arith) (omega arith)
-    (half-size _ _ (omega arith) (e .pre .1 .2)) (λ q. c .before .before .before .before .before .before .before .if2 .left (q ∙ sym (c .before .before .before .before .before .before .before .before .live-tag .ensures))) (λ q. c .before .before .before .before .before .before .before .before .before .before .if1 .left (q ∙ sym (c .before .before .before .before .before .before .before .before .before .before .before .free-tag .ensures)))
-    whole w (c .before .before .before .before .lowest .ensures) (λ _. c .lowest2 .ensures)
+    let first = c .before .before .before .before in
+    let a = first .before .before .before .before .before .before .before .before .before .before .args in
+    lowest-high (a .j) (a .at) (a .tags .now) s (first .lowest .result) (a .k) (lowest-halved t (first .before .before)) whole w (first .lowest .ensures)
+    (c .lowest2 .result) (c .before .before .enum-told .given .1) (c .lowest2 .ensures)
 
 pub +lowest-spec : {M : Type 1} → statement M
 +lowest-spec = close μ-lowest λ t. lowest-lts.spec (lowest-calls t)
