@@ -23,7 +23,7 @@ use Rattle.engine.specs.declared.Answer.the-variants.{Running, Finished, Refuse
 use Rattle.engine.specs.Answer.{Checked, refused, passed, _>>=_, _>>_, need}
 use Rattle.engine.specs.State.{isSetUp, isFinished, onCore, movedTo}
 use Rattle.engine.specs.Sound.{Lent, Engine}
-use Rattle.engine.specs.Locate.{liveBlocks, linkBy, link, follow, locate, contents}
+use Rattle.engine.specs.Locate.{World, world, liveBlocks, linkBy, link, follow, locate, contents}
 use Rattle.engine.specs.Effects.{Effects, engineAfter}
 use Rattle.engine.specs.Operations.{Given, Wanted, getWants, duplicateWants, delivering, andStoring, get, duplicate, oneOf, chosen, meaning, meanings}
 use Rattle.engine.specs.Step.{given, inTurn, operationStep, plan, outcome, unchanged, carriedOut, step}
@@ -56,21 +56,21 @@ never-passed : {A : Type 0} (x : A) → Never (passed x)
 never-passed x e = let never : _≡_ {A = ℕ} 0 1 = cc in omega arith
 
 -- locating a reference never refuses for want of storage
-never-link : (e : Engine) (pointer : ℕ) (f : FieldName) → Never (link e pointer f)
+never-link : (w : World) (pointer : ℕ) (f : FieldName) → Never (link w pointer f)
 unfolding link linkBy
-never-link e pointer f =
+never-link w pointer f =
     never-need _ _ _ (λ q. let never : _≡_ {A = ℕ} 0 1 = cc in omega arith)
     (never-need _ _ _ (λ q. let never : _≡_ {A = ℕ} 0 1 = cc in omega arith)
     (never-need _ _ _ (λ q. let never : _≡_ {A = ℕ} 0 1 = cc in omega arith) (never-passed _)))
 
-never-follow : (b : ℕ) (e : Engine) (at : Location) (fs : List FieldName) → Never (follow b e at fs)
+never-follow : (b : ℕ) (w : World) (at : Location) (fs : List FieldName) → Never (follow b w at fs)
 unfolding follow
-never-follow b e at [] = never-passed at
-never-follow b e at (f ∷ fs) = never-bind _ _ (never-link e (contents b e at) f) (λ next. never-follow b e next fs)
+never-follow b w at [] = never-passed at
+never-follow b w at (f ∷ fs) = never-bind _ _ (never-link w (contents b w at) f) (λ next. never-follow b w next fs)
 
-never-locate : (b : ℕ) (e : Engine) (p : Pair) → Never (locate b e p)
+never-locate : (b : ℕ) (w : World) (p : Pair) → Never (locate b w p)
 unfolding locate
-never-locate b e p = never-follow b e _ _
+never-locate b w p = never-follow b w _ _
 
 -- a delivery is refused for want of storage exactly when there is no run
 refused-without-run : {A : Type 0} (choose : List ℕ → ℕ) (rs : List ℕ) (rest : ℕ → Checked A) → ((a : ℕ) → Never (rest a))
@@ -93,8 +93,8 @@ module _ (b : ℕ) (g : Given) (w : Wanted) where
       (λ a. rest a (eqb (g .row .third .form) 0)))
     where
       rest : (a : ℕ) (t : Bool) → Never (cond t (passed (delivering b w a (g .engine .state)))
-          (locate b (engineAfter b (delivering b w a (g .engine .state)) (g .engine)) (g .row .third)
-          >>= λ a2. passed (andStoring b a2 (contents b (g .engine) (w .a)) (delivering b w a (g .engine .state)))))
+          (locate b (world (engineAfter b (delivering b w a (g .engine .state)) (g .engine))) (g .row .third)
+          >>= λ a2. passed (andStoring b a2 (contents b (world (g .engine)) (w .a)) (delivering b w a (g .engine .state)))))
       rest a true = never-passed _
       rest a false = never-bind _ _ (never-locate b _ (g .row .third)) (λ a2. never-passed _)
 

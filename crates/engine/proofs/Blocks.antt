@@ -20,7 +20,7 @@ use Rattle.engine.specs.declared.Store.{Store}
 use Rattle.engine.specs.Answer.{passed, _>>=_}
 use Rattle.engine.specs.State.{onCore, withMap}
 use Rattle.engine.specs.Storage.{noStore}
-use Rattle.engine.specs.Locate.{liveBlocks, contents, locate}
+use Rattle.engine.specs.Locate.{world, liveBlocks, contents, locate}
 use Rattle.engine.specs.Effects.{Effects, reporting, assigned, storeTo, engineAfter}
 use Rattle.engine.specs.Operations.{Given, Wanted, oneOf, chosen, delivering, andStoring, getWants, get, liesIn, free, duplicateWants, duplicate}
 use Rattle.engine.specs.Step.{Choice}
@@ -74,7 +74,7 @@ module _ (b : ℕ) (g : Given) (h : Facts b (g .engine)) where
           copied = refl;
           zeroed = refl;
           first = store-facts b (liveBlocks (g .engine)) a (c .value) l;
-          clear = clear-of a (c .value) (contents b (g .engine) a) _ isClear;
+          clear = clear-of a (c .value) (contents b (world (g .engine)) a) _ isClear;
           second = refl;
         });
       })
@@ -140,7 +140,7 @@ module _ (b : ℕ) (g : Given) (h : Facts b (g .engine)) where
         (assigned-setup b (w .a) address (g .engine .state .core)) (nowhere refl)
 
     -- the same with a second store, to where a reference leads after the delivery
-    storing-done : (a2 : Location) (v : ℕ) → locate b (engineAfter b (delivering b w address (g .engine .state)) (g .engine)) (g .row .third) ≡ passed a2
+    storing-done : (a2 : Location) (v : ℕ) → locate b (world (engineAfter b (delivering b w address (g .engine .state)) (g .engine))) (g .row .third) ≡ passed a2
         → Done b (g .engine) (andStoring b a2 v (delivering b w address (g .engine .state)))
     unfolding effects andStoring delivering reporting withMap onCore engineAfter
     storing-done a2 v k₂ =
@@ -165,8 +165,8 @@ module _ (b : ℕ) (g : Given) (h : Facts b (g .engine)) where
       let isCopy : w .copied ≡ 0 = ap (λ w. w .copied) (sym same) in
       let l : Located b (liveBlocks (g .engine)) (w .a) = subst (λ w. Located b (liveBlocks (g .engine)) (w .a)) same (located b (g .engine) (h .core) (g .row .first) a l₁) in
       elim (eqb (g .row .third .form) 0) as (λ t. cond t (passed (delivering b w address (g .engine .state)))
-      (locate b (engineAfter b (delivering b w address (g .engine .state)) (g .engine)) (g .row .third)
-      >>= λ a2. passed (andStoring b a2 (contents b (g .engine) (w .a)) (delivering b w address (g .engine .state)))) ≡ passed x → Done b (g .engine) x) [
+      (locate b (world (engineAfter b (delivering b w address (g .engine .state)) (g .engine))) (g .row .third)
+      >>= λ a2. passed (andStoring b a2 (contents b (world (g .engine)) (w .a)) (delivering b w address (g .engine .state)))) ≡ passed x → Done b (g .engine) x) [
         | true ↦ λ m. subst (Done b (g .engine)) (passed-same m) (delivering-done choice w j fits isSize (inl isCopy) l address k₃)
         | false ↦ λ m.
             let (a2, m₁, m₂) = bind-passed _ _ m in

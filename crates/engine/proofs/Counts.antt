@@ -17,7 +17,7 @@ use Rattle.engine.specs.declared.Location.the-variants.{Bug, Field}
 use Rattle.engine.specs.Answer.{Checked, passed, _>>=_}
 use Rattle.engine.specs.State.{withBug, withTaken, withWritten, withContents, withDefinition, withSaved, withCalls, withSetUp, movedTo, onCore, withMap, testsOf}
 use Rattle.engine.specs.Sound.{Lent, Engine}
-use Rattle.engine.specs.Locate.{Value, locate, contents}
+use Rattle.engine.specs.Locate.{world, Value, locate, contents}
 use Rattle.engine.specs.Effects.{Effects, quietly, reporting, assigned, storing, engineAfter}
 use Rattle.engine.specs.Operations.{Given, Wanted, setUp, computing, making, interchange, andStoring, delivering, get, free, duplicate, input, print, define, saveContents, restoreContents, saveDefinition, restoreDefinition, do-line, meanings, meaning}
 use Rattle.engine.specs.Step.{nextLine, goingTo, testsStep, given, operationStep, return, exitStep, plan}
@@ -142,8 +142,8 @@ module _ (b : ℕ) (g : Given) (t : g .engine .state .core .taken ≤ length (g 
       let (want, _, k₂) = bind-passed _ _ k in
       let (address, _, k₄) = bind-passed _ _ k₂ in
       elim (eqb (g .row .third .form) 0) as (λ t. cond t (passed (delivering b want address (g .engine .state)))
-      (locate b (engineAfter b (delivering b want address (g .engine .state)) (g .engine)) (g .row .third)
-      >>= λ a2. passed (andStoring b a2 (contents b (g .engine) (want .a)) (delivering b want address (g .engine .state)))) ≡ passed x → Right x) [
+      (locate b (world (engineAfter b (delivering b want address (g .engine .state)) (g .engine))) (g .row .third)
+      >>= λ a2. passed (andStoring b a2 (contents b (world (g .engine)) (want .a)) (delivering b want address (g .engine .state)))) ≡ passed x → Right x) [
         | true ↦ λ m. subst Right (passed-same m) (delivering-counts want address)
         | false ↦ λ m. let (a2, _, m₂) = bind-passed _ _ m in subst Right (passed-same m₂) (twice-counts want address a2 _)
       ] k₄

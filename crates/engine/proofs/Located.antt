@@ -22,7 +22,7 @@ use Rattle.engine.specs.Answer.{passed}
 use Rattle.engine.specs.State.{undefined}
 use Rattle.engine.specs.Storage.{noStore}
 use Rattle.engine.specs.Sound.{Engine, isDefinition, inRange}
-use Rattle.engine.specs.Locate.{liveBlocks, definitionOf, contents, linkBy, link, follow, locate}
+use Rattle.engine.specs.Locate.{world, namesOf, liveBlocks, definitionOf, contents, linkBy, link, follow, locate}
 use Rattle.engine.specs.Effects.{storeTo}
 use Rattle.engine.proofs.Checks.{and-parts, nonzero, need-passed, bind-passed, passed-same}
 use Rattle.engine.proofs.Every.{below, every-getD}
@@ -59,20 +59,20 @@ undefined-fits b = refl
 
 module _ (b : ℕ) (e : Engine) (h : CoreFacts b (e .state .core)) where
   -- a definition in use has its right bit inside the word
-  defined-right : (f : FieldName) → definitionOf f e .defined ≡ true → definitionOf f e .right < b
-  unfolding definitionOf
+  defined-right : (f : FieldName) → definitionOf f (world e) .defined ≡ true → definitionOf f (world e) .right < b
+  unfolding definitionOf world namesOf
   defined-right f k =
-      definition-right b (definitionOf f e)
+      definition-right b (definitionOf f (world e))
       (every-getD (isDefinition b) (f .0) (e .state .core .definitions) undefined (h .definitions) (undefined-fits b)) k
 
   -- a link leads into a live block
-  link-located : (pointer : ℕ) (f : FieldName) (at : Location) → link e pointer f ≡ passed at → Located b (liveBlocks e) at
-  unfolding link linkBy Located
+  link-located : (pointer : ℕ) (f : FieldName) (at : Location) → link (world e) pointer f ≡ passed at → Located b (liveBlocks e) at
+  unfolding link linkBy Located world namesOf
   link-located pointer f at k =
       let (isDefined, k₁) = need-passed _ _ _ k in
       let (isBlock, k₂) = need-passed _ _ _ k₁ in
       let (isInside, k₃) = need-passed _ _ _ k₂ in
-      let inside : definitionOf f e .word < sizeAt pointer (liveBlocks e) = ltb-true _ _ isInside in
+      let inside : definitionOf f (world e) .word < sizeAt pointer (liveBlocks e) = ltb-true _ _ isInside in
       subst (Located b (liveBlocks e)) (passed-same k₃) (
         defined-right f isDefined,
         record {
@@ -83,21 +83,21 @@ module _ (b : ℕ) (e : Engine) (h : CoreFacts b (e .state .core)) where
         },
       )
 
-  follow-located : (at : Location) (fs : List FieldName) (to : Location) → Located b (liveBlocks e) at → follow b e at fs ≡ passed to
+  follow-located : (at : Location) (fs : List FieldName) (to : Location) → Located b (liveBlocks e) at → follow b (world e) at fs ≡ passed to
       → Located b (liveBlocks e) to
   unfolding follow
   follow-located at [] to l k = subst (Located b (liveBlocks e)) (passed-same k) l
   follow-located at (f ∷ fs) to l k =
-      let (next, k₁, k₂) = bind-passed _ _ k in follow-located next fs to (link-located (contents b e at) f next k₁) k₂
+      let (next, k₁, k₂) = bind-passed _ _ k in follow-located next fs to (link-located (contents b (world e) at) f next k₁) k₂
 
   -- a reference leads to a bug or into a live block
-  pub located : (p : Pair) (at : Location) → locate b e p ≡ passed at → Located b (liveBlocks e) at
+  pub located : (p : Pair) (at : Location) → locate b (world e) p ≡ passed at → Located b (liveBlocks e) at
   unfolding locate Located
   located p at k = follow-located _ _ at tt k
 
   -- what stands there is below 2 ^ b
-  pub contents-below : (at : Location) → Located b (liveBlocks e) at → below (2 ^ b) (contents b e at) ≡ true
-  unfolding Located contents
+  pub contents-below : (at : Location) → Located b (liveBlocks e) at → below (2 ^ b) (contents b (world e) at) ≡ true
+  unfolding Located contents world namesOf
   contents-below (Bug x) l = every-getD (below (2 ^ b)) (x .0) (e .state .core .bugs) 0 (h .bugs) (lt-ltb _ _ (pow-pos b))
   contents-below (Field address left right) l = lt-ltb _ _ (field-word b left right _ (l .0))
 

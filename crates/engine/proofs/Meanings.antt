@@ -14,7 +14,7 @@ use Rattle.engine.specs.Answer.{Checked, passed}
 use Rattle.engine.specs.State.{testsOf, undefined, movedTo, withBug, onCore, withTaken, withWritten, withDefinition, withContents, withSaved, withCalls}
 use Rattle.engine.specs.Storage.{noStore, noReport}
 use Rattle.engine.specs.Sound.{Engine, isDefinition, isPlace, soundPlace}
-use Rattle.engine.specs.Locate.{Value, liveBlocks, contents, definitionOf}
+use Rattle.engine.specs.Locate.{world, namesOf, Value, liveBlocks, contents, definitionOf}
 use Rattle.engine.specs.Effects.{Effects, quietly, reporting, assigned, storing}
 use Rattle.engine.specs.Operations.{Given, computing, interchange, andStoring, input, print, define, theName, saveContents, restoreContents, saveDefinition, restoreDefinition, do-line}
 use Rattle.engine.proofs.Checks.{need-passed, bind-passed, passed-same}
@@ -88,8 +88,8 @@ module _ (b : ℕ) (g : Given) (h : Facts b (g .engine)) where
       let (a2, k₃, k₄) = bind-passed _ _ k₂ in
       let s = g .engine .state in
       let l = liveBlocks (g .engine) in
-      let v = contents b (g .engine) a2 in
-      let w = contents b (g .engine) a1 in
+      let v = contents b (world (g .engine)) a2 in
+      let w = contents b (world (g .engine)) a1 in
       let l1 = located b (g .engine) (h .core) (g .row .first) a1 k₁ in
       let l2 = located b (g .engine) (h .core) (g .row .second) a2 k₃ in
       subst (Done b (g .engine)) (passed-same k₄)
@@ -171,8 +171,8 @@ module _ (b : ℕ) (g : Given) (h : Facts b (g .engine)) where
       refl refl (located b (g .engine) (h .core) (g .row .first) a k₁))
 
   -- a field's definition is in range
-  definition-fits : (f : FieldName) → isDefinition b (definitionOf f (g .engine)) ≡ true
-  unfolding definitionOf
+  definition-fits : (f : FieldName) → isDefinition b (definitionOf f (world (g .engine))) ≡ true
+  unfolding definitionOf world namesOf
   definition-fits f = every-getD (isDefinition b) (f .0) (g .engine .state .core .definitions) undefined (h .core .definitions) (undefined-fits b)
 
   -- 34 save a definition

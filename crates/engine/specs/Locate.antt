@@ -12,6 +12,8 @@ use Rattle.table.specs.declared.FieldName.{FieldName}
 use Rattle.table.specs.declared.Pair.{Pair}
 use Rattle.table.specs.Reference.{referenceOf}
 use Rattle.engine.specs.declared.Definition.{Definition}
+use Rattle.engine.specs.declared.Environment.{Environment}
+use Rattle.engine.specs.declared.Core.{Core}
 use Rattle.engine.specs.declared.Location.{Location}
 use Rattle.engine.specs.declared.Location.the-variants.{Bug, Field}
 use Rattle.engine.specs.declared.Linked.{Linked}
@@ -26,14 +28,26 @@ use Rattle.engine.specs.Sound.{Engine}
 abbrev pub liveBlocks : Engine → List Block
 liveBlocks e = live (e .state .core .setup) (e .state .map)
 
+-- what references read: bugs, definitions and set-up numbers, the block map and the storage
+pub record World : Type 0 where
+  pub names : Environment
+  pub map : List ℕ
+  pub storage : List ℕ
+
+unfoldable pub namesOf : Core → Environment
+namesOf c = record { bugs = c .bugs; definitions = c .definitions; setup = c .setup }
+
+unfoldable pub world : Engine → World
+world e = record { names = namesOf (e .state .core); map = e .state .map; storage = e .storage }
+
 -- the definition of a field
-unfoldable pub definitionOf : FieldName → Engine → Definition
-definitionOf f e = getD (e .state .core .definitions) (f .0) undefined
+unfoldable pub definitionOf : FieldName → World → Definition
+definitionOf f w = getD (w .names .definitions) (f .0) undefined
 
 -- what stands at a location: a bug's word, or a field's bits
-unfoldable pub contents : ℕ → Engine → Location → ℕ
-contents b e (Bug x) = getD (e .state .core .bugs) (x .0) 0
-contents b e (Field address left right) = fieldOf b left right (wordAt (e .state .core .setup .s1) address (e .storage))
+unfoldable pub contents : ℕ → World → Location → ℕ
+contents b w (Bug x) = getD (w .names .bugs) (x .0) 0
+contents b w (Field address left right) = fieldOf b left right (wordAt (w .names .setup .s1) address (w .storage))
 
 -- the bits of a location: a bug is a whole word
 unfoldable pub widthOf : ℕ → Location → ℕ
@@ -49,29 +63,29 @@ linkBy x n pointer = do
   need (ltb (x .word) n) OutsideBlock
   passed (Field (pointer + x .word) (x .left) (x .right))
 
-unfoldable pub link : Engine → ℕ → FieldName → Checked Location
-link e pointer f = linkBy (definitionOf f e) (sizeAt pointer (liveBlocks e)) pointer
+unfoldable pub link : World → ℕ → FieldName → Checked Location
+link w pointer f = linkBy (definitionOf f w) (sizeAt pointer (live (w .names .setup) (w .map))) pointer
 
 -- the links one after the other: what one holds is the next one's pointer
-unfoldable pub follow : ℕ → Engine → Location → List FieldName → Checked Location
-follow b e at [] = passed at
-follow b e at (f ∷ fs) = link e (contents b e at) f >>= λ next. follow b e next fs
+unfoldable pub follow : ℕ → World → Location → List FieldName → Checked Location
+follow b w at [] = passed at
+follow b w at (f ∷ fs) = link w (contents b w at) f >>= λ next. follow b w next fs
 
 -- the location of a reference: its bug, or that of its last link
-unfoldable pub locate : ℕ → Engine → Pair → Checked Location
-locate b e p = follow b e (Bug (referenceOf (p .value) .bug)) (referenceOf (p .value) .fields)
+unfoldable pub locate : ℕ → World → Pair → Checked Location
+locate b w p = follow b w (Bug (referenceOf (p .value) .bug)) (referenceOf (p .value) .fields)
 
 -- a value and its width; a literal is a whole word
 pub record Value : Type 0 where
   pub value : ℕ
   pub width : ℕ
 
-unfoldable pub read : ℕ → Engine → Location → Value
-read b e at = record { value = contents b e at; width = widthOf b at }
+unfoldable pub read : ℕ → World → Location → Value
+read b w at = record { value = contents b w at; width = widthOf b at }
 
 -- an operand that is used: a literal (form 1), or what stands where a reference leads
-unfoldable pub operand : ℕ → Engine → Pair → Checked Value
-operand b e p = cond (eqb (p .form) 1) (passed (record { value = p .value; width = b })) (locate b e p >>= λ at. passed (read b e at))
+unfoldable pub operand : ℕ → World → Pair → Checked Value
+operand b w p = cond (eqb (p .form) 1) (passed (record { value = p .value; width = b })) (locate b w p >>= λ at. passed (read b w at))
 
 -- an answer that is a location or a refusal, as the code gives it
 unfoldable pub linked : Checked Location → Linked

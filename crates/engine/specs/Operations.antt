@@ -24,7 +24,7 @@ use Rattle.engine.specs.Answer.{Checked, refused, passed, _>>=_, _>>_, n
 use Rattle.engine.specs.State.{undefined, testsOf, movedTo, withDefinition, withContents, withSaved, withCalls, withSetUp, withTaken, withWritten, onCore, withMap}
 use Rattle.engine.specs.Storage.{noStore}
 use Rattle.engine.specs.Sound.{Lent, Engine, inRange}
-use Rattle.engine.specs.Locate.{Value, liveBlocks, definitionOf, contents, locate, read, operand}
+use Rattle.engine.specs.Locate.{world, Value, liveBlocks, definitionOf, contents, locate, read, operand}
 use Rattle.engine.specs.Effects.{Effects, quietly, reporting, assigned, storeTo, storing, engineAfter}
 
 -- what an operation is given: its row, what is lent, the engine, and the choice of one among the admissible addresses
@@ -65,9 +65,9 @@ theName g = record { 0 = g .row .name }
 -- 2 define name (word, left, right): 7
 unfoldable pub define : Meaning
 define b g = do
-  word ← operand b (g .engine) (g .row .first)
-  left ← operand b (g .engine) (g .row .second)
-  right ← operand b (g .engine) (g .row .third)
+  word ← operand b (world (g .engine)) (g .row .first)
+  left ← operand b (world (g .engine)) (g .row .second)
+  right ← operand b (world (g .engine)) (g .row .third)
   need (inRange b (word .value) (left .value) (right .value)) DefinitionNumber
   passed
       (quietly
@@ -126,8 +126,8 @@ andStoring b a v x =
 -- 3 get (a, size, optional a2), up to 8: the size is raised to the next power of two
 unfoldable pub getWants : ℕ → Given → Checked Wanted
 getWants b g = do
-  a ← locate b (g .engine) (g .row .first)
-  n ← operand b (g .engine) (g .row .second)
+  a ← locate b (world (g .engine)) (g .row .first)
+  n ← operand b (world (g .engine)) (g .row .second)
   let d = g .engine .state .core .setup .d
   need (leb 1 (n .value) && leb (n .value) d) BlockSize
   passed (record { a = a; words = size (level (top d) (n .value)); copied = 0 })
@@ -139,8 +139,8 @@ get b g = do
   address ← chosen g (w .words)
   let x = delivering b w address (g .engine .state)
   cond (eqb (g .row .third .form) 0) (passed x)
-      (locate b (engineAfter b x (g .engine)) (g .row .third)
-      >>= λ a2. passed (andStoring b a2 (contents b (g .engine) (w .a)) x))
+      (locate b (world (engineAfter b x (g .engine))) (g .row .third)
+      >>= λ a2. passed (andStoring b a2 (contents b (world (g .engine)) (w .a)) x))
 
 -- the field to change lies in the block of n words at an address
 unfoldable pub liesIn : ℕ → ℕ → Location → Bool
@@ -150,9 +150,9 @@ liesIn address n (Field word left right) = leb address word && ltb word (address
 -- 4 free (a, c or literal 0): 15, 18. Free a's block, then a gets c's old contents
 unfoldable pub free : Meaning
 free b g = do
-  a ← locate b (g .engine) (g .row .first)
-  c ← operand b (g .engine) (g .row .second)
-  let address = contents b (g .engine) a
+  a ← locate b (world (g .engine)) (g .row .first)
+  c ← operand b (world (g .engine)) (g .row .second)
+  let address = contents b (world (g .engine)) a
   let n = sizeAt address (liveBlocks (g .engine))
   need (not (eqb n 0)) NotABlock
   need (not (liesIn address n a)) FieldFreed
@@ -165,8 +165,8 @@ free b g = do
 -- 5 duplicate (a, c), up to 15: the size is that of c's block
 unfoldable pub duplicateWants : ℕ → Given → Checked Wanted
 duplicateWants b g = do
-  a ← locate b (g .engine) (g .row .first)
-  c ← operand b (g .engine) (g .row .second)
+  a ← locate b (world (g .engine)) (g .row .first)
+  c ← operand b (world (g .engine)) (g .row .second)
   need (not (eqb (sizeAt (c .value) (liveBlocks (g .engine))) 0)) NotABlock
   passed (record { a = a; words = sizeAt (c .value) (liveBlocks (g .engine)); copied = c .value })
 
@@ -180,17 +180,17 @@ duplicate b g = do
 -- 7 interchange (a1, a2): a1 stored first
 unfoldable pub interchange : Meaning
 interchange b g = do
-  a1 ← locate b (g .engine) (g .row .first)
-  a2 ← locate b (g .engine) (g .row .second)
+  a1 ← locate b (world (g .engine)) (g .row .first)
+  a2 ← locate b (world (g .engine)) (g .row .second)
   passed
-      (andStoring b a2 (contents b (g .engine) a1) (storing b a1 (contents b (g .engine) a2) (g .engine .state)))
+      (andStoring b a2 (contents b (world (g .engine)) a1) (storing b a1 (contents b (world (g .engine)) a2) (g .engine .state)))
 
 -- an operation (a, x) that stores in a what f makes of a's old contents and of x
 unfoldable pub computing : (ℕ → Value → Value → Checked ℕ) → Meaning
 computing f b g = do
-  a ← locate b (g .engine) (g .row .first)
-  x ← operand b (g .engine) (g .row .second)
-  v ← f b (read b (g .engine) a) x
+  a ← locate b (world (g .engine)) (g .row .first)
+  x ← operand b (world (g .engine)) (g .row .second)
+  v ← f b (read b (world (g .engine)) a) x
   passed (storing b a v (g .engine .state))
 
 -- the same, where f refuses nothing
@@ -206,8 +206,8 @@ quotient b a x = do
 -- 24 input (a, cd): 10, 5, 4. cd characters, the first taken leftmost, with leading zeros
 unfoldable pub input : Meaning
 input b g = do
-  a ← locate b (g .engine) (g .row .first)
-  n ← operand b (g .engine) (g .row .second)
+  a ← locate b (world (g .engine)) (g .row .first)
+  n ← operand b (world (g .engine)) (g .row .second)
   let taken = g .engine .state .core .taken
   let characters = take (n .value) (drop taken (g .lent .input))
   need (leb (n .value) (b / 6)) CharacterCount
@@ -218,8 +218,8 @@ input b g = do
 -- 25 print (cd, cd): 10, 21. A count of characters from the right end
 unfoldable pub print : Meaning
 print b g = do
-  n ← operand b (g .engine) (g .row .first)
-  x ← operand b (g .engine) (g .row .second)
+  n ← operand b (world (g .engine)) (g .row .first)
+  x ← operand b (world (g .engine)) (g .row .second)
   let written = g .engine .state .core .written
   need (leb (n .value) 120) CharacterCount
   need (leb (written + n .value) (length (g .lent .output))) OutputFull
@@ -234,19 +234,19 @@ print b g = do
 -- 32 save contents (a): 19
 unfoldable pub saveContents : Meaning
 saveContents b g = do
-  a ← locate b (g .engine) (g .row .first)
+  a ← locate b (world (g .engine)) (g .row .first)
   let stack = g .engine .state .core .contents
   need (ltb (stack .count) 128) StackFull
   passed
       (quietly
       (onCore
-      (withContents (record { entries = set (stack .entries) (stack .count) (contents b (g .engine) a); count = suc (stack .count) }))
+      (withContents (record { entries = set (stack .entries) (stack .count) (contents b (world (g .engine)) a); count = suc (stack .count) }))
       (g .engine .state)))
 
 -- 33 restore contents (a): 20
 unfoldable pub restoreContents : Meaning
 restoreContents b g = do
-  a ← locate b (g .engine) (g .row .first)
+  a ← locate b (world (g .engine)) (g .row .first)
   let stack = g .engine .state .core .contents
   need (ltb 0 (stack .count)) StackEmpty
   passed
@@ -262,7 +262,7 @@ saveDefinition b g = do
       (quietly
       (onCore
       (withSaved
-      (record { entries = set (stack .entries) (stack .count) (definitionOf (theName g) (g .engine)); count = suc (stack .count) }))
+      (record { entries = set (stack .entries) (stack .count) (definitionOf (theName g) (world (g .engine))); count = suc (stack .count) }))
       (g .engine .state)))
 
 -- 35 restore the definition of name: 20

@@ -11,7 +11,7 @@ use Rattle.table.specs.Table.{usable}
 use Rattle.engine.specs.declared.Refusal.the-variants.{BadRow}
 use Rattle.engine.specs.Answer.{Checked, passed, _>>=_, _>>_, need}
 use Rattle.engine.specs.Sound.{Engine}
-use Rattle.engine.specs.Locate.{operand}
+use Rattle.engine.specs.Locate.{world, operand}
 
 -- the seven tests, in the order of their codes, on c and cd
 unfoldable pub comparisons : ℕ → List (ℕ → ℕ → Bool)
@@ -44,8 +44,8 @@ satisfied b table e mode (suc count) r =
     cond (eqb r 0) (passed (not (settledAs mode)))
     (do
       need (usable 2 b table r) BadRow
-      c ← operand b e (rowAt table r .first)
-      cd ← operand b e (rowAt table r .second)
+      c ← operand b (world e) (rowAt table r .first)
+      cd ← operand b (world e) (rowAt table r .second)
       cond (Bool·beq (compared b (rowAt table r .code) (c .value) (cd .value)) (settling mode))
           (passed (settledAs mode))
           (satisfied b table e mode count (rowAt table r .next)))

@@ -81,6 +81,13 @@ pub struct State {
     pub map: [u8; 4096],
 }
 
+// What references read of the core: bugs, field definitions and the set-up's numbers.
+pub struct Environment {
+    pub bugs: [u64; 26],
+    pub definitions: [Definition; 36],
+    pub setup: buddy::SetUp,
+}
+
 // Where a reference leads: a bug, or bits left to right of the word at an address.
 pub enum Location {
     Bug(table::BugLetter),
