@@ -6,6 +6,8 @@ pub mod Every
 pub mod Facts
 pub mod Located
 pub mod Links
+pub mod Follows
+pub mod Readable
 pub mod Live
 pub mod Placed
 pub mod Moves

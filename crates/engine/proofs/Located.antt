@@ -11,6 +11,7 @@ use lib.Pow.{pow-pos}
 use Rattle.word.specs.Field.{kept, width}
 use Rattle.word.proofs.Field.{field-word, kept-kept}
 use Rattle.buddy.specs.Blocks.{Block, sizeAt}
+use Rattle.buddy.specs.Map.{live}
 use Rattle.buddy.proofs.Tiling.{sizeAt-mem}
 use Rattle.table.specs.declared.FieldName.{FieldName}
 use Rattle.table.specs.declared.Pair.{Pair}
@@ -21,8 +22,8 @@ use Rattle.engine.specs.declared.Store.{Store}
 use Rattle.engine.specs.Answer.{passed}
 use Rattle.engine.specs.State.{undefined}
 use Rattle.engine.specs.Storage.{noStore}
-use Rattle.engine.specs.Sound.{Engine, isDefinition, inRange}
-use Rattle.engine.specs.Locate.{world, namesOf, liveBlocks, definitionOf, contents, linkBy, link, follow, locate}
+use Rattle.engine.specs.Sound.{Engine, every, isDefinition, inRange}
+use Rattle.engine.specs.Locate.{World, world, environmentOf, liveBlocks, definitionOf, contentsOf, contents, linkBy, link, follow, locate}
 use Rattle.engine.specs.Effects.{storeTo}
 use Rattle.engine.proofs.Checks.{and-parts, nonzero, need-passed, bind-passed, passed-same}
 use Rattle.engine.proofs.Every.{below, every-getD}
@@ -57,47 +58,54 @@ pub undefined-fits : (b : ℕ) → isDefinition b undefined ≡ true
 unfolding isDefinition undefined
 undefined-fits b = refl
 
-module _ (b : ℕ) (e : Engine) (h : CoreFacts b (e .state .core)) where
+module _ (b : ℕ) (w : World) (h : every (isDefinition b) (w .names .definitions) ≡ true) where
+  abbrev blocks : List Block
+  blocks = live (w .names .setup) (w .map)
+
   -- a definition in use has its right bit inside the word
-  defined-right : (f : FieldName) → definitionOf f (world e) .defined ≡ true → definitionOf f (world e) .right < b
-  unfolding definitionOf world namesOf
+  defined-right : (f : FieldName) → definitionOf f w .defined ≡ true → definitionOf f w .right < b
+  unfolding definitionOf
   defined-right f k =
-      definition-right b (definitionOf f (world e))
-      (every-getD (isDefinition b) (f .0) (e .state .core .definitions) undefined (h .definitions) (undefined-fits b)) k
+      definition-right b (definitionOf f w)
+      (every-getD (isDefinition b) (f .0) (w .names .definitions) undefined h (undefined-fits b)) k
 
   -- a link leads into a live block
-  link-located : (pointer : ℕ) (f : FieldName) (at : Location) → link (world e) pointer f ≡ passed at → Located b (liveBlocks e) at
-  unfolding link linkBy Located world namesOf
+  pub link-located : (pointer : ℕ) (f : FieldName) (at : Location) → link w pointer f ≡ passed at → Located b blocks at
+  unfolding link linkBy Located
   link-located pointer f at k =
       let (isDefined, k₁) = need-passed _ _ _ k in
       let (isBlock, k₂) = need-passed _ _ _ k₁ in
       let (isInside, k₃) = need-passed _ _ _ k₂ in
-      let inside : definitionOf f (world e) .word < sizeAt pointer (liveBlocks e) = ltb-true _ _ isInside in
-      subst (Located b (liveBlocks e)) (passed-same k₃) (
+      let inside : definitionOf f w .word < sizeAt pointer blocks = ltb-true _ _ isInside in
+      subst (Located b blocks) (passed-same k₃) (
         defined-right f isDefined,
         record {
-          block = record { address = pointer; size = sizeAt pointer (liveBlocks e) };
-          isOne = sizeAt-mem pointer (liveBlocks e) (nonzero _ isBlock);
+          block = record { address = pointer; size = sizeAt pointer blocks };
+          isOne = sizeAt-mem pointer blocks (nonzero _ isBlock);
           low = omega arith;
           high = omega arith;
         },
       )
 
-  follow-located : (at : Location) (fs : List FieldName) (to : Location) → Located b (liveBlocks e) at → follow b (world e) at fs ≡ passed to
-      → Located b (liveBlocks e) to
+  follow-located : (at : Location) (fs : List FieldName) (to : Location) → Located b blocks at → follow b w at fs ≡ passed to → Located b blocks to
   unfolding follow
-  follow-located at [] to l k = subst (Located b (liveBlocks e)) (passed-same k) l
+  follow-located at [] to l k = subst (Located b blocks) (passed-same k) l
   follow-located at (f ∷ fs) to l k =
-      let (next, k₁, k₂) = bind-passed _ _ k in follow-located next fs to (link-located (contents b (world e) at) f next k₁) k₂
+      let (next, k₁, k₂) = bind-passed _ _ k in follow-located next fs to (link-located (contents b w at) f next k₁) k₂
 
   -- a reference leads to a bug or into a live block
-  pub located : (p : Pair) (at : Location) → locate b (world e) p ≡ passed at → Located b (liveBlocks e) at
+  located-in : (p : Pair) (at : Location) → locate b w p ≡ passed at → Located b blocks at
   unfolding locate Located
-  located p at k = follow-located _ _ at tt k
+  located-in p at k = follow-located _ _ at tt k
+
+module _ (b : ℕ) (e : Engine) (h : CoreFacts b (e .state .core)) where
+  pub located : (p : Pair) (at : Location) → locate b (world e) p ≡ passed at → Located b (liveBlocks e) at
+  unfolding world environmentOf
+  located p at k = located-in b (world e) (h .definitions) p at k
 
   -- what stands there is below 2 ^ b
   pub contents-below : (at : Location) → Located b (liveBlocks e) at → below (2 ^ b) (contents b (world e) at) ≡ true
-  unfolding Located contents world namesOf
+  unfolding Located contentsOf world environmentOf
   contents-below (Bug x) l = every-getD (below (2 ^ b)) (x .0) (e .state .core .bugs) 0 (h .bugs) (lt-ltb _ _ (pow-pos b))
   contents-below (Field address left right) l = lt-ltb _ _ (field-word b left right _ (l .0))
 

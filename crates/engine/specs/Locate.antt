@@ -1,13 +1,15 @@
 -- References: from a bug along the fields, link by link, to the location of the last one.
 -- Document 01: "Fields and references". Assumes nothing.
-use Prim.Native.Nat.{ℕ, _+_}
-use mathlib.Core.Bool.{not, cond}
+use Prim.Native.Nat.{ℕ, _+_, _%_, _≤_, _<_}
+use mathlib.Core.Path.{_≡_}
+use mathlib.Core.Bool.{true, not, cond}
 use mathlib.Core.List.{List, [], _∷_}
 use lib.Dec.{eqb, ltb}
-use lib.ListN.{getD}
+use lib.ListN.{length, getD}
 use Rattle.word.specs.Field.{width, fieldOf}
-use Rattle.buddy.specs.Blocks.{Block, sizeAt}
-use Rattle.buddy.specs.Map.{live}
+use Rattle.buddy.specs.Blocks.{Block, size, sizeAt}
+use Rattle.buddy.specs.SetUp.{top, words}
+use Rattle.buddy.specs.Map.{keeps, live}
 use Rattle.table.specs.declared.FieldName.{FieldName}
 use Rattle.table.specs.declared.Pair.{Pair}
 use Rattle.table.specs.Reference.{referenceOf}
@@ -22,7 +24,7 @@ use Rattle.engine.specs.declared.Refusal.the-variants.{UndefinedField, N
 use Rattle.engine.specs.Answer.{Checked, refused, passed, _>>=_, _>>_, need, refusalNumber}
 use Rattle.engine.specs.State.{undefined}
 use Rattle.engine.specs.Storage.{wordAt}
-use Rattle.engine.specs.Sound.{Engine}
+use Rattle.engine.specs.Sound.{Engine, every, isDefinition}
 
 -- the live blocks of an engine
 abbrev pub liveBlocks : Engine → List Block
@@ -34,20 +36,23 @@ pub record World : Type 0 where
   pub map : List ℕ
   pub storage : List ℕ
 
-unfoldable pub namesOf : Core → Environment
-namesOf c = record { bugs = c .bugs; definitions = c .definitions; setup = c .setup }
+unfoldable pub environmentOf : Core → Environment
+environmentOf c = record { bugs = c .bugs; definitions = c .definitions; setup = c .setup }
 
 unfoldable pub world : Engine → World
-world e = record { names = namesOf (e .state .core); map = e .state .map; storage = e .storage }
+world e = record { names = environmentOf (e .state .core); map = e .state .map; storage = e .storage }
 
 -- the definition of a field
 unfoldable pub definitionOf : FieldName → World → Definition
 definitionOf f w = getD (w .names .definitions) (f .0) undefined
 
 -- what stands at a location: a bug's word, or a field's bits
-unfoldable pub contents : ℕ → World → Location → ℕ
-contents b w (Bug x) = getD (w .names .bugs) (x .0) 0
-contents b w (Field address left right) = fieldOf b left right (wordAt (w .names .setup .s1) address (w .storage))
+unfoldable pub contentsOf : ℕ → Environment → List ℕ → Location → ℕ
+contentsOf b names storage (Bug x) = getD (names .bugs) (x .0) 0
+contentsOf b names storage (Field address left right) = fieldOf b left right (wordAt (names .setup .s1) address storage)
+
+abbrev pub contents : ℕ → World → Location → ℕ
+contents b w at = contentsOf b (w .names) (w .storage) at
 
 -- the bits of a location: a bug is a whole word
 unfoldable pub widthOf : ℕ → Location → ℕ
@@ -86,6 +91,23 @@ read b w at = record { value = contents b w at; width = widthOf b at }
 -- an operand that is used: a literal (form 1), or what stands where a reference leads
 unfoldable pub operand : ℕ → World → Pair → Checked Value
 operand b w p = cond (eqb (p .form) 1) (passed (record { value = p .value; width = b })) (locate b w p >>= λ at. passed (read b w at))
+
+-- what code that follows references relies on, and a sound engine has: set-up numbers in range, a map that keeps its section, a
+-- storage that has the set-up words, definitions in range
+pub record Readable (b : ℕ) (w : World) : Type 0 where
+  pub width : b ≤ 48
+  pub first : w .names .setup .s1 ≤ 32767
+  pub last : w .names .setup .s2 ≤ 32767
+  pub whole : words (w .names .setup) % size (top (w .names .setup .d)) ≡ 0
+  pub kept : keeps (w .names .setup) (w .map) ≡ true
+  pub room : words (w .names .setup) ≤ length (w .storage)
+  pub definitions : every (isDefinition b) (w .names .definitions) ≡ true
+
+-- a location that can be read: one of the bugs, or bits inside a word of the storage
+unfoldable pub Reached : ℕ → Environment → List ℕ → Location → Type 0
+Reached b names storage (Bug x) = x .0 < 26
+Reached b names storage (Field address left right) =
+    (right < b) × (names .setup .s1 ≤ address) × (address < names .setup .s1 + length storage)
 
 -- an answer that is a location or a refusal, as the code gives it
 unfoldable pub linked : Checked Location → Linked

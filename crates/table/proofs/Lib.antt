@@ -2,3 +2,4 @@
 pub mod Digits
 pub mod Shapes
 pub mod Formed
+pub mod InRange

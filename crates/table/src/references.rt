@@ -1,6 +1,7 @@
 // References as numbers: tested, and taken apart into names.
 ghost use mathlib.Core.Bool.{true};
 ghost use mathlib.Core.Path.{_≡_};
+ghost use lib.ListN.{length};
 ghost use Rattle.table.specs.Reference.{names, isReference};
 ghost use Rattle.table.specs.Reference.{referenceOf, namesOf};
 use crate::BugLetter;
@@ -34,7 +35,7 @@ pub fn is_reference(v: u64) -> bool
 // The names of a reference, the last one first found.
 pub fn names_in(v: u64) -> Names
     requires { ⌜ isReference v ≡ true ⌝ }
-    ensures { λ r. ⌜ namesOf r ≡ referenceOf v ⌝ }
+    ensures { λ r. ⌜ (namesOf r ≡ referenceOf v) × (length (r .fields) ≡ 5) ⌝ }
 {
     let mut fields = [FieldName(0); 5];
     let mut rest = v;

@@ -40,7 +40,7 @@ cast-t14 : tie.Need-cast-t14 Inv-loop μ-loop
 cast-t14 c = let l = found-last (c .before .loop .inv) (c .loop-test .left) in omega (arith, l .high)
 
 returns : tie.Need-returns Inv-loop μ-loop
-returns c = found-last (c .before .loop .inv) (c .loop-test .left) .whole
+returns c = let so-far = c .before .loop .inv in (found-last so-far (c .loop-test .left) .whole, so-far .room)
 
 pub names-in-spec : {M : Type 1} → statement M
 names-in-spec =

@@ -1,0 +1,68 @@
+-- What code that follows references relies on: a sound engine has it, and where a reference leads can be read.
+-- Assumes nothing.
+use Prim.Native.Nat.{ℕ, _%_, _≤_}
+use native.Mathlib.Nat.{zero-mod}
+use native.Mathlib.Omega.{arith}
+use mathlib.Core.Bool.{true}
+use mathlib.Core.List.{List, [], _∷_}
+use mathlib.Core.Logic.{_⊎_, inl, inr}
+use mathlib.Core.Path.{_≡_, subst}
+use lib.ListN.{length}
+use Rattle.buddy.specs.declared.SetUp.{SetUp}
+use Rattle.buddy.specs.Blocks.{size}
+use Rattle.buddy.specs.SetUp.{top, words, fitting, absent}
+use Rattle.buddy.proofs.Size.{fitting-facts, absent-facts}
+use Rattle.buddy.proofs.Change.{words-whole}
+use Rattle.table.specs.declared.FieldName.{FieldName}
+use Rattle.table.specs.declared.Pair.{Pair}
+use Rattle.table.specs.Reference.{isReference}
+use Rattle.table.proofs.InRange.{bug-in}
+use Rattle.engine.specs.declared.Location.{Location}
+use Rattle.engine.specs.Answer.{passed}
+use Rattle.engine.specs.Sound.{Engine, soundEngine}
+use Rattle.engine.specs.Locate.{World, world, environmentOf, follow, locate, Readable, Reached}
+use Rattle.engine.proofs.Checks.{or-parts, bind-passed, passed-same}
+use Rattle.engine.proofs.Facts.{sound-facts}
+use Rattle.engine.proofs.Follows.{link-reached, bug-reached}
+
+-- what the set-up numbers of a sound engine give
+record Numbers (lent : ℕ) (u : SetUp) : Type 0 where
+  first : u .s1 ≤ 32767
+  last : u .s2 ≤ 32767
+  whole : words u % size (top (u .d)) ≡ 0
+  room : words u ≤ lent
+
+numbers : (lent : ℕ) (u : SetUp) → (fitting lent u ≡ true) ⊎ (absent u ≡ true) → Numbers lent u
+numbers lent u (inl f) =
+    let k = fitting-facts lent u f in
+    record { first = omega (arith, k .order, k .last); last = k .last; whole = words-whole lent u f; room = k .lies }
+numbers lent u (inr a) =
+    let k = absent-facts u a in
+    record { first = omega (arith, k .first); last = omega (arith, k .last); whole = rw (k .count) (zero-mod _); room = omega (arith, k .count) }
+
+pub sound-readable : (b : ℕ) (e : Engine) → b ≤ 48 → soundEngine b e ≡ true → Readable b (world e)
+unfolding world environmentOf
+sound-readable b e narrow s =
+    let h = sound-facts b e s in
+    let k = numbers (length (e .storage)) (e .state .core .setup) (or-parts _ _ (h .storage .numbers)) in
+    record {
+      width = narrow;
+      first = k .first;
+      last = k .last;
+      whole = k .whole;
+      kept = h .storage .blocks;
+      room = k .room;
+      definitions = h .core .definitions;
+    }
+
+module _ (b : ℕ) (w : World) (h : Readable b w) where
+  follow-reached : (at : Location) (fs : List FieldName) (to : Location) → Reached b (w .names) (w .storage) at → follow b w at fs ≡ passed to
+      → Reached b (w .names) (w .storage) to
+  unfolding follow
+  follow-reached at [] to r k = subst (Reached b (w .names) (w .storage)) (passed-same k) r
+  follow-reached at (f ∷ fs) to r k =
+      let (next, k₁, k₂) = bind-passed _ _ k in follow-reached next fs to (link-reached b w h _ f next k₁) k₂
+
+  pub locate-reached : (p : Pair) → isReference (p .value) ≡ true → (at : Location) → locate b w p ≡ passed at → Reached b (w .names) (w .storage) at
+  unfolding locate
+  locate-reached p is at k = follow-reached _ _ at (bug-reached _ _ _ _ (bug-in (p .value) is)) k
