@@ -1,15 +1,17 @@
 -- A test that every entry of a list passes, after the list's changes: set, pushed, cut, placed.
 -- Assumes nothing.
 use Prim.Native.Nat.{ℕ, zero, suc, _+_, _≤_, _<_}
+use native.Mathlib.Numerals.{add-one}
 use native.Mathlib.Nat.{zero-add, suc-add, le-of-suc-le-suc, not-suc-le-zero}
 use native.Mathlib.Omega.{arith}
-use mathlib.Core.Bool.{Bool, true}
+use mathlib.Core.Bool.{Bool, true, false}
 use mathlib.Core.List.{List, [], _∷_, _++_}
-use mathlib.Core.Path.{_≡_, refl}
+use mathlib.Core.Path.{_≡_, refl, sym, _∙_}
+use borrow.Author.Tests.{le-leb, lt-leb}
 use lib.Dec.{ltb}
-use lib.ListN.{length, getD, set, take, drop, replicate}
-use lib.Seq.{drop-nil}
-use Rattle.engine.specs.Sound.{every}
+use lib.ListN.{length, getD, set, take, drop, replicate, drop-of-length-le}
+use lib.Seq.{drop-nil, drop-cons, getD-take, length-take-le}
+use Rattle.engine.specs.Sound.{every, soundStack}
 use Rattle.engine.specs.Storage.{placed}
 use Rattle.engine.proofs.Checks.{and-parts, and-true}
 
@@ -63,6 +65,40 @@ module _ {A : Type 0} (f : A → Bool) where
   every-fewer (suc m) (suc n) [] p h = every-none
   every-fewer (suc m) (suc n) (x ∷ xs) p h =
       every-cons x _ (every-parts x _ h .0) (every-fewer m n xs (le-of-suc-le-suc p) (every-parts x _ h .1))
+
+  -- passing one entry after the other: those before place i have passed
+  module _ (l : List A) (i : ℕ) (d : A) (so-far : every f l ≡ every f (drop i l)) where
+    pub every-on : i < length l → f (getD l i d) ≡ true → every f l ≡ every f (drop (i + 1) l)
+    unfolding every
+    every-on more k = so-far ∙ rw (drop-cons l i d, k, add-one)
+
+    pub every-off : i < length l → f (getD l i d) ≡ false → false ≡ every f l
+    unfolding every
+    every-off more k = sym (so-far ∙ rw (drop-cons l i d, k))
+
+    pub every-all : length l ≤ i → true ≡ every f l
+    unfolding every
+    every-all end = sym (so-far ∙ rw (drop-of-length-le l end))
+
+  -- the same of the first n entries
+  module _ (n : ℕ) (l : List A) (i : ℕ) (d : A) (there : n ≤ length l) (so-far : every f (take n l) ≡ every f (drop i (take n l))) where
+    pub taken-on : i < n → f (getD l i d) ≡ true → every f (take n l) ≡ every f (drop (i + 1) (take n l))
+    taken-on more k = every-on (take n l) i d so-far (rw (length-take-le n l there) more) (rw (getD-take n l i d more) k)
+
+    pub taken-off : i < n → f (getD l i d) ≡ false → false ≡ every f (take n l)
+    taken-off more k = every-off (take n l) i d so-far (rw (length-take-le n l there) more) (rw (getD-take n l i d more) k)
+
+    pub taken-all : n ≤ i → true ≡ every f (take n l)
+    taken-all end = every-all (take n l) i d so-far (rw (length-take-le n l there) end)
+
+  -- a stack of n entries, of too many and of a number that fits
+  pub stack-over : (n : ℕ) (l : List A) → 128 < n → false ≡ soundStack f n l
+  unfolding soundStack
+  stack-over n l over = rw (lt-leb n 128 over)
+
+  pub stack-used : (n : ℕ) (l : List A) (t : Bool) → n ≤ 128 → t ≡ every f (take n l) → t ≡ soundStack f n l
+  unfolding soundStack
+  stack-used n l t few is = rw (le-leb n 128 few) is
 
   -- one of the first n entries, or what stands in for one that is not there
   pub every-at : (n i : ℕ) (l : List A) (d : A) → i < n → every f (take n l) ≡ true → f d ≡ true → f (getD l i d) ≡ true

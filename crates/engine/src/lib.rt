@@ -1,5 +1,6 @@
 // The engine's state, answers and reports: what they mean stands in specs/.
 pub mod references;
+pub mod sound;
 
 // Why a step is refused: document 01's refusals 1 to 21, in its order.
 pub enum Refusal {

@@ -1,0 +1,18 @@
+-- `engine::sound::is_definition` meets its contract. Assumes nothing.
+use borrow.Author.Needs.{needs}
+use Rattle.engine.specs.Sound.{isDefinition, inRange}
+use Rattle.engine.proofs.sound.is_definition.Statement.{statement}
+use Rattle.engine.proofs.sound.is_definition.Tie as tie
+
+cast-result : tie.Need-cast-result
+cast-result c = search needs
+
+cast-result-2 : tie.Need-cast-result-2
+cast-result-2 c = search needs
+
+returns : tie.Need-returns
+unfolding isDefinition inRange
+returns c = search needs
+
+pub is-definition-spec : {M : Type 1} → statement M
+is-definition-spec = tie.close (tie.spec cast-result cast-result-2 returns)

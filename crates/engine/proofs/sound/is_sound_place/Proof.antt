@@ -1,0 +1,16 @@
+-- `engine::sound::is_sound_place` meets its contract. Assumes nothing.
+use borrow.Author.Needs.{needs}
+use Rattle.engine.specs.State.{isFinished}
+use Rattle.engine.specs.Sound.{soundPlace}
+use Rattle.engine.proofs.sound.is_sound_place.Statement.{statement}
+use Rattle.engine.proofs.sound.is_sound_place.Tie as tie
+
+is-place-requires : tie.Need-is-place-requires
+is-place-requires c κs = search needs
+
+returns : tie.Need-returns
+unfolding soundPlace isFinished
+returns c = cc
+
+pub is-sound-place-spec : {M : Type 1} → statement M
+is-sound-place-spec = tie.close (tie.spec is-place-requires returns)
