@@ -1,6 +1,6 @@
 -- The trees of a set-up counted by the code: the words divided by the largest size. Assumes nothing.
-use mathlib.Core.Path.{_≡_, sym, ap, _∙_}
-use mathlib.Core.Bool.{true, _&&_, cond}
+use mathlib.Core.Path.{_≡_, refl, sym}
+use mathlib.Core.Bool.{true, false, _&&_}
 use mathlib.Core.List.{List}
 use Prim.Native.Nat.{ℕ, suc, _+_, _-_, _*_, _/_, _%_, _≤_, _<_}
 use native.Mathlib.Nat.{div-add-mod'}
@@ -13,7 +13,8 @@ use Rattle.buddy.specs.SetUp.{top, words, runs}
 use Rattle.buddy.specs.Map.{same, allTold, trees, keeps, live}
 use Rattle.buddy.specs.Part.{allWhole}
 use Rattle.buddy.specs.Lowest.{firstOf, lowestOf}
-use Rattle.word.proofs.Tests.{either-way}
+use Rattle.word.proofs.Tests.{either-way, by-test}
+use Rattle.buddy.proofs.Map.{keeps-long}
 use Rattle.buddy.proofs.Keeping.{keeps-whole, keeps-all}
 use Rattle.buddy.proofs.First.{first-run}
 
@@ -22,19 +23,30 @@ pub words-le : (u : SetUp) → words u ≤ suc (u .s2) - u .s1
 unfolding words
 words-le u = either-way (λ (n : ℕ). n ≤ suc (u .s2) - u .s1) (eqb (u .d) 0) (omega arith) (omega arith)
 
-module _ (u : SetUp) (k n w : ℕ) (ek : k ≡ top (u .d)) (en : n ≡ size k) (ew : w ≡ words u) (whole : words u % size (top (u .d)) ≡ 0) where
-  -- they fill the words
-  pub count-fill : w / n * size k ≡ words u
-  count-fill = rw (en, ew, ek) (omega (arith, div-add-mod' (words u) (size (top (u .d)))))
+module _ (u : SetUp) (k n w : ℕ) (ek : k ≡ top (u .d)) (en : n ≡ size k) (ew : w ≡ words u) where
+  -- a map that keeps the section is as long as the trees and the bytes past the words
+  count-long : (m : List ℕ) → keeps u m ≡ true → w / n * n + (length m - w) ≡ length m
+  count-long m kept = rw (en, ew, ek) (keeps-long u m kept)
 
-  module _ (m : List ℕ) where
-    -- they are whole, and the rest is zero, if the map keeps the section
-    pub count-keeps : (allWhole k (w / n) m && same (replicate (length m - w) 0) (drop w m)) ≡ keeps u m
-    count-keeps = rw (en, ew, ek) (sym (keeps-whole u m whole))
+  -- so one that is not does not
+  pub count-short : (m : List ℕ) → (w / n * n + (length m - w) ≡ length m → ⊥) → false ≡ keeps u m
+  count-short m long = by-test (λ t. t ≡ keeps u m → false ≡ keeps u m) (keeps u m) (λ k e. absurd (long (count-long m k))) (λ k e. e) refl
 
-    module _ (kept : keeps u m ≡ true) where
+  -- the trees are whole, and the rest is zero, if the map keeps the section
+  pub count-keeps : (m : List ℕ) → w / n * n + (length m - w) ≡ length m
+      → (allWhole k (w / n) m && same (replicate (length m - w / n * n) 0) (drop (w / n * n) m)) ≡ keeps u m
+  count-keeps m long =
+      let rest : length m - w / n * n ≡ length m - w = omega arith in
+      rw rest (rw (en, ew, ek) (sym (keeps-whole u m)))
+
+  module _ (whole : words u % size (top (u .d)) ≡ 0) where
+    -- they fill the words
+    pub count-fill : w / n * size k ≡ words u
+    count-fill = rw (en, ew, ek) (omega (arith, div-add-mod' (words u) (size (top (u .d)))))
+
+    module _ (m : List ℕ) (kept : keeps u m ≡ true) where
       pub count-all : allWhole k (w / n) m ≡ true
-      count-all = rw (en, ew, ek) (keeps-all u m whole kept)
+      count-all = rw (en, ew, ek) (keeps-all u m kept)
 
       -- what is found in them is the first run
       pub count-first : (j : ℕ) → j ≤ top (u .d) → lowestOf j k (u .s1) (allTold k (w / n) m) ≡ firstOf (runs (size j) u (live u m))

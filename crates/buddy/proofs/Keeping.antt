@@ -66,20 +66,14 @@ kept-parts k (suc c) m rest =
     (drop-drop (c * size k) (size k) m ∙ ap (λ (n : ℕ). drop n m) more)
 
 -- a map keeps the section if its trees are whole and it is zero after them
-pub keeps-whole : (u : SetUp) (m : List ℕ) → words u % size (top (u .d)) ≡ 0
-    → keeps u m ≡ (allWhole (top (u .d)) (words u / size (top (u .d))) m && same (replicate (length m - words u) 0) (drop (words u) m))
+pub keeps-whole : (u : SetUp) (m : List ℕ)
+    → keeps u m ≡ (allWhole (top (u .d)) (words u / size (top (u .d))) m && same (replicate (length m - words u) 0) (drop (words u / size (top (u .d)) * size (top (u .d))) m))
 unfolding keeps trees mapOf
-keeps-whole u m h =
-    let k = top (u .d) in
-    let fill : (words u / size k) * size k ≡ words u = omega (arith, div-add-mod' (words u) (size k)) in
-    kept-parts k (words u / size k) m (replicate (length m - words u) 0)
-    ∙ ap (λ (n : ℕ). allWhole k (words u / size k) m && same (replicate (length m - words u) 0) (drop n m)) fill
+keeps-whole u m = kept-parts (top (u .d)) (words u / size (top (u .d))) m (replicate (length m - words u) 0)
 
 -- the trees of a map that keeps the section are whole
-pub keeps-all : (u : SetUp) (m : List ℕ) → words u % size (top (u .d)) ≡ 0 → keeps u m ≡ true
-    → allWhole (top (u .d)) (words u / size (top (u .d))) m ≡ true
-keeps-all u m h kept =
-    and-true (allWhole (top (u .d)) (words u / size (top (u .d))) m) (same (replicate (length m - words u) 0) (drop (words u) m)) (sym (keeps-whole u m h) ∙ kept) .0
+pub keeps-all : (u : SetUp) (m : List ℕ) → keeps u m ≡ true → allWhole (top (u .d)) (words u / size (top (u .d))) m ≡ true
+keeps-all u m kept = and-true (allWhole (top (u .d)) (words u / size (top (u .d))) m) _ (sym (keeps-whole u m) ∙ kept) .0
 
 -- what a whole tree is
 pub whole-parts : (k : ℕ) (m : List ℕ) → whole (part k m) ≡ true → (canonical k (told k m) ≡ true) × (m ≡ written k (told k m))

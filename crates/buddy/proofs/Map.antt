@@ -157,6 +157,10 @@ module _ (u : SetUp) where
     unfolding trees
     length-trees = length-allTold _ _ m
 
+    -- a map that keeps the section is as long as its trees and the bytes past the words
+    pub keeps-long : keeps u m ≡ true → words u / size (top (u .d)) * size (top (u .d)) + (length m - words u) ≡ length m
+    keeps-long h = rw length-trees at (sym (bytes (length m) (trees u m)) ∙ ap length (keeps-parts h .1))
+
     module _ (whole : words u % size (top (u .d)) ≡ 0) where
       -- the largest blocks fill the words
       pub trees-fill : length (trees u m) * size (top (u .d)) ≡ words u

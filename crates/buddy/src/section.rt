@@ -1,7 +1,7 @@
 // The whole block map: its trees one after the other, zero past the set-up words.
 ghost use mathlib.Core.Path.{_≡_};
 ghost use mathlib.Core.Bool.{true};
-ghost use Prim.Native.Nat.{_+_, _*_, _/_, _%_, _≤_, _<_};
+ghost use Prim.Native.Nat.{_+_, _-_, _*_, _/_, _%_, _≤_, _<_};
 ghost use lib.ListN.{length};
 ghost use Rattle.buddy.specs.declared.Found.the-variants.{At};
 ghost use Rattle.buddy.specs.Blocks.{size, sizeAt};
@@ -66,14 +66,25 @@ fn all_whole(k: u8, count: usize, map: &[u8]) -> bool
     true
 }
 
-// Whether a map keeps the section "Blocks".
+// How many bytes of a map lie past the set-up words.
+fn bytes_past(words: usize, length: usize) -> usize
+    ensures { λ r. ⌜ r ≡ length - words ⌝ }
+{
+    if words <= length { length - words } else { 0 }
+}
+
+// Whether a map keeps the section "Blocks": it is as long as its trees and the bytes past them, no tree is broken, the rest is zero.
 pub fn keeps_section(setup: SetUp, map: &[u8]) -> bool
-    requires { ⌜ (words setup % size (top (setup .d)) ≡ 0) × (words setup ≤ length (now map)) ⌝ }
     ensures { λ r. ⌜ r ≡ keeps setup (now (map .entry)) ⌝ }
 {
     let k = top_of(setup.d);
-    let end = words_of(setup);
-    let count = end / size_of(k);
+    let n = size_of(k);
+    let words = words_of(setup);
+    let count = words / n;
+    let end = count * n;
+    if end + bytes_past(words, map.len()) != map.len() {
+        return false;
+    }
     if all_whole(k, count, map) {
         zero_from(end, map)
     } else {
