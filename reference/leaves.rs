@@ -1,46 +1,43 @@
 // The lines that the program `leaves` must write, computed from document 01 by other means: words are lists of single bits,
-// products and differences are 128 bits wide, numbers become characters by way of text, and a table's rules are read row by row.
-// Only the generator of cases is the program's. `make expected` writes crates/leaves/stdout with it.
+// products and differences are 128 bits wide, numbers become characters by way of text, a table's rules are read row by row,
+// and the allocator is a list of live blocks, from which its map is drawn. Only the generator of cases and the checksum are the
+// program's. `make expected` writes crates/leaves/stdout with it.
 
 // ---- The generator ----
 
 const SEED: u64 = 1966;
 const CASES: usize = 8000;
 
+// A number for choices, and two values.
 #[derive(Clone, Copy)]
 struct Case {
     a: u64,
-    b: u64,
-    c: u64,
     x: u64,
     y: u64,
-    after: Generator,
 }
 
-#[derive(Clone, Copy)]
 struct Generator(u64);
 
 impl Generator {
     fn next(&mut self) -> u64 {
-        self.0 = (self.0 * 1664525 + 1013904223) & 0xffff_ffff;
-        self.0 >> 16
+        self.0 ^= self.0 << 13;
+        self.0 ^= self.0 >> 7;
+        self.0 ^= self.0 << 17;
+        self.0
     }
 
     fn value(&mut self) -> u64 {
-        let bits = (0..4).fold(0, |v, _| v << 16 | self.next());
-        let how = self.next();
-        let places = how / 4 % 64;
-        match how % 4 {
+        let drawn = self.next();
+        let places = drawn % 64;
+        match drawn / 64 % 4 {
             0 => u64::MAX >> places,
             1 => 1 << places,
-            _ => bits >> places,
+            _ => Generator(drawn).next() >> places,
         }
     }
 
     fn case(&mut self) -> Case {
-        let (a, b, c) = (self.next(), self.next(), self.next());
-        let (x, y) = (self.value(), self.value());
-        Case { a, b, c, x, y, after: *self }
+        Case { a: self.next(), x: self.value(), y: self.value() }
     }
 }
 
@@ -49,14 +46,19 @@ fn width_of(drawn: u64) -> usize {
 }
 
 fn fold(sum: u64, result: u64) -> u64 {
-    let m = 1 << 31;
-    let high = (sum % m * 31 + result / m % m) % m;
-    (high * 31 + result % m) % m
+    Generator(sum ^ result).next()
+}
+
+// An answer is a value, or the number of a refusal.
+type Answer = Result<u64, u64>;
+
+fn figure(answer: Answer) -> u64 {
+    answer.unwrap_or_else(|refusal| (1 << 63) + refusal)
 }
 
 fn line(label: &str, f: impl Fn(Case) -> u64) {
     let mut g = Generator(SEED);
-    println!("{label} {}", (0..CASES).fold(0, |sum, _| fold(sum, f(g.case()))));
+    println!("{label}: {}", (0..CASES).fold(0, |sum, _| fold(sum, f(g.case()))) / 2);
 }
 
 // ---- Words: lists of bits, the leftmost first ----
@@ -128,25 +130,17 @@ fn store(b: usize, left: usize, right: usize, w: u64, v: u64) -> u64 {
 }
 
 fn words() {
+    let word = |c: Case| value(&bits(width_of(c.a), c.x)) as i128;
     line("power", |c| (0..c.a % 64).fold(1, |p, _| p + p));
-    line("low_bits", |c| value(&bits(width_of(c.a), c.x)));
+    line("low_bits", |c| value(&bits(width_of(c.a), c.y)));
     line("add", |c| modulo(width_of(c.a), c.x as i128 + c.y as i128));
-    line("subtract", |c| {
-        let b = width_of(c.a);
-        modulo(b, c.x as i128 - value(&bits(b, c.y)) as i128)
-    });
+    line("subtract", |c| modulo(width_of(c.a), c.y as i128 - word(c)));
     line("multiply", |c| (c.x as u128 * c.y as u128 % (1u128 << width_of(c.a))) as u64);
     line("divide", |c| quotient(c.x, 1 + c.y / 2));
     line("or", |c| each(width_of(c.a), c.x, c.y, |p, q| p || q));
     line("and", |c| each(width_of(c.a), c.x, c.y, |p, q| p && q));
     line("exclusive_or", |c| each(width_of(c.a), c.x, c.y, |p, q| p != q));
     line("complement", |c| each(width_of(c.a), c.x, 0, |p, _| !p));
-    let count = |c: Case| if c.c % 8 == 0 { c.y } else { c.b % (width_of(c.a) as u64 + 2) };
-    line("left_shift", |c| moved(width_of(c.a), c.x, count(c), false));
-    line("right_shift", |c| moved(width_of(c.a), c.x, count(c), true));
-}
-
-fn fields() {
     let count = |wanted: bool| move |c: Case| bits(width_of(c.a), c.x).iter().filter(|&&bit| bit == wanted).count() as u64;
     let leftmost = |wanted: bool| {
         move |c: Case| {
@@ -166,21 +160,33 @@ fn fields() {
     line("rightmost_one", rightmost(true));
     line("leftmost_zero", leftmost(false));
     line("rightmost_zero", rightmost(false));
-    line("width", |c| places(c.a as usize % 70, c.b as usize % 64).len() as u64);
-    // A word of b bits, and a field in it.
+    line("left_shift", |c| moved(width_of(c.a), c.x, c.y, false));
+    line("right_shift", |c| moved(width_of(c.a), c.x, c.y, true));
+}
+
+fn fields() {
+    // A word of b bits, its left bit zero, and a field in it.
     let field = |c: Case| {
         let b = width_of(c.a) + 1;
-        let right = c.b as usize % b;
-        (b, c.c as usize % (right + 2), right)
+        let right = (c.a / 64) as usize % b;
+        let left = (c.a / 4096) as usize % (right + 2);
+        (b, left, right, value(&bits(b - 1, c.x)))
     };
-    line("read_field", |c| {
-        let (b, left, right) = field(c);
-        read(b, left, right, c.x ^ c.y)
+    line("width", |c| {
+        let (_, left, right, _) = field(c);
+        places(left, right).len() as u64
     });
-    line("kept_bits", |c| keep(c.a as usize % 50, c.b as usize % 49, c.x));
+    line("read_field", |c| {
+        let (b, left, right, word) = field(c);
+        read(b, left, right, word)
+    });
+    line("kept_bits", |c| {
+        let (_, left, right, _) = field(c);
+        keep(left, right, c.y)
+    });
     line("store_field", |c| {
-        let (b, left, right) = field(c);
-        store(b, left, right, c.x, c.y)
+        let (b, left, right, word) = field(c);
+        store(b, left, right, word, c.y)
     });
 }
 
@@ -211,10 +217,9 @@ fn octal(n: usize, v: u64) -> u64 {
     last_digits(n, format!("{v:o}"))
 }
 
-// None is refusal 6.
-fn to_binary(base: u32, n: usize, v: u64) -> Option<u64> {
+fn to_binary(base: u32, n: usize, v: u64) -> Answer {
     let text: Option<String> = codes(n, v).iter().map(|&code| char::from_digit(code as u32, 36)).collect();
-    u64::from_str_radix(&format!("0{}", text?), base).ok()
+    text.and_then(|text| u64::from_str_radix(&format!("0{text}"), base).ok()).ok_or(6)
 }
 
 // The characters that a field holds: as many as it takes to have all its bits.
@@ -232,38 +237,46 @@ fn lead(old: u8, new: u8, mut codes: Vec<u8>) -> u64 {
     packed(&codes)
 }
 
-// The case's ten characters: digits more or less often, led by blanks, zeros or others.
+// The case's ten characters: digits more or less often, led by blanks or not.
 fn ten(c: Case) -> u64 {
-    let most = [63, 15, 7][c.c as usize % 3];
+    let most = [63, 15, 7][(c.a % 3) as usize];
     let mut made: Vec<u8> = codes(10, c.x ^ c.y).iter().map(|code| code & most).collect();
-    let leading = 10 - c.a as usize % 11;
-    if c.b % 3 < 2 {
-        made[..leading].fill([BLANK, 0][c.b as usize % 3]);
+    let leading = 10 - (c.a / 4 % 11) as usize;
+    if c.a / 64 % 2 == 1 {
+        made[..leading].fill(BLANK);
     }
     packed(&made)
 }
 
+// A print into output that holds no characters before.
+fn output(at: usize, count: usize, width: usize, v: u64) -> Vec<u8> {
+    let mut all = vec![64; 160];
+    all.splice(at..at + count, printed(count, width, v));
+    all
+}
+
+fn input(taken: &[u8]) -> Answer {
+    if taken.iter().any(|&code| code > 63) { Err(4) } else { Ok(packed(taken)) }
+}
+
+fn folded(bytes: &[u8]) -> u64 {
+    bytes.iter().fold(1, |sum, &byte| fold(sum, byte as u64))
+}
+
 fn characters() {
-    line("holds", |c| held(c.a as usize % 65) as u64);
-    line("from_binary_octal", |c| octal(c.a as usize % 11, c.x));
-    line("from_binary_decimal", |c| decimal(c.a as usize % 10, c.x));
-    line("to_binary", |c| {
-        let base = if c.y % 2 == 0 { 8 } else { 10 };
-        to_binary(base, c.a as usize % 11, ten(c)).map_or(0, |v| fold(1, v))
-    });
-    line("blanks_to_zeros", |c| lead(BLANK, 0, printed((c.y % 11) as usize, (c.x % 65) as usize, ten(c))));
-    line("zeros_to_blanks", |c| lead(0, BLANK, codes((c.y % 11) as usize, ten(c))));
-    line("print_into", |c| {
-        let (at, count, width) = (c.a as usize % 41, c.b as usize % 121, c.c as usize % 65);
-        let mut output = vec![63; 160];
-        output.splice(at..at + count, printed(count, width, c.x ^ c.y));
-        output.iter().fold(0, |sum, &code| fold(sum, code as u64))
-    });
+    let n = |c: Case| (c.a / 128 % 11) as usize;
+    let output_of = |c: Case| output((c.a % 41) as usize, (c.a / 64 % 121) as usize, (c.a / 8192 % 65) as usize, ten(c));
+    line("holds", |c| held((c.a % 65) as usize) as u64);
+    line("from_binary_octal", |c| octal(n(c), c.x));
+    line("from_binary_decimal", |c| decimal(n(c) % 10, c.x));
+    line("to_binary, octal", |c| figure(to_binary(8, n(c), ten(c))));
+    line("to_binary, decimal", |c| figure(to_binary(10, n(c), ten(c))));
+    line("blanks_to_zeros", |c| lead(BLANK, 0, printed(n(c), (c.a / 2048 % 65) as usize, ten(c))));
+    line("zeros_to_blanks", |c| lead(0, BLANK, codes(n(c), ten(c))));
+    line("print_into", |c| folded(&output_of(c)));
     line("pack_input", |c| {
-        let six: Vec<u8> = (0..6).map(|i| (((c.x ^ c.y) >> (5 * i)) % 66) as u8).collect();
-        let order = [0, 1, 2, 3, 4, 5, 5, 1, 0, 4, 3, 2];
-        let taken = order.iter().map(|&i| six[i]).skip(c.a as usize % 3).take(c.b as usize % 11).collect::<Vec<_>>();
-        if taken.iter().any(|&code| code > 63) { 0 } else { fold(1, packed(&taken)) }
+        let from = (c.y % 151) as usize;
+        figure(input(&output_of(c)[from..from + n(c)]))
     });
 }
 
@@ -366,68 +379,34 @@ fn usable(kind: u64, t: &[u64], r: usize) -> bool {
 fn candidate(c: Case) -> u64 {
     let digits: u64 = codes(6, c.x ^ c.y).iter().fold(0, |v, &code| v * 64 + (code as u64 & 31) + 5);
     let some = digits >> (6 * (c.a % 6));
-    if c.b % 2 == 0 { some } else { some ^ 1 << (c.c % 40) }
-}
-
-fn seldom(limit: u64, d: u64) -> u64 {
-    if d % 4 == 0 { d / 4 % 64 % (limit + 1) } else { 0 }
-}
-
-fn pair_value(form: u64, d: u64) -> u64 {
-    match (d % 8, form) {
-        (0, _) => 0,
-        (1, _) => (1 << 36) - 1 + d / 8 % 3,
-        (_, 0) => 0,
-        (_, 1) => d / 8 % 6,
-        _ if d / 256 % 2 == 0 => 11 + d / 8 % 27,
-        _ => (11 + d / 8 % 27) * 64 + d / 512 % 38,
-    }
-}
-
-fn form(d: u64) -> u64 {
-    match d % 16 {
-        0 => 65535,
-        1 => 3,
-        _ => d / 16 % 3,
-    }
-}
-
-fn row(c: Case) -> Vec<u64> {
-    let mut g = c.after;
-    let next = seldom(4, c.b / 64);
-    if (1..=4).contains(&(c.x % 16)) {
-        let p = g.next();
-        let last = [0, 4, 8].map(|shift| (p >> shift & 15 == 15) as u64);
-        let head = [1, next, c.b % 6, seldom(1, c.a / 64), c.c % 5, c.c / 8 % 5, form(c.a)];
-        return [&head[..], &last[..]].concat();
-    }
-    let (kind, codes) = match c.x % 16 {
-        0 => (c.y % 5, 38),
-        5 | 6 => (2, 9),
-        _ => (3, 38),
-    };
-    let mut made = vec![kind, next, c.b % codes, seldom(36, c.a / 64)];
-    for form in [c.c % 3, c.c / 3 % 3, c.c / 9 % 3] {
-        made.extend([form, pair_value(form, g.next())]);
-    }
-    made
-}
-
-fn four_rows(c: Case) -> Vec<u64> {
-    let good = [[2, 0, 7, 0, 2, 33, 2, 2123, 0, 0], [3, 0, 25, 0, 1, 2, 1, 7, 0, 0]];
-    [vec![9; 10], row(c), good.concat()].concat()
+    if c.a / 8 % 2 == 0 { some } else { some ^ 1 << (c.a / 16 % 40) }
 }
 
 const GOOD: [[u64; 10]; 8] = [
     [9, 9, 9, 9, 9, 9, 9, 9, 9, 9],
-    [1, 7, 0, 0, 0, 2, 65535, 0, 0, 0],
+    [1, 7, 0, 0, 0, 2, 0, 0, 0, 0],
     [3, 3, 1, 0, 1, 8, 1, 8, 1, 23],
-    [3, 4, 3, 0, 2, 33, 1, 4, 2, 2123],
+    [3, 4, 3, 0, 2, 33, 1, 4, 2, 33],
     [3, 5, 2, 35, 1, 1, 2, 36, 1, 35],
-    [3, 0, 36, 0, 1, 1, 0, 0, 0, 0],
-    [2, 0, 7, 0, 2, 33, 2, 2123, 0, 0],
+    [3, 0, 25, 0, 1, 1, 2, 33, 0, 0],
+    [2, 0, 7, 0, 2, 33, 2, 33, 0, 0],
     [1, 0, 4, 0, 6, 0, 1, 0, 0, 0],
 ];
+
+// Eight rows, in one of which the code and then any number are drawn.
+fn table(c: Case) -> (usize, Vec<u64>) {
+    let (r, drawn) = ((c.a % 8) as usize, c.a / 8);
+    let mut rows = GOOD;
+    rows[r][2] = drawn / 64 % 38;
+    rows[r][(drawn / 4096 % 10) as usize] = c.y >> (drawn % 64);
+    (r, rows.concat())
+}
+
+// Which of the three kinds a row is usable as.
+fn kinds(t: &[u64], r: usize) -> u64 {
+    let as_kind = |kind: u64| usable(kind, t, r) as u64;
+    fold(fold(as_kind(1), as_kind(2)), as_kind(3))
+}
 
 fn tables() {
     line("is_reference", |c| names(candidate(c)).is_some() as u64);
@@ -435,58 +414,194 @@ fn tables() {
         Some(found) => found[1..].iter().fold(found[0] - 11, |sum, name| fold(sum, name - 1)),
         None => 1000,
     });
-    line("has_length and check, by length", |c| {
-        let n = if c.b % 2 == 0 { c.a % 8011 } else { c.a % 802 * 10 };
-        let zeros = vec![0; n as usize];
+    line("has_length and check by length", |c| {
+        let zeros = vec![0; (c.a % 802 * 10 + if c.a / 1024 % 24 >= 20 { 9 } else { 0 }) as usize];
         fold(length_fits(&zeros) as u64, check(&zeros))
     });
-    line("is_usable", |c| {
-        let t = four_rows(c);
-        let (kind, r) = if c.y % 8 == 0 { (1 + c.a % 3, c.b as usize % 6) } else { ([3, 1, 2, 3, 1][t[10] as usize], 1) };
-        usable(kind, &t, r) as u64
-    });
-    line("check, one row drawn", |c| check(&four_rows(c)));
+    line("check", |c| check(&table(c).1));
     line("row_at", |c| {
-        let t = four_rows(c);
-        let n = t.chunks(10).nth(c.a as usize % 4).unwrap();
-        let pair = |i: usize| fold(n[i], n[i + 1]);
-        let head = fold(pair(0), pair(2));
-        fold(fold(head, pair(4)), fold(pair(6), pair(8)))
+        let (r, t) = table(c);
+        t[10 * r + 1..10 * r + 10].iter().fold(t[10 * r], |sum, &n| fold(sum, n))
     });
-    line("check, one number changed", |c| {
-        let mut t = GOOD.concat();
-        t[c.a as usize % 80] = match c.b % 4 {
-            0 => c.c % 4,
-            1 => c.c % 38,
-            2 => form(c.c),
-            _ => pair_value(c.c % 3, c.after.0 >> 16),
-        };
-        check(&t)
+    line("is_usable", |c| {
+        let (r, t) = table(c);
+        kinds(&t, if c.a / 32768 % 8 == 7 { r + 5 } else { r })
     });
+}
+
+// ---- Blocks: a set-up and its live blocks, each an address and a size ----
+
+#[derive(Clone)]
+struct Blocks {
+    d: u64,
+    s1: u64,
+    s2: u64,
+    live: Vec<(u64, u64)>,
+}
+
+const BYTES: usize = 1030;
+const STEPS: u64 = 4000;
+
+impl Blocks {
+    fn new(d: u64, s1: u64, s2: u64) -> Blocks {
+        Blocks { d, s1, s2, live: vec![] }
+    }
+
+    // None of the words from a to before a + n is in a live block.
+    fn outside(&self, a: u64, n: u64) -> bool {
+        (a..a + n).all(|word| self.around(word).is_none())
+    }
+
+    fn around(&self, word: u64) -> Option<usize> {
+        self.live.iter().position(|&(a, n)| a <= word && word < a + n)
+    }
+
+    fn get(&mut self, n: u64) -> Answer {
+        let size = (0..8).map(|k| 1 << k).find(|&size| n > 0 && size >= n && size <= self.d).ok_or(8u64)?;
+        let runs = (self.s1..=self.s2).filter(|a| a % size == 0 && a + size - 1 <= self.s2);
+        let at = runs.into_iter().find(|&a| self.outside(a, size)).ok_or(17u64)?;
+        self.live.push((at, size));
+        Ok(at)
+    }
+
+    // Whether the word is one of the set-up words; the live block around it is one no more.
+    fn free(&mut self, word: u64) -> bool {
+        if let Some(i) = self.around(word) {
+            self.live.remove(i);
+        }
+        (self.s1..=self.s2).contains(&word)
+    }
+
+    fn size_at(&self, a: u64) -> u64 {
+        self.live.iter().find(|block| block.0 == a).map_or(0, |block| block.1)
+    }
+
+    // The map: a tag at each live block, and at each free one. A free block is as large as can be.
+    fn map(&self) -> Vec<u8> {
+        let mut map = vec![0; BYTES];
+        let tag = |size: u64| 2 * (0..).find(|&k| 1 << k == size).unwrap() as u8 + 1;
+        for &(a, size) in &self.live {
+            map[(a - self.s1) as usize] = tag(size) + 1;
+        }
+        let mut word = self.s1;
+        while word <= self.s2 {
+            if let Some(i) = self.around(word) {
+                word = self.live[i].0 + self.live[i].1;
+                continue;
+            }
+            let sizes = (0..8).rev().map(|k| 1 << k).filter(|size| *size <= self.d && word % size == 0);
+            let size = sizes.into_iter().find(|&size| self.outside(word, size)).unwrap();
+            map[(word - self.s1) as usize] = tag(size);
+            word += size;
+        }
+        map
+    }
+
+    // Whether bytes are a map: blocks one after the other, each a tag and zeros, aligned, no two free halves apart, then zeros.
+    fn keeps(&self, map: &[u8]) -> bool {
+        let words = (self.s2 - self.s1 + 1) as usize;
+        let mut free = vec![];
+        let mut at = 0;
+        while at < words {
+            let tag = map[at] as usize;
+            let size = if tag == 0 || tag > 16 { 0 } else { 1 << ((tag - 1) / 2) };
+            if size == 0 || size > self.d as usize || at % size > 0 || map[at + 1..at + size].iter().any(|&byte| byte > 0) {
+                return false;
+            }
+            if tag % 2 == 1 {
+                free.push((at, size));
+            }
+            at += size;
+        }
+        let halves = |&(at, size): &(usize, usize)| size < self.d as usize && free.contains(&(at ^ size, size));
+        map[words..].iter().all(|&byte| byte == 0) && !free.iter().any(halves)
+    }
+
+    fn operate(&mut self, operation: u64, n: u64) -> Answer {
+        match operation {
+            1 => self.get(n),
+            2 => Ok(self.free(n) as u64),
+            3 => Ok(self.size_at(n)),
+            _ => {
+                let mut map = self.map();
+                map[n as usize % BYTES] = (n as usize / BYTES % 20) as u8;
+                Ok(self.keeps(&map) as u64)
+            }
+        }
+    }
+
+    // A size or an address, small ones more often, or what damages a map.
+    fn operand(&self, operation: u64, a: u64) -> u64 {
+        match operation {
+            1 => a / 4 % (self.d + 3) >> (a % 4),
+            4 => a % 20600,
+            _ => a / 4 % (self.s2 + 3) >> (a % 4),
+        }
+    }
+
+    fn sequence(mut self) {
+        let mut g = Generator(STEPS);
+        let mut sum = 0;
+        for left in (0..STEPS).rev() {
+            let drawn = g.next();
+            let operation = 1 + (left / 256 % 2 * 4 + drawn % 8) / 3;
+            let answer = self.operate(operation, self.operand(operation, drawn / 8));
+            sum = fold(fold(sum, figure(answer)), folded(&self.map()));
+        }
+        println!("blocks, d {}, s1 {}, s2 {}: {}", self.d, self.s1, self.s2, sum / 2);
+    }
+}
+
+fn blocks() {
+    line("size_of", |c| (0..c.a % 8).fold(1, |size, _| size + size));
+    let level = |most: u64, n: u64| (0..most).find(|k| 1 << k >= n).unwrap_or(most);
+    line("level_of", |c| level(c.a % 8, c.x % 256));
+    line("top_of", |c| level(7, c.x % 65536));
+    line("words_of", |c| if c.a % 9 == 0 { 0 } else { (c.x % 65536..c.y % 65536 + 1).count() as u64 });
+    for (d, s1, s2) in [(8, 8, 23), (128, 128, 1151), (1, 1, 40), (16, 32, 95)] {
+        Blocks::new(d, s1, s2).sequence();
+    }
 }
 
 // ---- The bench cases ----
 
 fn bench() {
     let ones = value(&[true; 36]);
-    println!("32769 into bits 6-20 of all ones: o{:012o}", store(36, 6, 20, ones, 32769));
-    println!("0 - 1 into 15 bits: {}", read(36, 21, 35, store(36, 21, 35, 0, modulo(36, 0 - 1))));
-    println!("2^35 times 3: o{:012o}", modulo(36, 3 << 35));
-    println!("607 to decimal: o{:012o}", decimal(6, 607));
-    println!("1000607 to decimal: o{:012o}", decimal(6, 1000607));
-    println!("607 to decimal, zeros to blanks: o{:012o}", lead(0, BLANK, codes(6, decimal(6, 607))));
-    let eight: String = printed(8, 36, 0o60007).iter().map(|code| format!(" {code}")).collect();
-    println!("eight printed of o60007:{eight}");
-    for word in [0o606060060007, 0o000000060007] {
-        let answer = to_binary(10, 6, word).map_or("refusal 6".to_string(), |v| v.to_string());
-        println!("o{word:012o} to binary: {answer}");
+    println!("32769 into bits 6-20 of all ones, octal: {:o}", store(36, 6, 20, ones, 32769));
+    println!("0 - 1 into 15 bits, octal: {:o}", read(36, 21, 35, store(36, 21, 35, 0, modulo(36, 0 - 1))));
+    println!("2^35 times 3, octal: {:o}", modulo(36, 3 << 35));
+    println!("607 to decimal, octal: {:o}", decimal(6, 607));
+    println!("1000607 to decimal, octal: {:o}", decimal(6, 1000607));
+    println!("zeros to blanks, octal: {:o}", lead(0, BLANK, codes(6, decimal(6, 607))));
+    println!("eight printed of o60007, octal: {:o}", packed(&printed(8, 36, 0o60007)));
+    let tell = |label: &str, answer: Answer| match answer {
+        Ok(value) => println!("{label}: {value}"),
+        Err(refusal) => println!("{label}: refusal {refusal}"),
+    };
+    tell("o606060060007 to binary", to_binary(10, 6, 0o606060060007));
+    tell("o000000060007 to binary", to_binary(10, 6, 0o000000060007));
+    let fresh = Blocks::new(8, 8, 23);
+    for n in [3, 5] {
+        let mut one = fresh.clone();
+        let at = one.get(n).unwrap();
+        tell(&format!("get {n}, its size"), Ok(one.size_at(at)));
+    }
+    tell("get 9", fresh.clone().get(9));
+    let mut full = fresh.clone();
+    let found = [full.get(8).unwrap(), full.get(8).unwrap()];
+    tell("get 8, 8, 1", full.get(1));
+    for (which, at) in ["first", "second"].iter().zip(found) {
+        let mut one = full.clone();
+        one.free(at);
+        tell(&format!("get 8, 8, 1, free the {which}, get 8"), one.get(8));
     }
 }
 
 fn main() {
-    bench();
     words();
     fields();
     characters();
     tables();
+    blocks();
+    bench();
 }

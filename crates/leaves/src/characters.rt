@@ -1,6 +1,6 @@
-// Operations 24 to 31 on a generated case.
+// Operations 24 to 31 on a generated case: a number for choices, and two values.
+ghost use Prim.Native.Nat.{_+_, _≤_};
 use crate::draws;
-use crate::draws::Case;
 use character::Converted;
 use character::Packed;
 use std::num;
@@ -16,61 +16,60 @@ const BLANKS: u64 = 0o60606060606060606060;
 
 // Characters that are digits more or less often.
 fn digits(how: u64, x: u64) -> u64 {
-    match how % 3 {
+    match how {
         0 => x & ANY,
         1 => x & SIXTEEN,
         _ => x & EIGHT,
     }
 }
 
-// The characters of x, all but the last few made those of `lead`.
-fn led(few: u64, lead: u64, x: u64) -> u64 {
-    let last = num::wrapping_sub_u64(1 << (few % 11 * 6), 1);
-    (x & last) | (lead & (last ^ ANY))
+// Ten characters, of which blanks lead in half of the cases.
+fn characters(a: u64, x: u64) -> u64 {
+    let some = digits(a % 3, x);
+    if a / 64 % 2 == 0 {
+        return some;
+    }
+    let last = num::wrapping_sub_u64(1 << (a / 4 % 11 * 6), 1);
+    (some & last) | (BLANKS & (last ^ ANY))
 }
 
-// Ten characters that blanks, zeros or others lead.
-fn characters(c: Case) -> u64 {
-    let x = digits(c.c, c.x ^ c.y);
-    match c.b % 3 {
-        0 => led(c.a, BLANKS, x),
-        1 => led(c.a, 0, x),
-        _ => x,
+// Characters to binary: the number, or refusal 6.
+pub fn to_binary(base: u64, n: usize, v: u64) -> u64
+    requires { ⌜ (base ≤ 64) × (n ≤ 10) ⌝ }
+{
+    match character::to_binary(base, n, v) {
+        Converted::Value(v) => v,
+        Converted::NotADigit => draws::NO_DIGIT,
     }
 }
 
-fn holds(c: Case) -> u64 {
-    character::holds((c.a % 65) as usize) as u64
+// A value printed among bytes that are no characters.
+pub fn printed(at: usize, count: usize, width: usize, v: u64) -> [u8; 160]
+    requires { ⌜ (width ≤ 64) × (at + count ≤ 160) ⌝ }
+{
+    let mut output = [64u8; 160];
+    character::print_into(&mut output, at, count, width, v);
+    output
 }
 
-fn from_binary_octal(c: Case) -> u64 {
-    character::from_binary_octal((c.a % 11) as usize, c.x)
-}
-
-fn from_binary_decimal(c: Case) -> u64 {
-    character::from_binary_decimal((c.a % 10) as usize, c.x)
-}
-
-fn to_binary(c: Case) -> u64 {
-    let base = 8 + c.y % 2 * 2;
-    let v = characters(c);
-    match character::to_binary(base, (c.a % 11) as usize, v) {
-        Converted::Value(v) => draws::fold(1, v),
-        Converted::NotADigit => 0,
+// Input packed: the characters, or refusal 4.
+pub fn pack_input(input: &[u8; 160], from: usize, n: usize) -> u64
+    requires { ⌜ (from ≤ 150) × (n ≤ 10) ⌝ }
+{
+    match character::pack_input(input, from, n) {
+        Packed::Value(v) => v,
+        Packed::TooLarge => draws::NO_CHARACTER,
     }
 }
 
-fn blanks_to_zeros(c: Case) -> u64 {
-    character::blanks_to_zeros((c.y % 11) as usize, (c.x % 65) as usize, characters(c))
-}
-
-fn zeros_to_blanks(c: Case) -> u64 {
-    character::zeros_to_blanks((c.y % 11) as usize, characters(c))
+// A byte as a number.
+pub fn wide(byte: u8) -> u64 {
+    byte as u64
 }
 
 // The bytes of a slice folded.
-fn bytes(s: &[u8]) -> u64 {
-    let mut sum = 0;
+pub fn bytes(s: &[u8]) -> u64 {
+    let mut sum = 1;
     let mut i = 0;
     while i < s.len() {
         sum = draws::fold(sum, wide(s[i]));
@@ -79,52 +78,32 @@ fn bytes(s: &[u8]) -> u64 {
     sum
 }
 
-pub fn wide(byte: u8) -> u64 {
-    byte as u64
-}
-
-fn print_into(c: Case) -> u64 {
-    let mut output = [63u8; 160];
-    let at = (c.a % 41) as usize;
-    let count = (c.b % 121) as usize;
-    let width = (c.c % 65) as usize;
-    character::print_into(&mut output, at, count, width, c.x ^ c.y);
-    bytes(&output)
-}
-
-// An input byte, seldom above 63.
-fn byte(x: u64, places: u64) -> u8 {
-    ((x >> (places % 64)) % 66) as u8
-}
-
-// Twelve input bytes, six of them drawn.
-fn input(x: u64) -> [u8; 12] {
-    let p = byte(x, 0);
-    let q = byte(x, 5);
-    let r = byte(x, 10);
-    let s = byte(x, 15);
-    let t = byte(x, 20);
-    let u = byte(x, 25);
-    [p, q, r, s, t, u, u, q, p, t, s, r]
-}
-
-fn pack_input(c: Case) -> u64 {
-    let taken = input(c.x ^ c.y);
-    match character::pack_input(&taken, (c.a % 3) as usize, (c.b % 11) as usize) {
-        Packed::Value(v) => draws::fold(1, v),
-        Packed::TooLarge => 0,
+// Output and input: a value printed, and a part of that packed again.
+fn stream_result(which: u64, a: u64, v: u64, y: u64) -> u64 {
+    let output = printed(
+        (a % 41) as usize,
+        (a / 64 % 121) as usize,
+        (a / 8192 % 65) as usize,
+        v,
+    );
+    if which == 29 {
+        return bytes(&output);
     }
+    pack_input(&output, (y % 151) as usize, (a / 128 % 11) as usize)
 }
 
-pub fn result(which: u64, c: Case) -> u64 {
+// What function number `which` gives on a case.
+pub fn result(which: u64, a: u64, x: u64, y: u64) -> u64 {
+    let n = (a / 128 % 11) as usize;
+    let v = characters(a, x ^ y);
     match which {
-        23 => holds(c),
-        24 => from_binary_octal(c),
-        25 => from_binary_decimal(c),
-        26 => to_binary(c),
-        27 => blanks_to_zeros(c),
-        28 => zeros_to_blanks(c),
-        29 => print_into(c),
-        _ => pack_input(c),
+        22 => character::holds((a % 65) as usize) as u64,
+        23 => character::from_binary_octal(n, x),
+        24 => character::from_binary_decimal(n % 10, x),
+        25 => to_binary(8, n, v),
+        26 => to_binary(10, n, v),
+        27 => character::blanks_to_zeros(n, (a / 2048 % 65) as usize, v),
+        28 => character::zeros_to_blanks(n, v),
+        _ => stream_result(which, a, v, y),
     }
 }

@@ -16,8 +16,20 @@ loop-holds c = search needs
 sub-left : tie.Need-sub-left Inv-loop μ-loop
 sub-left c = search needs
 
-draw-requires : tie.Need-draw-requires Inv-loop μ-loop
-draw-requires c κs = search needs
+next-requires : tie.Need-next-requires Inv-loop μ-loop
+next-requires c κs = search needs
+
+next-requires-2 : tie.Need-next-requires-2 Inv-loop μ-loop
+next-requires-2 c κs = search needs
+
+next-requires-3 : tie.Need-next-requires-3 Inv-loop μ-loop
+next-requires-3 c κs = search needs
+
+spread-requires : tie.Need-spread-requires Inv-loop μ-loop
+spread-requires c κs = search needs
+
+spread-requires-2 : tie.Need-spread-requires-2 Inv-loop μ-loop
+spread-requires-2 c κs = search needs
 
 result-requires : tie.Need-result-requires Inv-loop μ-loop
 result-requires c κs = search needs
@@ -42,7 +54,11 @@ checksum-spec =
     μ-loop
     loop-holds
     sub-left
-    draw-requires
+    next-requires
+    next-requires-2
+    next-requires-3
+    spread-requires
+    spread-requires-2
     result-requires
     fold-requires
     loop-less

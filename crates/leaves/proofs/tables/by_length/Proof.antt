@@ -6,8 +6,14 @@ use borrow.Author.Needs.{needs}
 use Rattle.leaves.proofs.tables.by_length.Statement.{statement}
 use Rattle.leaves.proofs.tables.by_length.Tie as tie
 
-length-requires : tie.Need-length-requires
-length-requires c κs = search needs
+mul-n : tie.Need-mul-n
+mul-n c = search needs
+
+mul-n-2 : tie.Need-mul-n-2
+mul-n-2 c = search needs
+
+add-n : tie.Need-add-n
+add-n c = search needs
 
 array-share-prefix-zeros : tie.Need-array-share-prefix-zeros
 array-share-prefix-zeros c = search needs
@@ -34,7 +40,9 @@ pub by-length-spec : {M : Type 1} → statement M
 by-length-spec =
     tie.close
     (tie.spec
-    length-requires
+    mul-n
+    mul-n-2
+    add-n
     array-share-prefix-zeros
     slice-aggregate-part
     has-length-requires

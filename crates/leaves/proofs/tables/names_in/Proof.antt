@@ -4,9 +4,6 @@ use borrow.Author.Needs.{needs}
 use Rattle.leaves.proofs.tables.names_in.Statement.{statement}
 use Rattle.leaves.proofs.tables.names_in.Tie as tie
 
-candidate-requires : tie.Need-candidate-requires
-candidate-requires c κs = search needs
-
 is-reference-requires : tie.Need-is-reference-requires
 is-reference-requires c κs = search needs
 
@@ -25,10 +22,4 @@ returns-2 c = search needs
 pub names-in-spec : {M : Type 1} → statement M
 names-in-spec =
     tie.close
-    (tie.spec
-    candidate-requires
-    is-reference-requires
-    names-in-requires
-    taken-apart-requires
-    returns
-    returns-2)
+    (tie.spec is-reference-requires names-in-requires taken-apart-requires returns returns-2)

@@ -1,0 +1,25 @@
+-- `leaves::blocks::setup_of` meets its contract: each set-up fits, by computing. Assumes nothing.
+use Rattle.buddy.specs.Blocks.{size, level}
+use Rattle.buddy.specs.SetUp.{top, words}
+use borrow.Author.Needs.{needs}
+use Rattle.leaves.proofs.blocks.setup_of.Statement.{statement}
+use Rattle.leaves.proofs.blocks.setup_of.Tie as tie
+
+returns : tie.Need-returns
+unfolding words size top level
+returns c = search needs
+
+returns-2 : tie.Need-returns-2
+unfolding words size top level
+returns-2 c = search needs
+
+returns-3 : tie.Need-returns-3
+unfolding words size top level
+returns-3 c = search needs
+
+returns-4 : tie.Need-returns-4
+unfolding words size top level
+returns-4 c = search needs
+
+pub setup-of-spec : {M : Type 1} → statement M
+setup-of-spec = tie.close (tie.spec returns returns-2 returns-3 returns-4)

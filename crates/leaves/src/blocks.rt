@@ -1,0 +1,197 @@
+// The block allocator on generated cases and on sequences of operations.
+ghost use mathlib.Core.Path.{_≡_};
+ghost use mathlib.Core.Bool.{true};
+ghost use Prim.Native.Nat.{_%_, _≤_, _<_};
+ghost use lib.ListN.{length};
+ghost use Rattle.buddy.specs.Blocks.{size};
+ghost use Rattle.buddy.specs.Map.{keeps};
+ghost use Rattle.buddy.specs.SetUp.{top, words};
+use crate::characters;
+use crate::draws;
+use buddy::SetUp;
+use buddy::section;
+use buddy::sizes;
+use buddy::Found;
+use std::num;
+
+// The bytes of a map: a few more than the words of the largest set-up.
+const BYTES: usize = 1030;
+
+// The operations of a sequence.
+const STEPS: u64 = 4000;
+
+// The set-ups tried, the first one that of the bench cases.
+pub fn setup_of(which: u64) -> SetUp
+    ensures { λ r. ⌜ (words r % size (top (r .d)) ≡ 0) × (words r ≤ 1030) ⌝ }
+{
+    match which {
+        0 => SetUp {
+            d: 8,
+            s1: 8,
+            s2: 23,
+        },
+        1 => SetUp {
+            d: 128,
+            s1: 128,
+            s2: 1151,
+        },
+        2 => SetUp {
+            d: 1,
+            s1: 1,
+            s2: 40,
+        },
+        _ => SetUp {
+            d: 16,
+            s1: 32,
+            s2: 95,
+        },
+    }
+}
+
+// A fresh map: free blocks of the largest size.
+pub fn fresh(setup: SetUp) -> [u8; BYTES]
+    requires { ⌜ words setup ≤ 1030 ⌝ }
+{
+    let mut map = [0u8; BYTES];
+    let k = sizes::top_of(setup.d);
+    let n = sizes::size_of(k);
+    let end = section::words_of(setup);
+    let mut i = 0;
+    while i < end {
+        map[i] = k + k + 1;
+        i += n;
+    }
+    map
+}
+
+// Get: the address of a block of n words or more, refusal 8 or 17.
+fn get(setup: SetUp, map: &mut [u8], n: u64) -> u64
+    requires { ⌜ (words setup % size (top (setup .d)) ≡ 0) × (keeps setup (now map) ≡ true) ⌝ }
+{
+    if (setup.d as u64) <= num::wrapping_sub_u64(n, 1) {
+        return draws::BAD_SIZE;
+    }
+    let j = sizes::level_of(sizes::top_of(setup.d), n);
+    let found = section::lowest_run(setup, map, j);
+    let Found::At(a) = found else {
+        return draws::NO_RUN;
+    };
+    section::deliver(setup, map, j, a);
+    a as u64
+}
+
+// Free: the block around an address, if that is one of the set-up words', for 1; otherwise 0.
+fn free(setup: SetUp, map: &mut [u8], address: usize) -> u64
+    requires { ⌜ (words setup % size (top (setup .d)) ≡ 0) × (keeps setup (now map) ≡ true) ⌝ }
+{
+    let first = setup.s1 as usize;
+    if address < first {
+        return 0;
+    }
+    if section::words_of(setup) <= address - first {
+        return 0;
+    }
+    section::free_block(setup, map, address);
+    1
+}
+
+// Whether the map still keeps its section with one byte changed; the byte is put back.
+fn damaged(setup: SetUp, map: &mut [u8], at: usize, byte: u8) -> u64
+    requires { ⌜ (words setup % size (top (setup .d)) ≡ 0) × (words setup ≤ length (now map)) × (at < length (now map)) ⌝ }
+{
+    let old = map[at];
+    map[at] = byte;
+    let kept = section::keeps_section(setup, map);
+    map[at] = old;
+    kept as u64
+}
+
+// An operation on a map that keeps its section: 1 get, 2 free, 3 the live size, 4 whether a damaged map keeps its section.
+fn done(setup: SetUp, map: &mut [u8], operation: u64, n: u64) -> u64
+    requires { ⌜ (words setup % size (top (setup .d)) ≡ 0) × (keeps setup (now map) ≡ true) × (words setup ≤ length (now map)) × (1030 ≤ length (now map)) ⌝ }
+{
+    match operation {
+        1 => get(setup, map, n),
+        2 => free(setup, map, n as usize),
+        3 => section::live_size(setup, map, n),
+        _ => damaged(setup, map, (n % 1030) as usize, (n / 1030 % 20) as u8),
+    }
+}
+
+// An operation on a map of a set-up, refusal 11 if the map does not keep its section.
+fn operate(which: u64, map: &mut [u8; BYTES], operation: u64, n: u64) -> u64 {
+    let setup = setup_of(which);
+    if section::keeps_section(setup, map) {
+        return done(setup, map, operation, n);
+    }
+    draws::UNSOUND
+}
+
+// The last answer of operations on a fresh map of the first set-up. Each is two hexadecimal digits, the last two first:
+// the operation, and the size or an eighth of the address.
+pub fn script(steps: u64) -> u64 {
+    let mut map = fresh(setup_of(0));
+    let mut last = 0;
+    let mut left = steps;
+    while left > 0 {
+        let operation = left / 16 % 16;
+        let n = if operation == 1 {
+            left % 16
+        } else {
+            left % 16 * 8
+        };
+        last = operate(0, &mut map, operation, n);
+        left /= 256;
+    }
+    last
+}
+
+// A size that a get may ask for, or else an address, small ones more often; or what damages a map.
+fn operand(setup: SetUp, operation: u64, a: u64) -> u64 {
+    match operation {
+        1 => (a / 4 % (setup.d as u64 + 3)) >> (a % 4),
+        4 => a % 20600,
+        _ => (a / 4 % (setup.s2 as u64 + 3)) >> (a % 4),
+    }
+}
+
+// The bytes of a map folded.
+fn folded(map: &[u8; BYTES]) -> u64 {
+    characters::bytes(map)
+}
+
+// The checksum of a sequence from a fresh map, of answers and bytes: by turns the operations are mostly gets and seldom gets.
+pub fn sequence(which: u64) -> u64 {
+    let mut map = fresh(setup_of(which));
+    let mut left = STEPS;
+    let mut state = STEPS;
+    let mut sum = 0;
+    while left > 0 {
+        left -= 1;
+        state = draws::next(state);
+        let operation = 1 + (left / 256 % 2 * 4 + state % 8) / 3;
+        let n = operand(setup_of(which), operation, state / 8);
+        sum = draws::fold(sum, operate(which, &mut map, operation, n));
+        sum = draws::fold(sum, folded(&map));
+    }
+    sum
+}
+
+// Any numbers for a set-up, its largest size seldom zero.
+fn drawn_setup(a: u64, x: u64, y: u64) -> SetUp {
+    SetUp {
+        d: (a % 9) as u16,
+        s1: (x % 65536) as u16,
+        s2: (y % 65536) as u16,
+    }
+}
+
+// What function number `which` gives on a case.
+pub fn result(which: u64, a: u64, x: u64, y: u64) -> u64 {
+    match which {
+        37 => sizes::size_of((a % 8) as u8) as u64,
+        38 => sizes::level_of((a % 8) as u8, x % 256) as u64,
+        39 => sizes::top_of((x % 65536) as u16) as u64,
+        _ => section::words_of(drawn_setup(a, x, y)) as u64,
+    }
+}
