@@ -1,14 +1,13 @@
 -- What the map says at an address of the set-up words: the size of a live block there, and the map when the tree around it is changed.
 -- Assumes nothing.
-use mathlib.Core.Path.{_≡_, refl, sym, ap, ap₂, subst, _∙_}
+use mathlib.Core.Path.{_≡_, sym, ap, ap₂, subst, _∙_}
 use mathlib.Core.Bool.{true}
-use mathlib.Core.List.{List, [], _∷_, _++_}
-use Prim.Native.Nat.{ℕ, zero, suc, _+_, _-_, _*_, _/_, _%_, _≤_, _<_}
+use mathlib.Core.List.{List, _++_}
+use Prim.Native.Nat.{ℕ, suc, _+_, _-_, _*_, _/_, _%_, _≤_, _<_}
 use native.Mathlib.Nat.{div-add-mod', mod-lt, div-lt-iff-lt-mul, mul-le-mul-right}
 use native.Mathlib.Omega.{arith}
 use lib.ListN.{length, getD, take, drop, replicate}
 use Rattle.buddy.specs.declared.SetUp.{SetUp}
-use Rattle.buddy.specs.declared.Found.{Found}
 use Rattle.buddy.specs.declared.Found.the-variants.{At}
 use Rattle.buddy.specs.Blocks.{size, Tree, changed, freed, delivered, sizeAt}
 use Rattle.buddy.specs.SetUp.{top, words}

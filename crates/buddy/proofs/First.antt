@@ -3,13 +3,12 @@ use mathlib.Core.Path.{_≡_, refl, sym, ap, ap₂, _∙_}
 use mathlib.Core.Bool.{Bool, true, false, not, _&&_, _||_, cond}
 use mathlib.Core.List.{List, [], _∷_, _++_}
 use mathlib.Core.Logic.{inl, inr}
-use Prim.Native.Nat.{ℕ, zero, suc, _+_, _-_, _*_, _/_, _%_, _≤_, _<_}
+use Prim.Native.Nat.{ℕ, zero, suc, _+_, _-_, _*_, _%_, _≤_, _<_}
 use native.Mathlib.Nat.{le-refl, eq-of-mul-eq-mul-right, div-eq-of-eq-mul-left, mul-assoc}
 use native.Mathlib.Omega.{arith}
 use lib.Dec.{leb}
 use lib.ListN.{length}
-use borrow.Author.Tests.{le-leb, lt-leb}
-use Rattle.buddy.specs.declared.Found.{Found}
+use borrow.Author.Tests.{lt-leb}
 use Rattle.buddy.specs.declared.Found.the-variants.{At, Nothing}
 use Rattle.buddy.specs.Blocks.{size, Block, Tree, Free, Live, Halves, liveIn, gathered, outside, runsFrom}
 use Rattle.buddy.specs.Map.{isFree, canonical, allCanonical, trees, live, keeps}
@@ -19,10 +18,10 @@ use Rattle.buddy.specs.Lowest.{firstOf, orElse, lowestIn, lowestOf}
 use Rattle.word.proofs.Tests.{and-true, and-false, by-leb, by-test}
 use Rattle.buddy.proofs.Size.{size-pos, size-suc, size-divides}
 use Rattle.buddy.proofs.Map.{canonical-halves, keeps-parts, trees-fill}
-use Rattle.buddy.proofs.Each.{Each, each-nil, each-cons, each-append, each-map}
+use Rattle.buddy.proofs.Each.{Each, each-map}
 use Rattle.buddy.proofs.Runs.{each-outside}
 use Rattle.buddy.proofs.Part.{and-assoc}
-use Rattle.buddy.proofs.Within.{Within, within-wider, live-within, all-within}
+use Rattle.buddy.proofs.Within.{Within, live-within, all-within}
 
 -- the first of two lists
 first-append : (xs ys : List ℕ) → firstOf (xs ++ ys) ≡ orElse (firstOf xs) (firstOf ys)

@@ -5,8 +5,6 @@ use mathlib.Core.List.{List, [], _∷_}
 use Prim.Native.Nat.{ℕ, zero, suc, _+_, _%_, _≤_, _<_}
 use native.Mathlib.Nat.{le-suc, add-mod-right}
 use native.Mathlib.Omega.{arith}
-use lib.Dec.{leb}
-use borrow.Author.Tests.{lt-leb}
 use Rattle.buddy.specs.declared.SetUp.{SetUp}
 use Rattle.buddy.specs.declared.Found.{Found}
 use Rattle.buddy.specs.declared.Found.the-variants.{At, Nothing}
@@ -14,7 +12,7 @@ use Rattle.buddy.specs.Blocks.{size, Block, Tree, Free, Live, Halves, fr
 use Rattle.buddy.specs.SetUp.{top, fitting, runs}
 use Rattle.buddy.specs.Map.{trees, keeps, live, free}
 use Rattle.buddy.specs.Lowest.{firstOf, orElse, lowestIn, lowestOf}
-use Rattle.word.proofs.Tests.{by-leb, either-way}
+use Rattle.word.proofs.Tests.{by-leb}
 use Rattle.buddy.proofs.Size.{size-suc, size-pos, size-mono, aligned-smaller, fitting-facts}
 use Rattle.buddy.proofs.Change.{words-whole}
 use Rattle.buddy.proofs.Each.{Each, each-nil, each-cons, each-append, each-parts, each-map}

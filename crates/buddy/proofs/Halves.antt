@@ -1,17 +1,17 @@
 -- Blocks and their halves as the code meets them: the size before, half of a length, and a list as its two halves. Assumes nothing.
 use mathlib.Core.Path.{_≡_, refl, sym, ap, subst, _∙_}
 use mathlib.Core.Bool.{cond}
-use mathlib.Core.List.{List, [], _∷_, _++_, append-nil}
+use mathlib.Core.List.{List, [], _++_, append-nil}
 use Prim.Native.Nat.{ℕ, zero, suc, _+_, _-_, _*_, _/_, _≤_, _<_}
 use native.Mathlib.Numerals.{sub-one}
 use native.Mathlib.Omega.{arith}
 use borrow.Author.Tests.{le-leb, lt-leb}
 use lib.Dec.{ltb}
-use lib.ListN.{length, take, drop, length-take, length-drop, drop-of-length-le}
+use lib.ListN.{length, take, drop, length-drop, drop-of-length-le}
 use lib.Seq.{take-all, length-take-le}
 use Rattle.buddy.specs.Blocks.{size, level}
 use Rattle.word.proofs.Tests.{by-leb}
-use Rattle.buddy.proofs.Size.{size-zero, size-suc, size-pos, size-mono}
+use Rattle.buddy.proofs.Size.{size-zero, size-suc, size-mono}
 
 -- the sizes up to the seventh are small
 pub size-small : (k : ℕ) → k ≤ 7 → size k ≤ 128

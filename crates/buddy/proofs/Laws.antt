@@ -1,10 +1,10 @@
 -- What a reader expects of an allocator, besides tiling and runs: freeing what was delivered gives the map back, and the live blocks
 -- determine the free ones. Assumes nothing.
-use mathlib.Core.Path.{_≡_, refl, sym, ap, _∙_}
-use mathlib.Core.Bool.{Bool, true, false, not, _&&_, cond, false≢true}
+use mathlib.Core.Path.{_≡_, refl, sym, _∙_}
+use mathlib.Core.Bool.{true, false, not, _&&_, cond, false≢true}
 use mathlib.Core.List.{List, [], _∷_, _++_, List·Memᴰ·head}
 use mathlib.Core.Logic.{⊎-elim}
-use Prim.Native.Nat.{ℕ, zero, suc, _+_, _*_, _%_, _≤_, _<_}
+use Prim.Native.Nat.{ℕ, zero, suc, _+_, _%_, _≤_, _<_}
 use native.Mathlib.Nat.{le-suc, add-mod-right}
 use native.Mathlib.Omega.{arith}
 use lib.Dec.{leb, ltb}
@@ -12,13 +12,13 @@ use lib.ListN.{length}
 use borrow.Author.Tests.{lt-ltb, le-ltb}
 use Rattle.buddy.specs.declared.SetUp.{SetUp}
 use Rattle.buddy.specs.Blocks.{size, Block, Tree, Free, Live, Halves, joined, liveIn, freed, delivered, gathered, changed, outside}
-use Rattle.buddy.specs.SetUp.{top, words, fitting}
-use Rattle.buddy.specs.Map.{isFree, canonical, allCanonical, trees, mapOf, keeps, live, free, freedMap, deliveredMap}
+use Rattle.buddy.specs.SetUp.{top, fitting}
+use Rattle.buddy.specs.Map.{isFree, canonical, allCanonical, trees, keeps, live, freedMap, deliveredMap}
 use Rattle.word.proofs.Tests.{and-true, either-way, by-leb}
 use Rattle.buddy.proofs.Size.{size-suc, size-pos, size-mono, aligned-smaller, fitting-facts}
 use Rattle.buddy.proofs.Map.{canonical-halves, keeps-parts, length-trees}
-use Rattle.buddy.proofs.Change.{words-whole, keeps-delivered}
-use Rattle.buddy.proofs.Runs.{Apart, outside-each, each-outside}
+use Rattle.buddy.proofs.Change.{keeps-delivered}
+use Rattle.buddy.proofs.Runs.{Apart, outside-each}
 use Rattle.buddy.proofs.Each.{Each, each-nil, each-cons, each-map, each-mem, each-parts}
 use Rattle.buddy.proofs.Tiling.{InOrder, lies-pos, order-append, order-each, tree-order, forest-order}
 

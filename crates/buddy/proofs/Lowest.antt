@@ -1,7 +1,7 @@
 -- The start of the first free block that is large enough, as the code finds it: by the first byte and the halves. Assumes nothing.
-use mathlib.Core.Path.{_≡_, refl, sym, ap, ap₂, _∙_}
-use mathlib.Core.Bool.{true, cond}
-use mathlib.Core.List.{List, [], _∷_}
+use mathlib.Core.Path.{_≡_, refl, sym, ap, _∙_}
+use mathlib.Core.Bool.{true}
+use mathlib.Core.List.{List}
 use Prim.Native.Nat.{ℕ, zero, suc, _+_, _-_, _/_, _≤_, _<_}
 use native.Mathlib.Omega.{arith}
 use lib.ListN.{length, getD, take, drop}
@@ -12,7 +12,7 @@ use Rattle.buddy.specs.Blocks.{size, Tree, Free, Live, Halves}
 use Rattle.buddy.specs.Map.{freeTag, liveTag, written, canonical}
 use Rattle.buddy.specs.Lowest.{orElse, lowestIn}
 use Rattle.buddy.proofs.Halves.{one-less, upper}
-use Rattle.buddy.proofs.Tags.{first-free, first-live, halves-first, Halved, halved-tree}
+use Rattle.buddy.proofs.Tags.{first-free, first-live, halved-tree}
 
 module _ (j k at : ℕ) (l : List ℕ) (t : Tree) (w : l ≡ written k t) where
   -- a free block

@@ -1,18 +1,17 @@
 -- What the bytes of a block tell, by its first byte and its halves. Assumes nothing.
-use mathlib.Core.Path.{_≡_, refl, sym, ap, ap₂, _∙_}
+use mathlib.Core.Path.{_≡_, refl, sym, ap, _∙_}
 use mathlib.Core.Bool.{Bool, true, false, not, _&&_, cond}
 use mathlib.Core.List.{List, [], _∷_, _++_}
-use Prim.Native.Nat.{ℕ, zero, suc, _+_, _-_, _/_, _≤_, _<_}
+use Prim.Native.Nat.{ℕ, zero, suc, _+_, _-_, _/_, _<_}
 use native.Mathlib.Omega.{arith}
 use lib.Dec.{eqb}
-use lib.ListN.{length, getD, take, drop, replicate, length-take}
+use lib.ListN.{length, getD, take, drop, replicate}
 use borrow.Author.Tests.{eq-eqb, ne-eqb}
-use Rattle.buddy.specs.declared.tree.Part.{Part}
 use Rattle.buddy.specs.declared.tree.Part.the-variants as tells
-use Rattle.buddy.specs.Blocks.{size, Tree, Free, Live, Halves}
+use Rattle.buddy.specs.Blocks.{size, Tree, Free, Live}
 use Rattle.buddy.specs.Map.{freeTag, liveTag, written, told, isFree, canonical, same}
 use Rattle.buddy.specs.Part.{part, both, leaf}
-use Rattle.buddy.proofs.Size.{size-pos, size-suc}
+use Rattle.buddy.proofs.Size.{size-pos}
 use Rattle.buddy.proofs.Map.{told-step, halved, length-written}
 use Rattle.buddy.proofs.Halves.{one-less, half-size, upper}
 

@@ -1,24 +1,20 @@
 -- One tree of a map at its place: its bytes are a part of the map, and the map with other bytes there is that of the changed trees. Assumes nothing.
-use mathlib.Core.Path.{_≡_, refl, sym, ap, ap₂, subst, _∙_}
+use mathlib.Core.Path.{_≡_, sym, ap, ap₂, subst, _∙_}
 use mathlib.Core.Bool.{true}
 use mathlib.Core.Logic.{⊎-elim}
 use mathlib.Core.List.{List, [], _∷_, _++_, append-assoc}
-use Prim.Native.Nat.{ℕ, zero, suc, _+_, _-_, _*_, _/_, _%_, _≤_, _<_}
+use Prim.Native.Nat.{ℕ, zero, suc, _+_, _-_, _*_, _≤_, _<_}
 use native.Mathlib.Omega.{arith}
-use lib.ListN.{length, take, drop, replicate}
+use lib.ListN.{length, take, drop}
 use lib.Seq.{take-at, drop-at, drop-drop, take-add}
 use borrow.Author.Tests.{lt-ltb, le-ltb}
-use Rattle.buddy.specs.declared.SetUp.{SetUp}
-use Rattle.buddy.specs.declared.Found.{Found}
-use Rattle.buddy.specs.declared.Found.the-variants.{At, Nothing}
-use Rattle.buddy.specs.Blocks.{size, Tree, Free, Live, Halves, changed}
-use Rattle.buddy.specs.SetUp.{top, words}
-use Rattle.buddy.specs.Map.{written, canonical, allWritten, allCanonical, trees, mapOf, keeps}
-use Rattle.buddy.specs.Lowest.{orElse, lowestIn, lowestOf}
+use Rattle.buddy.specs.declared.Found.the-variants.{At}
+use Rattle.buddy.specs.Blocks.{size, Tree, changed}
+use Rattle.buddy.specs.Map.{written, canonical, allWritten, allCanonical}
+use Rattle.buddy.specs.Lowest.{lowestIn, lowestOf}
 use Rattle.word.proofs.Tests.{and-true}
-use Rattle.buddy.proofs.Size.{size-pos}
 use Rattle.buddy.proofs.Delivered.{found-where, lowest-bound, lowestOf-bound}
-use Rattle.buddy.proofs.Map.{length-written, keeps-parts, trees-fill}
+use Rattle.buddy.proofs.Map.{length-written}
 
 -- the tree at the q-th place of trees whose map is m
 pub record Placed (k q : ℕ) (ts : List Tree) (m rest : List ℕ) : Type 0 where

@@ -1,11 +1,11 @@
 -- What the code writes into the bytes of a block: a free block halved, a live one freed, two free halves rejoined. Assumes nothing.
-use mathlib.Core.Path.{_≡_, refl, sym, ap, ap₂, subst, _∙_}
-use mathlib.Core.Bool.{Bool, true, false, _&&_, cond}
-use mathlib.Core.List.{List, [], _∷_, _++_}
+use mathlib.Core.Path.{_≡_, refl, sym, ap, ap₂, _∙_}
+use mathlib.Core.Bool.{true, cond}
+use mathlib.Core.List.{List, _∷_, _++_}
 use Prim.Native.Nat.{ℕ, zero, suc, _+_, _-_, _/_, _≤_, _<_}
 use native.Mathlib.Omega.{arith}
-use lib.Dec.{eqb, ltb, leb}
-use lib.ListN.{length, getD, take, drop, set, replicate, length-take, length-drop, length-append, length-replicate, replicate-append-replicate}
+use lib.Dec.{ltb}
+use lib.ListN.{length, getD, take, drop, set, replicate, length-replicate, replicate-append-replicate}
 use lib.Seq.{take-at, drop-at, set-at, getD-append-add}
 use borrow.Author.Tests.{lt-ltb, le-ltb, le-leb, lt-leb}
 use Rattle.buddy.specs.Blocks.{size, Tree, Free, Live, Halves, joined, freed, delivered}

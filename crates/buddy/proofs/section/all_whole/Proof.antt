@@ -9,11 +9,6 @@ use Rattle.buddy.proofs.Halves.{times-pred, part-length}
 use Rattle.buddy.proofs.Keeping.{whole-next, whole-end}
 use Rattle.buddy.proofs.section.all_whole.Statement.{statement}
 use Rattle.buddy.proofs.section.all_whole.Tie as tie
-use Rattle.buddy.proofs.section.all_whole.Reads as reads
-use Rattle.buddy.proofs.section.all_whole.Lts as lts
-use Rattle.buddy.proofs.section.is_whole.Reads as is-whole-reads
-use Rattle.buddy.proofs.sizes.size_of.Reads as size-of-reads
-use Rattle.buddy.proofs.tree.check.Reads as check-reads
 
 abbrev Inv-loop : tie.InvT-loop
 Inv-loop k count map n i₀ left₀ i left = (i + left * n ≤ length map) × (allWhole k count map ≡ allWhole k left (drop i map))

@@ -1,20 +1,14 @@
 -- `deliver` delivers in the tree around the lowest run. Assumes nothing.
-use mathlib.Core.Path.{_≡_, ap, _∙_}
-use Prim.Native.Nat.{ℕ, _+_, _-_, _*_, _/_, _%_, _≤_, _<_}
+use mathlib.Core.Path.{_∙_}
+use Prim.Native.Nat.{_-_, _*_, _/_}
 use native.Mathlib.Nat.{div-add-mod', mod-lt}
 use native.Mathlib.Omega.{arith}
-use lib.ListN.{length}
 use Rattle.buddy.proofs.Halves.{part-length}
 use Rattle.buddy.proofs.Size.{size-pos}
 use Rattle.buddy.proofs.Address.{top-le, tree-fits, delivers-map}
 use borrow.Author.Needs.{needs}
 use Rattle.buddy.proofs.section.deliver.Statement.{statement}
 use Rattle.buddy.proofs.section.deliver.Tie as tie
-use Rattle.buddy.proofs.section.deliver.Reads as reads
-use Rattle.buddy.proofs.section.deliver.Lts as lts
-use Rattle.buddy.proofs.sizes.size_of.Reads as size-of-reads
-use Rattle.buddy.proofs.sizes.top_of.Reads as top-of-reads
-use Rattle.buddy.proofs.tree.deliver_at.Reads as deliver-at-reads
 
 top-of-requires : tie.Need-top-of-requires
 top-of-requires c κs = search needs

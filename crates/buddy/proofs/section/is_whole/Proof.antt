@@ -3,8 +3,6 @@ use Rattle.buddy.specs.Part.{whole}
 use borrow.Author.Needs.{needs}
 use Rattle.buddy.proofs.section.is_whole.Statement.{statement}
 use Rattle.buddy.proofs.section.is_whole.Tie as tie
-use Rattle.buddy.proofs.section.is_whole.Reads as reads
-use Rattle.buddy.proofs.section.is_whole.Lts as lts
 
 enum-told : tie.Need-enum-told
 enum-told c = search needs

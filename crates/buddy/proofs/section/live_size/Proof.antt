@@ -6,10 +6,6 @@ use Rattle.buddy.proofs.Address.{live-below, live-above, live-tag}
 use borrow.Author.Needs.{needs}
 use Rattle.buddy.proofs.section.live_size.Statement.{statement}
 use Rattle.buddy.proofs.section.live_size.Tie as tie
-use Rattle.buddy.proofs.section.live_size.Reads as reads
-use Rattle.buddy.proofs.section.live_size.Lts as lts
-use Rattle.buddy.proofs.section.tag_size.Reads as tag-size-reads
-use Rattle.buddy.proofs.section.words_of.Reads as words-of-reads
 
 cast-first : tie.Need-cast-first
 cast-first c = search needs

@@ -1,10 +1,10 @@
 -- `lowest_of` looks through one tree after the other. The loop's invariant: the answer is that of the trees that are left. Assumes nothing.
 use borrow.Author.Needs.{needs}
-use mathlib.Core.Path.{_≡_, refl, sym, ap, _∙_}
+use mathlib.Core.Path.{_≡_, sym, ap, _∙_}
 use mathlib.Core.Bool.{true}
-use Prim.Native.Nat.{ℕ, _+_, _-_, _*_, _≤_}
+use Prim.Native.Nat.{ℕ, _+_, _-_, _*_}
 use native.Mathlib.Omega.{arith}
-use lib.ListN.{length, drop}
+use lib.ListN.{drop}
 use Rattle.buddy.specs.declared.Found.{Found}
 use Rattle.buddy.specs.Map.{allTold}
 use Rattle.buddy.specs.Part.{allWhole}
@@ -13,10 +13,6 @@ use Rattle.buddy.proofs.Halves.{times-pred, part-length}
 use Rattle.buddy.proofs.Keeping.{whole-rest, found-next, lowest-end}
 use Rattle.buddy.proofs.section.lowest_of.Statement.{statement}
 use Rattle.buddy.proofs.section.lowest_of.Tie as tie
-use Rattle.buddy.proofs.section.lowest_of.Reads as reads
-use Rattle.buddy.proofs.section.lowest_of.Lts as lts
-use Rattle.buddy.proofs.sizes.size_of.Reads as size-of-reads
-use Rattle.buddy.proofs.tree.lowest.Reads as lowest-reads
 
 abbrev Inv-loop : tie.InvT-loop
 Inv-loop k j at count map n i₀ left₀ i left = (i + left * n ≡ count * n) × (allWhole k left (drop i map) ≡ true) × (lowestOf j k at (allTold k count map) ≡ lowestOf j k (at + i) (allTold k left (drop i map)))

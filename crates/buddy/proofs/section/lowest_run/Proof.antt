@@ -8,12 +8,6 @@ use Rattle.buddy.proofs.Count.{words-le, count-fill, count-all, count-f
 use borrow.Author.Needs.{needs}
 use Rattle.buddy.proofs.section.lowest_run.Statement.{statement}
 use Rattle.buddy.proofs.section.lowest_run.Tie as tie
-use Rattle.buddy.proofs.section.lowest_run.Reads as reads
-use Rattle.buddy.proofs.section.lowest_run.Lts as lts
-use Rattle.buddy.proofs.section.lowest_of.Reads as lowest-of-reads
-use Rattle.buddy.proofs.section.words_of.Reads as words-of-reads
-use Rattle.buddy.proofs.sizes.size_of.Reads as size-of-reads
-use Rattle.buddy.proofs.sizes.top_of.Reads as top-of-reads
 
 top-of-requires : tie.Need-top-of-requires
 top-of-requires c κs = search needs

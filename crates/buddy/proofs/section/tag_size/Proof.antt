@@ -1,14 +1,10 @@
 -- `tag_size` gives the size of the live block of which a byte is the tag. Assumes nothing.
 use mathlib.Core.Path.{_∙_}
-use native.Mathlib.Omega.{arith}
 use borrow.Author.Tests.{lt-ltb, le-ltb, eq-eqb, ne-eqb}
 use Rattle.buddy.specs.Tag.{tagSize}
 use borrow.Author.Needs.{needs}
 use Rattle.buddy.proofs.section.tag_size.Statement.{statement}
 use Rattle.buddy.proofs.section.tag_size.Tie as tie
-use Rattle.buddy.proofs.section.tag_size.Reads as reads
-use Rattle.buddy.proofs.section.tag_size.Lts as lts
-use Rattle.buddy.proofs.sizes.size_of.Reads as size-of-reads
 
 returns : tie.Need-returns
 unfolding tagSize

@@ -1,12 +1,10 @@
 -- `words_of` counts the set-up words. Assumes nothing.
-use mathlib.Core.Path.{sym, _∙_}
+use mathlib.Core.Path.{sym}
 use native.Mathlib.Omega.{arith}
 use Rattle.buddy.proofs.Size.{words-set, words-none}
 use borrow.Author.Needs.{needs}
 use Rattle.buddy.proofs.section.words_of.Statement.{statement}
 use Rattle.buddy.proofs.section.words_of.Tie as tie
-use Rattle.buddy.proofs.section.words_of.Reads as reads
-use Rattle.buddy.proofs.section.words_of.Lts as lts
 
 returns : tie.Need-returns
 returns c = sym (words-none (c .before .before .args .setup) (c .if1 .taken))

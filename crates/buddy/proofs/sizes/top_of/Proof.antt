@@ -3,9 +3,6 @@ use Rattle.buddy.specs.SetUp.{top}
 use borrow.Author.Needs.{needs}
 use Rattle.buddy.proofs.sizes.top_of.Statement.{statement}
 use Rattle.buddy.proofs.sizes.top_of.Tie as tie
-use Rattle.buddy.proofs.sizes.top_of.Reads as reads
-use Rattle.buddy.proofs.sizes.top_of.Lts as lts
-use Rattle.buddy.proofs.sizes.level_of.Reads as level-of-reads
 
 level-of-requires : tie.Need-level-of-requires
 level-of-requires c κs = search needs

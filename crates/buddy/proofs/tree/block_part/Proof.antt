@@ -4,9 +4,6 @@ use Rattle.buddy.specs.Part.{leaf}
 use borrow.Author.Needs.{needs}
 use Rattle.buddy.proofs.tree.block_part.Statement.{statement}
 use Rattle.buddy.proofs.tree.block_part.Tie as tie
-use Rattle.buddy.proofs.tree.block_part.Reads as reads
-use Rattle.buddy.proofs.tree.block_part.Lts as lts
-use Rattle.buddy.proofs.tree.zero_from.Reads as zero-from-reads
 
 zero-from-requires : tie.Need-zero-from-requires
 zero-from-requires c κs = search needs

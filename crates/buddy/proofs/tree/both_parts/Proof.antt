@@ -3,8 +3,6 @@ use Rattle.buddy.specs.Part.{both}
 use borrow.Author.Needs.{needs}
 use Rattle.buddy.proofs.tree.both_parts.Statement.{statement}
 use Rattle.buddy.proofs.tree.both_parts.Tie as tie
-use Rattle.buddy.proofs.tree.both_parts.Reads as reads
-use Rattle.buddy.proofs.tree.both_parts.Lts as lts
 
 enum-told : tie.Need-enum-told
 enum-told c = search needs

@@ -4,8 +4,6 @@ use Rattle.buddy.specs.Map.{liveTag}
 use borrow.Author.Needs.{needs}
 use Rattle.buddy.proofs.tree.live_tag.Statement.{statement}
 use Rattle.buddy.proofs.tree.live_tag.Tie as tie
-use Rattle.buddy.proofs.tree.live_tag.Reads as reads
-use Rattle.buddy.proofs.tree.live_tag.Lts as lts
 
 add-result : tie.Need-add-result
 add-result c = search needs

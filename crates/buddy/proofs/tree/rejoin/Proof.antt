@@ -11,9 +11,6 @@ use Rattle.buddy.proofs.Tags.{rejoins, leaves-low, leaves-high}
 use borrow.Author.Needs.{needs}
 use Rattle.buddy.proofs.tree.rejoin.Statement.{statement}
 use Rattle.buddy.proofs.tree.rejoin.Tie as tie
-use Rattle.buddy.proofs.tree.rejoin.Reads as reads
-use Rattle.buddy.proofs.tree.rejoin.Lts as lts
-use Rattle.buddy.proofs.tree.free_tag.Reads as free-tag-reads
 
 sub-free-tag : tie.Need-sub-free-tag
 sub-free-tag c = search needs

@@ -8,8 +8,6 @@ use lib.ListN.{length, drop, replicate}
 use Rattle.buddy.specs.Map.{same}
 use Rattle.buddy.proofs.tree.zero_from.Statement.{statement}
 use Rattle.buddy.proofs.tree.zero_from.Tie as tie
-use Rattle.buddy.proofs.tree.zero_from.Reads as reads
-use Rattle.buddy.proofs.tree.zero_from.Lts as lts
 
 abbrev Inv-loop : tie.InvT-loop
 Inv-loop from tags i₀ i = (i ≤ length tags) × (same (replicate (length tags - from) 0) (drop from tags) ≡ same (replicate (length tags - i) 0) (drop i tags))
