@@ -16,9 +16,9 @@ use Rattle.word.proofs.Field.{bit-stored-inside, bit-stored-left, bit-stored-ri
 use Rattle.buddy.specs.Blocks.{sizeAt}
 use Rattle.word.proofs.Tests.{by-leb, by-eqb}
 use Rattle.buddy.proofs.Each.{Each, each-nil, each-cons}
-use Rattle.engine.specs.declared.Store.{Store}
-use Rattle.engine.specs.Storage.{wordAt, placed}
-use Rattle.engine.proofs.Placed.{placed-inside, placed-outside}
+use Rattle.machine.specs.declared.Store.{Store}
+use Rattle.machine.specs.Storage.{wordAt, placed}
+use Rattle.machine.proofs.Placed.{placed-inside, placed-outside}
 use Rattle.book.specs.Book.{LiveBlock, storedBits, noBits, bitsAt, blocks}
 
 -- the bits of a live block are those of its words in the storage

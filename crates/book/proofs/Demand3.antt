@@ -17,27 +17,27 @@ use Rattle.buddy.proofs.Size.{size-pos, fitting-facts, absent-facts, words-none
 use Rattle.buddy.proofs.Map.{live-none, free-none, keeps-absent}
 use Rattle.buddy.proofs.Each.{each-nil, each-mem}
 use Rattle.buddy.proofs.Tiling.{map-order}
-use Rattle.engine.specs.declared.Answer.{Answer}
-use Rattle.engine.specs.declared.Answer.the-variants.{Running, Finished, Refused}
-use Rattle.engine.specs.declared.Refusal.{Refusal}
-use Rattle.engine.specs.declared.Refusal.the-variants.{NoRun}
-use Rattle.engine.specs.declared.State.{State}
-use Rattle.engine.specs.declared.Report.{Report}
-use Rattle.engine.specs.State.{fresh, noSetUp, undefined, testsOf, isSetUp, isFinished}
-use Rattle.engine.specs.Storage.{noStore, noReport}
-use Rattle.engine.specs.Sound.{Lent, Engine, isDefinition, soundPlace, isPlace, isRow}
-use Rattle.engine.specs.Locate.{liveBlocks}
-use Rattle.engine.specs.Effects.{Effects, storageAfter, engineAfter}
-use Rattle.engine.specs.Step.{Outcome, Answers, unchanged, carriedOut, step, engineOf, setUpAt}
-use Rattle.engine.proofs.Checks.{or-parts}
-use Rattle.engine.proofs.Every.{below, every-none, every-replicate}
-use Rattle.engine.proofs.Facts.{CoreFacts, StorageFacts, Facts}
-use Rattle.engine.proofs.Located.{undefined-fits}
-use Rattle.engine.proofs.Live.{live-fits, live-lies}
-use Rattle.engine.proofs.Moves.{Moves, still, frees, delivers, SetsUp, Done}
-use Rattle.engine.proofs.Plan.{Planned, settingUp, moving, planned}
-use Rattle.engine.proofs.Steps.{Stepping, refusing, staying, forward, stepping}
-use Rattle.engine.proofs.Keeps.{planned-facts}
+use Rattle.machine.specs.declared.Answer.{Answer}
+use Rattle.machine.specs.declared.Answer.the-variants.{Running, Finished, Refused}
+use Rattle.machine.specs.declared.Refusal.{Refusal}
+use Rattle.machine.specs.declared.Refusal.the-variants.{NoRun}
+use Rattle.machine.specs.declared.State.{State}
+use Rattle.machine.specs.declared.Report.{Report}
+use Rattle.machine.specs.State.{fresh, noSetUp, undefined, testsOf, isSetUp, isFinished}
+use Rattle.machine.specs.Storage.{noStore, noReport}
+use Rattle.machine.specs.Sound.{Lent, Engine, isDefinition, soundPlace, isPlace, isRow}
+use Rattle.machine.specs.Locate.{liveBlocks}
+use Rattle.machine.specs.Effects.{Effects, storageAfter, engineAfter}
+use Rattle.machine.specs.Step.{Outcome, Answers, unchanged, carriedOut, step, engineOf, setUpAt}
+use Rattle.machine.proofs.Checks.{or-parts}
+use Rattle.machine.proofs.Every.{below, every-none, every-replicate}
+use Rattle.machine.proofs.Facts.{CoreFacts, StorageFacts, Facts}
+use Rattle.machine.proofs.Located.{undefined-fits}
+use Rattle.machine.proofs.Live.{live-fits, live-lies}
+use Rattle.machine.proofs.Moves.{Moves, still, frees, delivers, SetsUp, Done}
+use Rattle.machine.proofs.Plan.{Planned, settingUp, moving, planned}
+use Rattle.machine.proofs.Steps.{Stepping, refusing, staying, forward, stepping}
+use Rattle.machine.proofs.Keeps.{planned-facts}
 use Rattle.book.specs.Book.{Book, emptyBook, Entry, blocks, enter, enterSetUp, enterFreed, enterDelivered, enterCopied, enterStore}
 use Rattle.book.specs.Steps.{Event, stepped, Leads, begin, after, isRefused, reportOf, entryOf, bookAfter, LiveBy}
 use Rattle.book.specs.Claim.{Tiled, AlignedRun, Served, Claim}
@@ -87,7 +87,7 @@ fresh-storage b ws =
     record {
       numbers = or-true (fitting (length ws) noSetUp);
       blocks = keeps-absent noSetUp 4096 no-words;
-      values = subst (λ n. Rattle.engine.specs.Sound.every (below (2 ^ b)) (take n ws) ≡ true) (sym no-words) (every-none (below (2 ^ b)));
+      values = subst (λ n. Rattle.machine.specs.Sound.every (below (2 ^ b)) (take n ws) ≡ true) (sym no-words) (every-none (below (2 ^ b)));
     }
 
 holds-at-first : (b : ℕ) (ws : List ℕ) → Holds b [] (record { state = fresh; storage = ws })

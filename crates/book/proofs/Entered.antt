@@ -16,19 +16,19 @@ use Rattle.buddy.specs.Map.{live, freedMap, deliveredMap}
 use Rattle.buddy.proofs.Size.{size-pos, fitting-facts}
 use Rattle.buddy.proofs.Tiling.{map-order, order-sizeAt, sizeAt-mem}
 use Rattle.buddy.proofs.Runs.{runs-sound, outside-mem}
-use Rattle.engine.specs.declared.Report.{Report}
-use Rattle.engine.specs.declared.Store.{Store}
-use Rattle.engine.specs.State.{noSetUp}
-use Rattle.engine.specs.Storage.{noStore, noReport, withStore, withDelivery, withCopy}
-use Rattle.engine.specs.Sound.{Engine}
-use Rattle.engine.specs.Effects.{Effects, storageAfter}
-use Rattle.engine.proofs.Checks.{nonzero}
-use Rattle.engine.proofs.Facts.{Facts}
-use Rattle.engine.proofs.Located.{InBlocks, StoreFacts, nowhere, inBlock}
-use Rattle.engine.proofs.Live.{live-fits, live-lies}
-use Rattle.engine.proofs.Placed.{length-store}
-use Rattle.engine.proofs.Moves.{Still, Frees, Delivers, Moves, still, frees, delivers}
-use Rattle.engine.proofs.Keeps.{stores-only, not-zeroed, delivery-fits, delivered-long, copied-long, delivery-storage}
+use Rattle.machine.specs.declared.Report.{Report}
+use Rattle.machine.specs.declared.Store.{Store}
+use Rattle.machine.specs.State.{noSetUp}
+use Rattle.machine.specs.Storage.{noStore, noReport, withStore, withDelivery, withCopy}
+use Rattle.machine.specs.Sound.{Engine}
+use Rattle.machine.specs.Effects.{Effects, storageAfter}
+use Rattle.machine.proofs.Checks.{nonzero}
+use Rattle.machine.proofs.Facts.{Facts}
+use Rattle.machine.proofs.Located.{InBlocks, StoreFacts, nowhere, inBlock}
+use Rattle.machine.proofs.Live.{live-fits, live-lies}
+use Rattle.machine.proofs.Placed.{length-store}
+use Rattle.machine.proofs.Moves.{Still, Frees, Delivers, Moves, still, frees, delivers}
+use Rattle.machine.proofs.Keeps.{stores-only, not-zeroed, delivery-fits, delivered-long, copied-long, delivery-storage}
 use Rattle.book.specs.Book.{Book, start, inserted, enterSetUp, enterFreed, enterDelivered, enterCopied, enterStore, enter}
 use Rattle.book.proofs.Lists.{inserted-new, inserted-old, inserted-cases, without-other}
 use Rattle.book.proofs.Maps.{freed-live-map, delivered-live-map}

@@ -19,10 +19,10 @@ use Rattle.buddy.proofs.Size.{size-pos, fitting-facts}
 use Rattle.buddy.proofs.Each.{Each, each-nil, each-map, each-mem, mem-each}
 use Rattle.buddy.proofs.Tiling.{Lies, map-order, order-each, order-sizeAt}
 use Rattle.buddy.proofs.Runs.{runs-sound, outside-each}
-use Rattle.engine.specs.declared.Store.{Store}
-use Rattle.engine.specs.declared.Report.{Report}
-use Rattle.engine.specs.Storage.{wordAt, placed, withStore, withDelivery, withCopy}
-use Rattle.engine.proofs.Located.{StoreFacts, nowhere, inBlock}
+use Rattle.machine.specs.declared.Store.{Store}
+use Rattle.machine.specs.declared.Report.{Report}
+use Rattle.machine.specs.Storage.{wordAt, placed, withStore, withDelivery, withCopy}
+use Rattle.machine.proofs.Located.{StoreFacts, nowhere, inBlock}
 use Rattle.book.specs.Book.{Book, LiveBlock, start, liveStart, inserted, without, times, joinedOnce, halvedOnce, blocks, noBits, bitsAt, storedBits, enterSetUp, enterFreed, enterDelivered, enterCopied, enterStore}
 use Rattle.book.proofs.Maps.{fresh-live, fresh-free, freed-live-map, freed-free-map, delivered-live-map, delivered-free-map}
 use Rattle.book.proofs.Lists.{each-inserted, each-without, each-blocks, each-both, each-changed, blocks-inserted, blocks-without}

@@ -16,21 +16,21 @@ use Rattle.buddy.proofs.Runs.{runs-sound, runs-aligned, runs-complete, outside-
 use Rattle.table.specs.declared.FieldName.{FieldName}
 use Rattle.table.specs.declared.Pair.{Pair}
 use Rattle.table.specs.Row.{rowAt}
-use Rattle.engine.specs.declared.Refusal.{Refusal}
-use Rattle.engine.specs.declared.Refusal.the-variants.{NoRun}
-use Rattle.engine.specs.declared.Location.{Location}
-use Rattle.engine.specs.declared.Answer.the-variants.{Running, Finished, Refused}
-use Rattle.engine.specs.Answer.{Checked, refused, passed, _>>=_, _>>_, need}
-use Rattle.engine.specs.State.{isSetUp, isFinished, onCore, movedTo}
-use Rattle.engine.specs.Sound.{Lent, Engine}
-use Rattle.engine.specs.Locate.{World, world, liveBlocks, linkBy, link, follow, locate, contents}
-use Rattle.engine.specs.Effects.{Effects, engineAfter}
-use Rattle.engine.specs.Operations.{Given, Wanted, getWants, duplicateWants, delivering, andStoring, get, duplicate, oneOf, chosen, meaning, meanings}
-use Rattle.engine.specs.Step.{given, inTurn, operationStep, plan, outcome, unchanged, carriedOut, step}
-use Rattle.engine.proofs.Checks.{or-parts, nonzero, need-passed, bind-passed, passed-same}
-use Rattle.engine.proofs.Facts.{Facts}
-use Rattle.engine.proofs.Live.{live-size}
-use Rattle.engine.proofs.Steps.{sound-engine}
+use Rattle.machine.specs.declared.Refusal.{Refusal}
+use Rattle.machine.specs.declared.Refusal.the-variants.{NoRun}
+use Rattle.machine.specs.declared.Location.{Location}
+use Rattle.machine.specs.declared.Answer.the-variants.{Running, Finished, Refused}
+use Rattle.machine.specs.Answer.{Checked, refused, passed, _>>=_, _>>_, need}
+use Rattle.machine.specs.State.{isSetUp, isFinished, onCore, movedTo}
+use Rattle.machine.specs.Sound.{Lent, Engine}
+use Rattle.machine.specs.Locate.{World, world, liveBlocks, linkBy, link, follow, locate, contents}
+use Rattle.machine.specs.Effects.{Effects, engineAfter}
+use Rattle.machine.specs.Operations.{Given, Wanted, getWants, duplicateWants, delivering, andStoring, get, duplicate, oneOf, chosen, meaning, meanings}
+use Rattle.machine.specs.Step.{given, inTurn, operationStep, plan, outcome, unchanged, carriedOut, step}
+use Rattle.machine.proofs.Checks.{or-parts, nonzero, need-passed, bind-passed, passed-same}
+use Rattle.machine.proofs.Facts.{Facts}
+use Rattle.machine.proofs.Live.{live-size}
+use Rattle.machine.proofs.Steps.{sound-engine}
 use Rattle.book.specs.Steps.{Event, LiveBy}
 use Rattle.book.specs.Claim.{AlignedRun, Wants}
 

@@ -13,14 +13,14 @@ use Rattle.buddy.specs.Blocks.{Block, size}
 use Rattle.buddy.specs.SetUp.{words}
 use Rattle.buddy.specs.Map.{free}
 use Rattle.buddy.proofs.Size.{size-mono, fitting-facts}
-use Rattle.engine.specs.declared.Answer.the-variants.{Refused}
-use Rattle.engine.specs.declared.Refusal.the-variants.{NoRun}
-use Rattle.engine.specs.declared.Store.{Store}
-use Rattle.engine.specs.Sound.{Lent, Engine}
-use Rattle.engine.specs.Locate.{liveBlocks}
-use Rattle.engine.specs.Operations.{Wanted}
-use Rattle.engine.specs.Step.{Outcome, Answers, engineOf}
-use Rattle.engine.proofs.Steps.{sound-engine}
+use Rattle.machine.specs.declared.Answer.the-variants.{Refused}
+use Rattle.machine.specs.declared.Refusal.the-variants.{NoRun}
+use Rattle.machine.specs.declared.Store.{Store}
+use Rattle.machine.specs.Sound.{Lent, Engine}
+use Rattle.machine.specs.Locate.{liveBlocks}
+use Rattle.machine.specs.Operations.{Wanted}
+use Rattle.machine.specs.Step.{Outcome, Answers, engineOf}
+use Rattle.machine.proofs.Steps.{sound-engine}
 use Rattle.book.specs.Book.{LiveBlock, storedBits}
 use Rattle.book.specs.Steps.{Event, stepped, Leads, after, reportOf, LiveBy}
 use Rattle.book.specs.Claim.{_∈_, AlignedRun, Wants, Served}

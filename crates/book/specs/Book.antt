@@ -9,9 +9,9 @@ use lib.ListN.{length}
 use Rattle.buddy.specs.declared.SetUp.{SetUp}
 use Rattle.buddy.specs.Blocks.{Block, sizeAt}
 use Rattle.buddy.specs.SetUp.{words}
-use Rattle.engine.specs.declared.Store.{Store}
-use Rattle.engine.specs.declared.Report.{Report}
-use Rattle.engine.specs.State.{noSetUp}
+use Rattle.machine.specs.declared.Store.{Store}
+use Rattle.machine.specs.declared.Report.{Report}
+use Rattle.machine.specs.State.{noSetUp}
 
 -- a live block with its bits: bit p of its word i is bits i p
 pub record LiveBlock : Type 0 where

@@ -12,15 +12,15 @@ use Rattle.buddy.specs.SetUp.{words}
 use Rattle.buddy.specs.Map.{free}
 use Rattle.table.specs.Row.{lengthFits, rowAt}
 use Rattle.table.specs.Table.{usable}
-use Rattle.engine.specs.declared.Answer.the-variants.{Refused}
-use Rattle.engine.specs.declared.Refusal.the-variants.{NoRun}
-use Rattle.engine.specs.Answer.{passed}
-use Rattle.engine.specs.State.{isSetUp}
-use Rattle.engine.specs.Storage.{wordAt}
-use Rattle.engine.specs.Sound.{Lent, Engine, sound}
-use Rattle.engine.specs.Locate.{liveBlocks}
-use Rattle.engine.specs.Operations.{Wanted, getWants, duplicateWants}
-use Rattle.engine.specs.Step.{given}
+use Rattle.machine.specs.declared.Answer.the-variants.{Refused}
+use Rattle.machine.specs.declared.Refusal.the-variants.{NoRun}
+use Rattle.machine.specs.Answer.{passed}
+use Rattle.machine.specs.State.{isSetUp}
+use Rattle.machine.specs.Storage.{wordAt}
+use Rattle.machine.specs.Sound.{Lent, Engine, sound}
+use Rattle.machine.specs.Locate.{liveBlocks}
+use Rattle.machine.specs.Operations.{Wanted, getWants, duplicateWants}
+use Rattle.machine.specs.Step.{given}
 use Rattle.book.specs.Book.{LiveBlock, blocks, halves, around}
 use Rattle.book.specs.Steps.{Event, stepped, Leads, LiveBy, bookAfter}
 

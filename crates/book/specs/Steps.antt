@@ -5,13 +5,13 @@ use mathlib.Core.Bool.{Bool, true, false, cond}
 use mathlib.Core.List.{List, [], _∷_}
 use mathlib.Core.Path.{_≡_}
 use Rattle.buddy.specs.Blocks.{Block}
-use Rattle.engine.specs.declared.Answer.{Answer}
-use Rattle.engine.specs.declared.Answer.the-variants.{Running, Finished, Refused}
-use Rattle.engine.specs.declared.Report.{Report}
-use Rattle.engine.specs.State.{fresh, noSetUp}
-use Rattle.engine.specs.Storage.{noReport}
-use Rattle.engine.specs.Sound.{Lent, Engine}
-use Rattle.engine.specs.Step.{Outcome, Answers, engineOf, setUpAt}
+use Rattle.machine.specs.declared.Answer.{Answer}
+use Rattle.machine.specs.declared.Answer.the-variants.{Running, Finished, Refused}
+use Rattle.machine.specs.declared.Report.{Report}
+use Rattle.machine.specs.State.{fresh, noSetUp}
+use Rattle.machine.specs.Storage.{noReport}
+use Rattle.machine.specs.Sound.{Lent, Engine}
+use Rattle.machine.specs.Step.{Outcome, Answers, engineOf, setUpAt}
 use Rattle.book.specs.Book.{Book, Entry, emptyBook, enter}
 
 -- an event: a step, with what was lent to it, the engine before it and what it left

@@ -23,17 +23,17 @@ use Rattle.table.specs.declared.Names.{Names}
 use Rattle.table.specs.declared.Pair.{Pair}
 use Rattle.table.specs.Reference.{Reference, isReference, referenceOf, namesOf}
 use Rattle.table.proofs.InRange.{bug-in, field-in}
-use Rattle.engine.specs.declared.Environment.{Environment}
-use Rattle.engine.specs.declared.Location.{Location}
-use Rattle.engine.specs.declared.Location.the-variants.{Bug, Field}
-use Rattle.engine.specs.declared.Linked.{Linked}
-use Rattle.engine.specs.declared.Linked.the-variants.{At, Stopped}
-use Rattle.engine.specs.declared.Refusal.{Refusal}
-use Rattle.engine.specs.Answer.{Checked, passed, refused, _>>=_}
-use Rattle.engine.specs.State.{undefined}
-use Rattle.engine.specs.Locate.{World, definitionOf, contents, linkBy, link, follow, locate, linked, Readable, Reached}
-use Rattle.engine.proofs.Checks.{need-passed, passed-same}
-use Rattle.engine.proofs.Located.{Located, link-located}
+use Rattle.machine.specs.declared.Environment.{Environment}
+use Rattle.machine.specs.declared.Location.{Location}
+use Rattle.machine.specs.declared.Location.the-variants.{Bug, Field}
+use Rattle.machine.specs.declared.Linked.{Linked}
+use Rattle.machine.specs.declared.Linked.the-variants.{At, Stopped}
+use Rattle.machine.specs.declared.Refusal.{Refusal}
+use Rattle.machine.specs.Answer.{Checked, passed, refused, _>>=_}
+use Rattle.machine.specs.State.{undefined}
+use Rattle.machine.specs.Locate.{World, definitionOf, contents, linkBy, link, follow, locate, linked, Readable, Reached}
+use Rattle.machine.proofs.Checks.{need-passed, passed-same}
+use Rattle.machine.proofs.Located.{Located, link-located}
 
 -- a live block lies in the set-up words
 live-words : (u : SetUp) (m : List ℕ) → words u % size (top (u .d)) ≡ 0 → (x : Block) → List·Memᴰ x (live u m) → Within (u .s1) (u .s1 + words u) x

@@ -8,15 +8,15 @@ use borrow.Author.Tests.{eq-eqb, ne-eqb, lt-ltb, le-ltb}
 use lib.ListN.{length, getD}
 use Rattle.word.specs.Field.{fieldOf}
 use Rattle.table.specs.declared.BugLetter.{BugLetter}
-use Rattle.engine.specs.declared.Definition.{Definition}
-use Rattle.engine.specs.declared.Environment.{Environment}
-use Rattle.engine.specs.declared.Location.{Location}
-use Rattle.engine.specs.declared.Location.the-variants.{Bug, Field}
-use Rattle.engine.specs.declared.Linked.the-variants.{At, Stopped}
-use Rattle.engine.specs.declared.Refusal.the-variants.{UndefinedField, NotABlock, OutsideBlock}
-use Rattle.engine.specs.Answer.{need, _>>_}
-use Rattle.engine.specs.Storage.{wordAt}
-use Rattle.engine.specs.Locate.{linkBy, linked, contentsOf, Reached}
+use Rattle.machine.specs.declared.Definition.{Definition}
+use Rattle.machine.specs.declared.Environment.{Environment}
+use Rattle.machine.specs.declared.Location.{Location}
+use Rattle.machine.specs.declared.Location.the-variants.{Bug, Field}
+use Rattle.machine.specs.declared.Linked.the-variants.{At, Stopped}
+use Rattle.machine.specs.declared.Refusal.the-variants.{UndefinedField, NotABlock, OutsideBlock}
+use Rattle.machine.specs.Answer.{need, _>>_}
+use Rattle.machine.specs.Storage.{wordAt}
+use Rattle.machine.specs.Locate.{linkBy, linked, contentsOf, Reached}
 
 module _ (x : Definition) (n pointer : ℕ) where
   pub link-undefined : x .defined ≡ false → Stopped UndefinedField ≡ linked (linkBy x n pointer)

@@ -17,12 +17,12 @@ use Rattle.table.specs.declared.FieldName.{FieldName}
 use Rattle.table.specs.declared.Pair.{Pair}
 use Rattle.table.specs.Reference.{isReference}
 use Rattle.table.proofs.InRange.{bug-in}
-use Rattle.engine.specs.declared.Location.{Location}
-use Rattle.engine.specs.Answer.{passed}
-use Rattle.engine.specs.Sound.{Engine, soundEngine}
-use Rattle.engine.specs.Locate.{World, world, environmentOf, follow, locate, Readable, Reached}
-use Rattle.engine.proofs.Checks.{or-parts, bind-passed, passed-same}
-use Rattle.engine.proofs.Facts.{sound-facts}
+use Rattle.machine.specs.declared.Location.{Location}
+use Rattle.machine.specs.Answer.{passed}
+use Rattle.machine.specs.Sound.{Engine, soundEngine}
+use Rattle.machine.specs.Locate.{World, world, environmentOf, follow, locate, Readable, Reached}
+use Rattle.machine.proofs.Checks.{or-parts, bind-passed, passed-same}
+use Rattle.machine.proofs.Facts.{sound-facts}
 use Rattle.engine.proofs.Follows.{link-reached, bug-reached}
 
 -- what the set-up numbers of a sound engine give

@@ -3,10 +3,10 @@ ghost use mathlib.Core.Bool.{_&&_, _||_, cond};
 ghost use mathlib.Core.Path.{_≡_};
 ghost use Prim.Native.Nat.{_^_, _<_};
 ghost use lib.Dec.{eqb, ltb};
-ghost use Rattle.engine.specs.Sound.{every, isRow, isPlace, isDefinition, soundPlace, soundStack, soundStacks, soundCore};
-use crate::Core;
-use crate::Definition;
-use crate::Place;
+ghost use Rattle.machine.specs.Sound.{every, isRow, isPlace, isDefinition, soundPlace, soundStack, soundStacks, soundCore};
+use machine::Core;
+use machine::Definition;
+use machine::Place;
 use word::arithmetic::power;
 
 // Each of these words is below 2^b.

@@ -8,10 +8,10 @@ ghost use Rattle.buddy.specs.Map.{keeps};
 ghost use Rattle.buddy.specs.SetUp.{top, words};
 use crate::characters;
 use crate::draws;
+use buddy::Found;
 use buddy::SetUp;
 use buddy::section;
 use buddy::sizes;
-use buddy::Found;
 use std::num;
 
 // The bytes of a map: a few more than the words of the largest set-up.

@@ -2,7 +2,7 @@
 use borrow.Author.Needs.{needs}
 use borrow.Author.Tests.{not-true, not-false, eqb-true}
 use native.Mathlib.Omega.{arith}
-use Rattle.engine.proofs.Checks.{nonzero}
+use Rattle.machine.proofs.Checks.{nonzero}
 use Rattle.engine.proofs.Links.{link-undefined, link-no-block, link-outside, link-inside}
 use Rattle.engine.proofs.references.link.Statement.{statement}
 use Rattle.engine.proofs.references.link.Tie as tie

@@ -2,7 +2,7 @@
 -- Assumes nothing.
 use mathlib.Core.Path.{_∙_}
 use borrow.Author.Needs.{needs}
-use Rattle.engine.specs.State.{undefined}
+use Rattle.machine.specs.State.{undefined}
 use Rattle.engine.proofs.Follows.{pointer-small, link-made}
 use Rattle.engine.proofs.references.link_from.Statement.{statement}
 use Rattle.engine.proofs.references.link_from.Tie as tie

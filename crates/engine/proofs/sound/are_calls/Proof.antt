@@ -6,9 +6,9 @@ use mathlib.Core.Path.{_≡_, refl, sym, _∙_}
 use borrow.Author.Needs.{needs}
 use borrow.Author.Tests.{not-true, not-false}
 use lib.ListN.{length, take, drop}
-use Rattle.engine.specs.Sound.{every, isPlace}
-use Rattle.engine.specs.declared.Place.{Place}
-use Rattle.engine.proofs.Every.{taken-on, taken-off, taken-all, stack-over, stack-used}
+use Rattle.machine.specs.Sound.{every, isPlace}
+use Rattle.machine.specs.declared.Place.{Place}
+use Rattle.machine.proofs.Every.{taken-on, taken-off, taken-all, stack-over, stack-used}
 use Rattle.engine.proofs.sound.are_calls.Statement.{statement}
 use Rattle.engine.proofs.sound.are_calls.Tie as tie
 

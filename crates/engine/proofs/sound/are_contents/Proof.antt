@@ -4,7 +4,7 @@ use mathlib.Core.Path.{_≡_, sym}
 use borrow.Author.Needs.{needs}
 use lib.ListN.{length}
 use lib.Seq.{length-take-le}
-use Rattle.engine.proofs.Every.{stack-over, stack-used}
+use Rattle.machine.proofs.Every.{stack-over, stack-used}
 use Rattle.engine.proofs.sound.are_contents.Statement.{statement}
 use Rattle.engine.proofs.sound.are_contents.Tie as tie
 

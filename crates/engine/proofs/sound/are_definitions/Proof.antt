@@ -6,9 +6,9 @@ use mathlib.Core.Path.{_≡_, refl, sym, _∙_}
 use borrow.Author.Needs.{needs}
 use borrow.Author.Tests.{not-true, not-false}
 use lib.ListN.{length, drop}
-use Rattle.engine.specs.Sound.{every, isDefinition}
-use Rattle.engine.specs.State.{undefined}
-use Rattle.engine.proofs.Every.{every-on, every-off, every-all}
+use Rattle.machine.specs.Sound.{every, isDefinition}
+use Rattle.machine.specs.State.{undefined}
+use Rattle.machine.proofs.Every.{every-on, every-off, every-all}
 use Rattle.engine.proofs.sound.are_definitions.Statement.{statement}
 use Rattle.engine.proofs.sound.are_definitions.Tie as tie
 

@@ -1,6 +1,6 @@
 -- `engine::sound::are_stacks` meets its contract: the three stacks joined. Assumes nothing.
 use borrow.Author.Needs.{needs}
-use Rattle.engine.specs.Sound.{soundStacks}
+use Rattle.machine.specs.Sound.{soundStacks}
 use Rattle.engine.proofs.sound.are_stacks.Statement.{statement}
 use Rattle.engine.proofs.sound.are_stacks.Tie as tie
 

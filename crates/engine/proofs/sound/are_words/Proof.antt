@@ -6,8 +6,8 @@ use mathlib.Core.Path.{_≡_, refl}
 use borrow.Author.Needs.{needs}
 use borrow.Author.Tests.{lt-ltb, le-ltb}
 use lib.ListN.{length, getD, drop}
-use Rattle.engine.specs.Sound.{every}
-use Rattle.engine.proofs.Every.{below, every-on, every-off, every-all}
+use Rattle.machine.specs.Sound.{every}
+use Rattle.machine.proofs.Every.{below, every-on, every-off, every-all}
 use Rattle.engine.proofs.sound.are_words.Statement.{statement}
 use Rattle.engine.proofs.sound.are_words.Tie as tie
 

@@ -1,6 +1,6 @@
 -- `engine::sound::is_definition` meets its contract. Assumes nothing.
 use borrow.Author.Needs.{needs}
-use Rattle.engine.specs.Sound.{isDefinition, inRange}
+use Rattle.machine.specs.Sound.{isDefinition, inRange}
 use Rattle.engine.proofs.sound.is_definition.Statement.{statement}
 use Rattle.engine.proofs.sound.is_definition.Tie as tie
 

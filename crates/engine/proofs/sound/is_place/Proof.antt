@@ -1,6 +1,6 @@
 -- `engine::sound::is_place` meets its contract. Assumes nothing.
 use borrow.Author.Needs.{needs}
-use Rattle.engine.specs.Sound.{isPlace}
+use Rattle.machine.specs.Sound.{isPlace}
 use Rattle.engine.proofs.sound.is_place.Statement.{statement}
 use Rattle.engine.proofs.sound.is_place.Tie as tie
 

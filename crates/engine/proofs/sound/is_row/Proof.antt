@@ -1,6 +1,6 @@
 -- `engine::sound::is_row` meets its contract. Assumes nothing.
 use borrow.Author.Needs.{needs}
-use Rattle.engine.specs.Sound.{isRow}
+use Rattle.machine.specs.Sound.{isRow}
 use Rattle.engine.proofs.sound.is_row.Statement.{statement}
 use Rattle.engine.proofs.sound.is_row.Tie as tie
 

@@ -1,6 +1,6 @@
 -- `engine::sound::is_sound_core` meets its contract: the four clauses joined. Assumes nothing.
 use borrow.Author.Needs.{needs}
-use Rattle.engine.specs.Sound.{soundCore}
+use Rattle.machine.specs.Sound.{soundCore}
 use Rattle.engine.proofs.sound.is_sound_core.Statement.{statement}
 use Rattle.engine.proofs.sound.is_sound_core.Tie as tie
 

@@ -1,7 +1,7 @@
 -- `engine::sound::is_sound_place` meets its contract. Assumes nothing.
 use borrow.Author.Needs.{needs}
-use Rattle.engine.specs.State.{isFinished}
-use Rattle.engine.specs.Sound.{soundPlace}
+use Rattle.machine.specs.State.{isFinished}
+use Rattle.machine.specs.Sound.{soundPlace}
 use Rattle.engine.proofs.sound.is_sound_place.Statement.{statement}
 use Rattle.engine.proofs.sound.is_sound_place.Tie as tie
 

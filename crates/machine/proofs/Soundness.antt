@@ -1,0 +1,51 @@
+-- A step keeps a sound state sound, with the same table and input lent and the output that the step left.
+-- Assumes nothing.
+use Prim.Native.Nat.{ℕ, _≤_}
+use mathlib.Core.Bool.{true, _&&_}
+use mathlib.Core.List.{List}
+use mathlib.Core.Path.{_≡_, subst, sym}
+use borrow.Author.Tests.{leb-true, le-leb}
+use lib.Dec.{leb}
+use lib.ListN.{length}
+use Rattle.machine.specs.Storage.{placed}
+use Rattle.machine.specs.Sound.{Lent, Engine, sound, soundEngine}
+use Rattle.machine.specs.Effects.{engineAfter}
+use Rattle.machine.specs.Step.{Choice, Outcome, unchanged, carriedOut, step, engineOf}
+use Rattle.machine.proofs.Checks.{and-parts, and-true}
+use Rattle.machine.proofs.Placed.{length-placed}
+use Rattle.machine.proofs.Facts.{facts-sound}
+use Rattle.machine.proofs.Plan.{planned}
+use Rattle.machine.proofs.Steps.{Stepping, refusing, staying, forward, stepping}
+use Rattle.machine.proofs.Keeps.{planned-facts}
+use Rattle.machine.proofs.Counts.{plan-counts}
+
+-- what is lent to the next step of a run
+unfoldable pub next : Lent → Outcome → Lent
+next l o = record { table = l .table; input = l .input; output = o .output }
+
+-- the counts of a sound state
+counts-fit : (b : ℕ) (l : Lent) (e : Engine) → sound b l e ≡ true
+    → (e .state .core .taken ≤ length (l .input)) × (e .state .core .written ≤ length (l .output))
+unfolding sound
+counts-fit b l e s =
+    let input = leb (e .state .core .taken) (length (l .input)) in
+    let output = leb (e .state .core .written) (length (l .output)) in
+    let (k, written) = and-parts (soundEngine b e && input) output s in
+    (leb-true _ _ (and-parts (soundEngine b e) input k .1), leb-true _ _ written)
+
+pub step-keeps-sound : (b : ℕ) (choose : List ℕ → ℕ) (l : Lent) (e : Engine) → Choice choose → sound b l e ≡ true
+    → sound b (next l (step b choose l e)) (engineOf (step b choose l e)) ≡ true
+unfolding sound next engineOf unchanged carriedOut engineAfter
+step-keeps-sound b choose l e choice s = go (stepping b choose l e)
+  where
+    go : Stepping b choose l e (step b choose l e) → sound b (next l (step b choose l e)) (engineOf (step b choose l e)) ≡ true
+    go (refusing r o) = subst (λ (o : Outcome). sound b (next l o) (engineOf o) ≡ true) (sym o) s
+    go (staying f o) = subst (λ (o : Outcome). sound b (next l o) (engineOf o) ≡ true) (sym o) s
+    go (forward x h f p o) =
+        let (t, w) = counts-fit b l e s in
+        let counted = plan-counts b choose l e t w x p in
+        let long : length (placed (e .state .core .written) (x .printed) (l .output)) ≡ length (l .output) = length-placed _ _ _ (counted .room) in
+        subst (λ (o : Outcome). sound b (next l o) (engineOf o) ≡ true) (sym o)
+        (and-true
+        (and-true (facts-sound b (engineAfter b x e) (planned-facts b e h x l (planned b choose l e h choice f x p))) (le-leb _ _ (counted .taken)))
+        (le-leb (x .state .core .written) _ (subst (λ (n : ℕ). x .state .core .written ≤ n) (sym long) (counted .written))))

@@ -1,0 +1,187 @@
+-- One step, the relation "this step answers as demand 2 has it", and the run.
+-- Document 01: "Steps" and the order of all refusals. Assumes nothing.
+use Prim.Native.Nat.{ℕ, zero, suc, _-_}
+use mathlib.Core.Bool.{true, false, not, _&&_, cond}
+use mathlib.Core.List.{List, _∷_, List·Memᴰ}
+use mathlib.Core.Path.{_≡_}
+use lib.Dec.{eqb, ltb}
+use lib.ListN.{getD}
+use Rattle.buddy.specs.declared.SetUp.{SetUp}
+use Rattle.table.specs.Row.{lengthFits, rows, rowAt, firstTest, firstOperation, goTo, done}
+use Rattle.table.specs.Table.{usable}
+use Rattle.machine.specs.declared.Refusal.the-variants.{TableLength, BadRow, Unsound, BeforeSetUp, SecondSetUp, StackEmpty}
+use Rattle.machine.specs.declared.Answer.{Answer}
+use Rattle.machine.specs.declared.Answer.the-variants.{Running, Finished, Refused}
+use Rattle.machine.specs.declared.Place.{Place}
+use Rattle.machine.specs.declared.Stepped.{Stepped}
+use Rattle.machine.specs.declared.Ran.{Ran}
+use Rattle.machine.specs.Answer.{Checked, refused, passed, _>>=_, _>>_, need, isRunning}
+use Rattle.machine.specs.State.{testsOf, operationAt, exitOf, theEnd, noSetUp, isFinished, isSetUp, movedTo, withCalls, onCore}
+use Rattle.machine.specs.Storage.{noReport, placed}
+use Rattle.machine.specs.Sound.{Lent, Engine, sound}
+use Rattle.machine.specs.Test.{satisfied}
+use Rattle.machine.specs.Effects.{Effects, quietly, storageAfter}
+use Rattle.machine.specs.Operations.{Given, asked, meaning}
+
+-- the next line, or finished if next is 0
+unfoldable pub nextLine : ℕ → Place
+nextLine next = cond (eqb next 0) theEnd (testsOf next)
+
+-- after an operation: its next, or the line's exit. A satisfied line: its first operation, or its exit if none
+unfoldable pub operationOrExit : ℕ → ℕ → Place
+operationOrExit row line = cond (eqb row 0) (exitOf line) (operationAt row line)
+
+-- going on to a place and nothing else
+unfoldable pub goingTo : Place → Engine → Effects
+goingTo p e = quietly (onCore (movedTo p) (e .state))
+
+-- the step at a line's tests
+unfoldable pub testsStep : ℕ → Lent → Engine → Checked Effects
+testsStep b l e = do
+  let line = e .state .core .place .line
+  let row = rowAt (l .table) line
+  need (usable 1 b (l .table) line) BadRow
+  holds ← satisfied b (l .table) e (row .code) (rows (l .table)) (firstTest row)
+  passed (goingTo (cond holds (operationOrExit (firstOperation row) line) (nextLine (row .next))) e)
+
+-- set-up happens once (13) and precedes every other operation (12)
+unfoldable pub inTurn : ℕ → Engine → Checked (Unit {0})
+inTurn code e =
+    cond (eqb code 1) (need (not (isSetUp (e .state .core))) SecondSetUp) (need (isSetUp (e .state .core)) BeforeSetUp)
+
+-- what the operation at the engine's place is given: its own row and no other
+unfoldable pub given : (List ℕ → ℕ) → Lent → Engine → Given
+given choose l e =
+    let place = e .state .core .place in
+    let row = rowAt (l .table) (place .row) in
+    record {
+      row = row;
+      lent = l;
+      engine = record {
+        state = onCore (movedTo (operationOrExit (row .next) (place .line))) (e .state);
+        storage = e .storage;
+      };
+      choose = choose;
+    }
+
+-- the step of an operation
+unfoldable pub operationStep : ℕ → (List ℕ → ℕ) → Lent → Engine → Checked Effects
+operationStep b choose l e = do
+  let place = e .state .core .place
+  need (usable 3 b (l .table) (place .row)) BadRow
+  inTurn (rowAt (l .table) (place .row) .code) e
+  meaning (rowAt (l .table) (place .row) .code) b (given choose l e)
+
+-- DONE pops the place that a DO saved: 20
+unfoldable pub return : Engine → Checked Effects
+return e = do
+  let stack = e .state .core .calls
+  need (ltb 0 (stack .count)) StackEmpty
+  passed
+      (quietly
+      (onCore
+      (λ c. movedTo (getD (stack .entries) (stack .count - 1) theEnd)
+      (withCalls (record { entries = stack .entries; count = stack .count - 1 }) c))
+      (e .state)))
+
+-- the step at a line's exit: the go-to, else the next line, else finished
+unfoldable pub exitStep : ℕ → Lent → Engine → Checked Effects
+exitStep b l e = do
+  let line = e .state .core .place .line
+  let row = rowAt (l .table) line
+  need (usable 1 b (l .table) line) BadRow
+  cond (eqb (goTo row) done) (return e)
+      (passed (goingTo (cond (eqb (goTo row) 0) (nextLine (row .next)) (testsOf (goTo row))) e))
+
+-- what a step of a sound engine that is not finished does: 1, then as its place says
+unfoldable pub plan : ℕ → (List ℕ → ℕ) → Lent → Engine → Checked Effects
+plan b choose l e = do
+  need (lengthFits (l .table)) TableLength
+  let kind = e .state .core .place .kind
+  cond (eqb kind 0) (testsStep b l e) (cond (eqb kind 1) (operationStep b choose l e) (exitStep b l e))
+
+-- what a step leaves: what it returns, and the lent storage and output
+pub record Outcome : Type 0 where
+  pub stepped : Stepped
+  pub storage : List ℕ
+  pub output : List ℕ
+
+-- a refused step, and a step of a finished engine, change nothing and report zeros
+unfoldable pub unchanged : Answer → Lent → Engine → Outcome
+unchanged answer l e =
+    record {
+      stepped = record { state = e .state; answer = answer; report = noReport };
+      storage = e .storage;
+      output = l .output;
+    }
+
+-- any other step carries its effects out
+unfoldable pub carriedOut : ℕ → Effects → Lent → Engine → Outcome
+carriedOut b x l e =
+    record {
+      stepped = record {
+        state = x .state;
+        answer = cond (isFinished (x .state .core .place)) Finished Running;
+        report = x .report;
+      };
+      storage = storageAfter b x (e .storage);
+      output = placed (e .state .core .written) (x .printed) (l .output);
+    }
+
+unfoldable pub outcome : ℕ → Checked Effects → Lent → Engine → Outcome
+outcome b (refused r) l e = unchanged (Refused r) l e
+outcome b (passed x) l e = carriedOut b x l e
+
+-- one step, in the order 11, finished, then the plan; choose is asked for one of the admissible addresses of a delivery
+unfoldable pub step : ℕ → (List ℕ → ℕ) → Lent → Engine → Outcome
+step b choose l e =
+    cond (sound b l e)
+    (cond (isFinished (e .state .core .place)) (unchanged Finished l e) (outcome b (plan b choose l e) l e))
+    (unchanged (Refused Unsound) l e)
+
+-- a choice of an admissible address: of each list of runs that is not empty, one of them
+abbrev pub Choice : (List ℕ → ℕ) → Type 0
+Choice choose = (r : ℕ) (rs : List ℕ) → List·Memᴰ (choose (r ∷ rs)) (r ∷ rs)
+
+-- this step answers as demand 2 has it: as some admissible address gives
+pub record Answers (b : ℕ) (l : Lent) (e : Engine) (o : Outcome) : Type 0 where
+  pub choose : List ℕ → ℕ
+  pub admissible : Choice choose
+  pub same : o ≡ step b choose l e
+
+-- the engine that a step leaves
+unfoldable pub engineOf : Outcome → Engine
+engineOf o = record { state = o .stepped .state; storage = o .storage }
+
+-- the numbers of the set-up at the engine's place, where that is an operation 1
+unfoldable pub setUpAt : Lent → Engine → SetUp
+setUpAt l e =
+    cond (eqb (e .state .core .place .kind) 1 && eqb (rowAt (l .table) (e .state .core .place .row) .code) 1)
+    (asked (rowAt (l .table) (e .state .core .place .row)))
+    noSetUp
+
+-- what a run leaves
+pub record RunOutcome : Type 0 where
+  pub ran : Ran
+  pub storage : List ℕ
+  pub output : List ℕ
+
+-- a run that ends with this answer after count steps
+unfoldable pub ending : Answer → ℕ → Engine → List ℕ → RunOutcome
+ending answer count e output =
+    record { ran = record { state = e .state; answer = answer; count = count }; storage = e .storage; output = output }
+
+-- a run takes a step limit and is that many steps, or fewer up to a finish or refusal (counted); earlier steps stand.
+-- Step i of it asks choose i; count steps came before
+unfoldable pub runFrom : ℕ → ℕ → (ℕ → List ℕ → ℕ) → ℕ → Lent → Engine → RunOutcome
+runFrom count b choose zero l e = ending Running count e (l .output)
+runFrom count b choose (suc limit) l e =
+    let o : Outcome = step b (choose count) l e in
+    elim (isRunning (o .stepped .answer)) [
+      | true ↦
+          runFrom (suc count) b choose limit (record { table = l .table; input = l .input; output = o .output }) (engineOf o)
+      | false ↦ ending (o .stepped .answer) (suc count) (engineOf o) (o .output)
+    ]
+
+unfoldable pub run : ℕ → (ℕ → List ℕ → ℕ) → ℕ → Lent → Engine → RunOutcome
+run = runFrom 0

@@ -1,0 +1,132 @@
+// The engine's state, answers and reports: what they mean stands in specs/.
+
+// Why a step is refused: document 01's refusals 1 to 21, in its order.
+pub enum Refusal {
+    TableLength,
+    BadRow,
+    SetUpNumbers,
+    InputByte,
+    InputShort,
+    NotADigit,
+    DefinitionNumber,
+    BlockSize,
+    ZeroDivisor,
+    CharacterCount,
+    Unsound,
+    BeforeSetUp,
+    SecondSetUp,
+    UndefinedField,
+    NotABlock,
+    OutsideBlock,
+    NoRun,
+    FieldFreed,
+    StackFull,
+    StackEmpty,
+    OutputFull,
+}
+
+pub enum Answer {
+    Running,
+    Finished,
+    Refused(Refusal),
+}
+
+// Where the engine stands: kind 0 at the tests of a line, 1 at an operation of a line, 2 at a line's exit, 3 finished.
+pub struct Place {
+    pub kind: u8,
+    pub row: u16,
+    pub line: u16,
+}
+
+// A field's definition, or that it is undefined.
+pub struct Definition {
+    pub defined: bool,
+    pub word: u8,
+    pub left: u8,
+    pub right: u8,
+}
+
+// The three stacks: the first count entries are used.
+pub struct ContentsStack {
+    pub entries: [u64; 128],
+    pub count: usize,
+}
+
+pub struct DefinitionStack {
+    pub entries: [Definition; 128],
+    pub count: usize,
+}
+
+pub struct CallStack {
+    pub entries: [Place; 128],
+    pub count: usize,
+}
+
+// All of the state but the block map.
+pub struct Core {
+    pub place: Place,
+    pub bugs: [u64; 26],
+    pub definitions: [Definition; 36],
+    pub contents: ContentsStack,
+    pub saved: DefinitionStack,
+    pub calls: CallStack,
+    pub setup: buddy::SetUp,
+    pub taken: usize,
+    pub written: usize,
+}
+
+pub struct State {
+    pub core: Core,
+    pub map: [u8; 4096],
+}
+
+// What references read of the core: bugs, field definitions and the set-up's numbers.
+pub struct Environment {
+    pub bugs: [u64; 26],
+    pub definitions: [Definition; 36],
+    pub setup: buddy::SetUp,
+}
+
+// Where a reference leads: a bug, or bits left to right of the word at an address.
+pub enum Location {
+    Bug(table::BugLetter),
+    Field(u64, u8, u8),
+}
+
+// Where the links of a reference lead, or why one of them is refused.
+pub enum Linked {
+    At(Location),
+    Stopped(Refusal),
+}
+
+// A store into storage, all zero where there is none.
+pub struct Store {
+    pub address: u64,
+    pub left: u8,
+    pub right: u8,
+    pub bits: u64,
+}
+
+// What a step reports, each zero where there is none.
+pub struct Report {
+    pub freed: u64,
+    pub delivered: u64,
+    pub size: u64,
+    pub copied: u64,
+    pub first: Store,
+    pub second: Store,
+}
+
+// What a step returns.
+pub struct Stepped {
+    pub state: State,
+    pub answer: Answer,
+    pub report: Report,
+}
+
+// What a run returns.
+pub struct Ran {
+    pub state: State,
+    pub answer: Answer,
+    pub count: u64,
+}
