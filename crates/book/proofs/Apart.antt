@@ -10,24 +10,24 @@ use native.Mathlib.Omega.{arith}
 use lib.Dec.{eqb, leb}
 use lib.ListN.{replicate}
 use borrow.Author.Tests.{eqb-true, eq-eqb, leb-true, le-leb}
-use Rattle.buddy.specs.Blocks.{size, Block, Tree, Free, Live, Halves, liveIn, freeIn, gathered}
-use Rattle.buddy.specs.Map.{isFree, canonical, allCanonical}
+use Rattle.block.specs.Blocks.{size, Block, Tree, Free, Live, Halves, liveIn, freeIn, gathered}
+use Rattle.block.specs.Map.{isFree, canonical, allCanonical}
 use Rattle.word.proofs.Tests.{and-true, by-test, by-leb}
-use Rattle.buddy.proofs.Size.{size-pos, size-suc, size-mono, aligned-smaller}
-use Rattle.buddy.proofs.Map.{canonical-halves}
-use Rattle.buddy.proofs.Each.{each-mem}
-use Rattle.buddy.proofs.Tiling.{Lies, lies-pos, InOrder, order-each, tree-order, forest-order}
+use Rattle.block.proofs.Size.{size-pos, size-suc, size-mono, aligned-smaller}
+use Rattle.block.proofs.Map.{canonical-halves}
+use Rattle.block.proofs.Each.{each-mem}
+use Rattle.block.proofs.Tiling.{Lies, lies-pos, InOrder, order-each, tree-order, forest-order}
 use Rattle.book.specs.Book.{blocksFrom, halves, around}
 use Rattle.book.specs.Claim.{covering}
 
 -- an address lies in a block for the book as for the laws of trees
-pub around-same : (a : ℕ) (x : Block) → around a x ≡ Rattle.buddy.proofs.Tiling.around a x
-unfolding around Rattle.buddy.proofs.Tiling.around
+pub around-same : (a : ℕ) (x : Block) → around a x ≡ Rattle.block.proofs.Tiling.around a x
+unfolding around Rattle.block.proofs.Tiling.around
 around-same a x = refl
 
 -- the claim counts the blocks that a word lies in as the laws of trees do
-pub covering-same : (w : ℕ) (xs : List Block) → covering w xs ≡ Rattle.buddy.proofs.Tiling.covering w xs
-unfolding covering Rattle.buddy.proofs.Tiling.covering
+pub covering-same : (w : ℕ) (xs : List Block) → covering w xs ≡ Rattle.block.proofs.Tiling.covering w xs
+unfolding covering Rattle.block.proofs.Tiling.covering
 covering-same w [] = refl
 covering-same w (x ∷ xs) = rw (around-same w x, covering-same w xs)
 

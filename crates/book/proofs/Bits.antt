@@ -13,9 +13,9 @@ use lib.Seq.{getD-set-same, getD-set-other, getD-take, getD-drop}
 use Rattle.word.specs.Word.{bit}
 use Rattle.word.specs.Field.{kept, stored}
 use Rattle.word.proofs.Field.{bit-stored-inside, bit-stored-left, bit-stored-right}
-use Rattle.buddy.specs.Blocks.{sizeAt}
+use Rattle.block.specs.Blocks.{sizeAt}
 use Rattle.word.proofs.Tests.{by-leb, by-eqb}
-use Rattle.buddy.proofs.Each.{Each, each-nil, each-cons}
+use Rattle.block.proofs.Each.{Each, each-nil, each-cons}
 use Rattle.machine.specs.declared.Store.{Store}
 use Rattle.machine.specs.Storage.{wordAt, placed}
 use Rattle.machine.proofs.Placed.{placed-inside, placed-outside}

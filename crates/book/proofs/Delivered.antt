@@ -10,14 +10,14 @@ use native.Mathlib.Omega.{arith}
 use lib.Dec.{ltb}
 use lib.ListN.{length}
 use borrow.Author.Tests.{lt-ltb, le-ltb, le-leb, eq-eqb}
-use Rattle.buddy.specs.Blocks.{size, Block, Tree, Free, Live, Halves, liveIn, freeIn, delivered, gathered, changed, outside}
-use Rattle.buddy.specs.Map.{canonical, allCanonical}
+use Rattle.block.specs.Blocks.{size, Block, Tree, Free, Live, Halves, liveIn, freeIn, delivered, gathered, changed, outside}
+use Rattle.block.specs.Map.{canonical, allCanonical}
 use Rattle.word.proofs.Tests.{by-leb, either-way}
-use Rattle.buddy.proofs.Size.{size-suc, size-pos, size-mono}
-use Rattle.buddy.proofs.Map.{canonical-halves}
-use Rattle.buddy.proofs.Each.{each-mem}
-use Rattle.buddy.proofs.Tiling.{lies-pos, order-each}
-use Rattle.buddy.proofs.Runs.{outside-mem}
+use Rattle.block.proofs.Size.{size-suc, size-pos, size-mono}
+use Rattle.block.proofs.Map.{canonical-halves}
+use Rattle.block.proofs.Each.{each-mem}
+use Rattle.block.proofs.Tiling.{lies-pos, order-each}
+use Rattle.block.proofs.Runs.{outside-mem}
 use Rattle.book.specs.Book.{start, inserted, without, times, around, lower, upper, halvedOnce}
 use Rattle.book.proofs.Apart.{offset-mod, both-free}
 use Rattle.book.proofs.Local.{Local, local-after, local-times, times-fixed, local-without, local-halved, local-inserted, narrows-outside, Reads, live-reads, free-reads, Here, tree-local, forest-local}

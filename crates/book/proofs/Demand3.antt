@@ -9,14 +9,14 @@ use mathlib.Core.Path.{_≡_, refl, ap, sym, subst, _∙_}
 use borrow.Author.Tests.{eqb-true, ne-eqb, lt-ltb, not-false}
 use lib.ListN.{length, take}
 use lib.Pow.{pow-pos}
-use Rattle.buddy.specs.declared.SetUp.{SetUp}
-use Rattle.buddy.specs.Blocks.{Block, size, level}
-use Rattle.buddy.specs.SetUp.{words, fitting, absent}
-use Rattle.buddy.specs.Map.{live, free, freshMap}
-use Rattle.buddy.proofs.Size.{size-pos, fitting-facts, absent-facts, words-none}
-use Rattle.buddy.proofs.Map.{live-none, free-none, keeps-absent}
-use Rattle.buddy.proofs.Each.{each-nil, each-mem}
-use Rattle.buddy.proofs.Tiling.{map-order}
+use Rattle.block.specs.declared.SetUp.{SetUp}
+use Rattle.block.specs.Blocks.{Block, size, level}
+use Rattle.block.specs.SetUp.{words, fitting, absent}
+use Rattle.block.specs.Map.{live, free, freshMap}
+use Rattle.block.proofs.Size.{size-pos, fitting-facts, absent-facts, words-none}
+use Rattle.block.proofs.Map.{live-none, free-none, keeps-absent}
+use Rattle.block.proofs.Each.{each-nil, each-mem}
+use Rattle.block.proofs.Tiling.{map-order}
 use Rattle.machine.specs.declared.Answer.{Answer}
 use Rattle.machine.specs.declared.Answer.the-variants.{Running, Finished, Refused}
 use Rattle.machine.specs.declared.Refusal.{Refusal}

@@ -9,13 +9,13 @@ use mathlib.Core.Path.{_≡_, refl, ap, sym, subst, _∙_}
 use borrow.Author.Tests.{eq-eqb}
 use lib.Dec.{eqb}
 use lib.ListN.{length}
-use Rattle.buddy.specs.declared.SetUp.{SetUp}
-use Rattle.buddy.specs.Blocks.{Block, size, sizeAt}
-use Rattle.buddy.specs.SetUp.{fitting}
-use Rattle.buddy.specs.Map.{live, freedMap, deliveredMap}
-use Rattle.buddy.proofs.Size.{size-pos, fitting-facts}
-use Rattle.buddy.proofs.Tiling.{map-order, order-sizeAt, sizeAt-mem}
-use Rattle.buddy.proofs.Runs.{runs-sound, outside-mem}
+use Rattle.block.specs.declared.SetUp.{SetUp}
+use Rattle.block.specs.Blocks.{Block, size, sizeAt}
+use Rattle.block.specs.SetUp.{fitting}
+use Rattle.block.specs.Map.{live, freedMap, deliveredMap}
+use Rattle.block.proofs.Size.{size-pos, fitting-facts}
+use Rattle.block.proofs.Tiling.{map-order, order-sizeAt, sizeAt-mem}
+use Rattle.block.proofs.Runs.{runs-sound, outside-mem}
 use Rattle.machine.specs.declared.Report.{Report}
 use Rattle.machine.specs.declared.Store.{Store}
 use Rattle.machine.specs.State.{noSetUp}

@@ -10,13 +10,13 @@ use native.Mathlib.Omega.{arith}
 use lib.Dec.{eqb, leb, ltb}
 use lib.ListN.{length}
 use borrow.Author.Tests.{le-leb, lt-leb, le-ltb, ne-eqb}
-use Rattle.buddy.specs.Blocks.{size, Block, Tree, Halves, liveIn, freeIn, gathered, changed, outside}
-use Rattle.buddy.specs.Map.{canonical, allCanonical}
+use Rattle.block.specs.Blocks.{size, Block, Tree, Halves, liveIn, freeIn, gathered, changed, outside}
+use Rattle.block.specs.Map.{canonical, allCanonical}
 use Rattle.word.proofs.Tests.{and-true, and-false, by-leb}
-use Rattle.buddy.proofs.Size.{size-suc, aligned-smaller}
-use Rattle.buddy.proofs.Each.{Each, each-nil, each-cons, each-map, each-mem}
-use Rattle.buddy.proofs.Tiling.{lies-pos, InOrder, order-each, tree-order, gathered-order}
-use Rattle.buddy.proofs.Runs.{outside-mem, mem-outside}
+use Rattle.block.proofs.Size.{size-suc, aligned-smaller}
+use Rattle.block.proofs.Each.{Each, each-nil, each-cons, each-map, each-mem}
+use Rattle.block.proofs.Tiling.{lies-pos, InOrder, order-each, tree-order, gathered-order}
+use Rattle.block.proofs.Runs.{outside-mem, mem-outside}
 use Rattle.book.specs.Book.{start, inserted, without, times, around, lower, upper, halvedOnce}
 
 -- f leaves alone what starts past address a, and what ends by it

@@ -5,16 +5,16 @@ use mathlib.Core.Bool.{true, false}
 use mathlib.Core.List.{List, [], List·Memᴰ}
 use mathlib.Core.Path.{_≡_, ap, subst, _∙_}
 use lib.ListN.{length}
-use Rattle.buddy.specs.declared.SetUp.{SetUp}
-use Rattle.buddy.specs.Blocks.{Block, size, freeIn, gathered, sizeAt, outside}
-use Rattle.buddy.specs.SetUp.{top, words, fitting, runs}
-use Rattle.buddy.specs.Map.{allCanonical, trees, keeps, live, free, freshMap, freedMap, deliveredMap}
-use Rattle.buddy.proofs.Size.{size-pos, size-mono, fitting-facts, aligned-smaller}
-use Rattle.buddy.proofs.Map.{keeps-parts, trees-fill}
-use Rattle.buddy.proofs.Change.{words-whole, fresh-tells, keeps-freed, keeps-delivered}
-use Rattle.buddy.proofs.Each.{each-mem}
-use Rattle.buddy.proofs.Tiling.{map-each, map-tiles, tiles-once}
-use Rattle.buddy.proofs.Runs.{runs-sound, runs-aligned}
+use Rattle.block.specs.declared.SetUp.{SetUp}
+use Rattle.block.specs.Blocks.{Block, size, freeIn, gathered, sizeAt, outside}
+use Rattle.block.specs.SetUp.{top, words, fitting, runs}
+use Rattle.block.specs.Map.{allCanonical, trees, keeps, live, free, freshMap, freedMap, deliveredMap}
+use Rattle.block.proofs.Size.{size-pos, size-mono, fitting-facts, aligned-smaller}
+use Rattle.block.proofs.Map.{keeps-parts, trees-fill}
+use Rattle.block.proofs.Change.{words-whole, fresh-tells, keeps-freed, keeps-delivered}
+use Rattle.block.proofs.Each.{each-mem}
+use Rattle.block.proofs.Tiling.{map-each, map-tiles, tiles-once}
+use Rattle.block.proofs.Runs.{runs-sound, runs-aligned}
 use Rattle.book.specs.Book.{start, inserted, without, times, blocksFrom, halves, joinedOnce, halvedOnce}
 use Rattle.book.specs.Claim.{Tiled}
 use Rattle.book.proofs.Apart.{apart, fresh-blocks, covering-same}

@@ -10,15 +10,15 @@ use borrow.Author.Tests.{eq-eqb, ne-eqb}
 use lib.Dec.{eqb}
 use lib.ListN.{length, set, take, drop, replicate, length-replicate, length-take, length-drop}
 use Rattle.word.specs.Field.{stored}
-use Rattle.buddy.specs.declared.SetUp.{SetUp}
-use Rattle.buddy.specs.Blocks.{Block, size, sizeAt}
-use Rattle.buddy.specs.SetUp.{top, words, fitting, runs}
-use Rattle.buddy.specs.Map.{live, free, keeps, freshMap, freedMap, deliveredMap}
+use Rattle.block.specs.declared.SetUp.{SetUp}
+use Rattle.block.specs.Blocks.{Block, size, sizeAt}
+use Rattle.block.specs.SetUp.{top, words, fitting, runs}
+use Rattle.block.specs.Map.{live, free, keeps, freshMap, freedMap, deliveredMap}
 use Rattle.word.proofs.Tests.{by-eqb, either-way}
-use Rattle.buddy.proofs.Size.{size-pos, fitting-facts}
-use Rattle.buddy.proofs.Each.{Each, each-nil, each-map, each-mem, mem-each}
-use Rattle.buddy.proofs.Tiling.{Lies, map-order, order-each, order-sizeAt}
-use Rattle.buddy.proofs.Runs.{runs-sound, outside-each}
+use Rattle.block.proofs.Size.{size-pos, fitting-facts}
+use Rattle.block.proofs.Each.{Each, each-nil, each-map, each-mem, mem-each}
+use Rattle.block.proofs.Tiling.{Lies, map-order, order-each, order-sizeAt}
+use Rattle.block.proofs.Runs.{runs-sound, outside-each}
 use Rattle.machine.specs.declared.Store.{Store}
 use Rattle.machine.specs.declared.Report.{Report}
 use Rattle.machine.specs.Storage.{wordAt, placed, withStore, withDelivery, withCopy}

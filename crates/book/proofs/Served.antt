@@ -9,10 +9,10 @@ use mathlib.Core.Path.{_≡_, refl, ap, sym, subst, _∙_}
 use borrow.Author.Tests.{eq-eqb, ne-eqb}
 use lib.Dec.{eqb}
 use lib.ListN.{length}
-use Rattle.buddy.specs.Blocks.{Block, size, level}
-use Rattle.buddy.specs.SetUp.{top, words, fitting, absent, runs}
-use Rattle.buddy.proofs.Size.{size-pos, level-le, aligned-smaller, fitting-facts, absent-facts}
-use Rattle.buddy.proofs.Runs.{runs-sound, runs-aligned, runs-complete, outside-mem, mem-outside}
+use Rattle.block.specs.Blocks.{Block, size, level}
+use Rattle.block.specs.SetUp.{top, words, fitting, absent, runs}
+use Rattle.block.proofs.Size.{size-pos, level-le, aligned-smaller, fitting-facts, absent-facts}
+use Rattle.block.proofs.Runs.{runs-sound, runs-aligned, runs-complete, outside-mem, mem-outside}
 use Rattle.table.specs.declared.FieldName.{FieldName}
 use Rattle.table.specs.declared.Pair.{Pair}
 use Rattle.table.specs.Row.{rowAt}

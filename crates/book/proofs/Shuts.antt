@@ -9,10 +9,10 @@ use mathlib.Core.List.{List, _∷_, Memᴰ·append-right}
 use mathlib.Core.Logic.{_⊎_, inl, inr, ⊎-elim}
 use mathlib.Core.Path.{_≡_, refl, sym, subst, _∙_}
 use borrow.Author.Tests.{ne-eqb, lt-leb}
-use Rattle.buddy.specs.Blocks.{Block, size}
-use Rattle.buddy.specs.SetUp.{words}
-use Rattle.buddy.specs.Map.{free}
-use Rattle.buddy.proofs.Size.{size-mono, fitting-facts}
+use Rattle.block.specs.Blocks.{Block, size}
+use Rattle.block.specs.SetUp.{words}
+use Rattle.block.specs.Map.{free}
+use Rattle.block.proofs.Size.{size-mono, fitting-facts}
 use Rattle.machine.specs.declared.Answer.the-variants.{Refused}
 use Rattle.machine.specs.declared.Refusal.the-variants.{NoRun}
 use Rattle.machine.specs.declared.Store.{Store}

@@ -6,10 +6,10 @@ use mathlib.Core.List.{List, [], _∷_, _++_, List·Memᴰ}
 use mathlib.Core.Path.{_≡_}
 use mathlib.Core.Logic.{_↔_, _⊎_}
 use Rattle.word.specs.Word.{bit}
-use Rattle.buddy.specs.declared.SetUp.{SetUp}
-use Rattle.buddy.specs.Blocks.{size, Block}
-use Rattle.buddy.specs.SetUp.{words}
-use Rattle.buddy.specs.Map.{free}
+use Rattle.block.specs.declared.SetUp.{SetUp}
+use Rattle.block.specs.Blocks.{size, Block}
+use Rattle.block.specs.SetUp.{words}
+use Rattle.block.specs.Map.{free}
 use Rattle.table.specs.Row.{lengthFits, rowAt}
 use Rattle.table.specs.Table.{usable}
 use Rattle.machine.specs.declared.Answer.the-variants.{Refused}
@@ -80,7 +80,7 @@ pub record Demand3 (b : ℕ) (events : List Event) (e : Engine) : Type 0 where
   pub live : liveBlocks e ≡ blocks (bookAfter events .live)
   pub free : free (e .state .core .setup) (e .state .map) ≡ bookAfter events .free
   -- 3: together they tile the set-up words
-  pub tiled : Tiled (e .state .core .setup) (liveBlocks e) (Rattle.buddy.specs.Map.free (e .state .core .setup) (e .state .map))
+  pub tiled : Tiled (e .state .core .setup) (liveBlocks e) (Rattle.block.specs.Map.free (e .state .core .setup) (e .state .map))
   -- 4: each bit of a live block in the storage is the book's
   pub bits : (x : LiveBlock) → x ∈ bookAfter events .live → (i p : ℕ) → i < x .block .size → p < b
       → bit b (wordAt (e .state .core .setup .s1) (x .block .address + i) (e .storage)) p ≡ x .bits i p

@@ -1,17 +1,4 @@
-// Blocks of storage: what they are stands in specs/.
+// The buddy allocator on a block map: what its functions give stands in the crate block.
 pub mod section;
 pub mod sizes;
 mod tree;
-
-// The numbers of a set-up: the largest size, and the first and last address. All zero: no set-up yet.
-pub struct SetUp {
-    pub d: u16,
-    pub s1: u16,
-    pub s2: u16,
-}
-
-// An address, or none.
-pub enum Found {
-    At(usize),
-    Nothing,
-}

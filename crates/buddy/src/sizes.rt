@@ -1,8 +1,8 @@
 // The sizes 1, 2, 4 .. 128, and the place of a size among them.
 ghost use mathlib.Core.Path.{_≡_};
 ghost use Prim.Native.Nat.{_≤_};
-ghost use Rattle.buddy.specs.Blocks.{size, level};
-ghost use Rattle.buddy.specs.SetUp.{top};
+ghost use Rattle.block.specs.Blocks.{size, level};
+ghost use Rattle.block.specs.SetUp.{top};
 
 // The k-th size.
 pub fn size_of(k: u8) -> usize

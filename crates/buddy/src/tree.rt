@@ -5,19 +5,13 @@ ghost use mathlib.Core.List.{_∷_, _++_};
 ghost use Prim.Native.Nat.{ℕ, suc, _+_, _-_, _≤_, _<_};
 ghost use lib.Dec.{ltb};
 ghost use lib.ListN.{length, replicate, drop};
-ghost use Rattle.buddy.specs.Blocks.{Tree, Free, size, joined, freed, delivered};
-ghost use Rattle.buddy.specs.Map.{freeTag, liveTag, written, same, canonical};
-ghost use Rattle.buddy.specs.Part.{part, both, leaf};
-ghost use Rattle.buddy.specs.Lowest.{lowestIn};
-ghost use Rattle.buddy.specs.declared.Found.the-variants.{At};
-use super::Found;
-
-// What the bytes of one block tell: no tree that keeps the section, one free block, or a tree with a live block in it.
-pub(crate) enum Part {
-    Broken,
-    Free,
-    Taken,
-}
+ghost use Rattle.block.specs.Blocks.{Tree, Free, size, joined, freed, delivered};
+ghost use Rattle.block.specs.Map.{freeTag, liveTag, written, same, canonical};
+ghost use Rattle.block.specs.Part.{part, both, leaf};
+ghost use Rattle.block.specs.Lowest.{lowestIn};
+ghost use Rattle.block.specs.declared.Found.the-variants.{At};
+use block::Found;
+use block::Part;
 
 // The byte of a free block of the k-th size.
 pub(crate) fn free_tag(k: u8) -> u8

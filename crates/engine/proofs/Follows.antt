@@ -8,15 +8,15 @@ use mathlib.Core.List.{List, [], _∷_, List·Memᴰ}
 use mathlib.Core.Path.{_≡_, refl, ap, sym, subst, _∙_}
 use lib.ListN.{length, getD, drop, drop-of-length-le}
 use lib.Seq.{drop-cons, getD-drop}
-use Rattle.buddy.specs.declared.SetUp.{SetUp}
-use Rattle.buddy.specs.Blocks.{Block, size, sizeAt}
-use Rattle.buddy.specs.SetUp.{top, words}
-use Rattle.buddy.specs.Map.{trees, live}
-use Rattle.buddy.proofs.Count.{words-le}
-use Rattle.buddy.proofs.Each.{each-mem}
-use Rattle.buddy.proofs.Map.{trees-fill}
-use Rattle.buddy.proofs.Tiling.{sizeAt-mem}
-use Rattle.buddy.proofs.Within.{Within, all-within}
+use Rattle.block.specs.declared.SetUp.{SetUp}
+use Rattle.block.specs.Blocks.{Block, size, sizeAt}
+use Rattle.block.specs.SetUp.{top, words}
+use Rattle.block.specs.Map.{trees, live}
+use Rattle.block.proofs.Count.{words-le}
+use Rattle.block.proofs.Each.{each-mem}
+use Rattle.block.proofs.Map.{trees-fill}
+use Rattle.block.proofs.Tiling.{sizeAt-mem}
+use Rattle.block.proofs.Within.{Within, all-within}
 use Rattle.table.specs.declared.BugLetter.{BugLetter}
 use Rattle.table.specs.declared.FieldName.{FieldName}
 use Rattle.table.specs.declared.Names.{Names}

@@ -8,11 +8,11 @@ use mathlib.Core.List.{List, [], _∷_}
 use mathlib.Core.Logic.{_⊎_, inl, inr}
 use mathlib.Core.Path.{_≡_, subst}
 use lib.ListN.{length}
-use Rattle.buddy.specs.declared.SetUp.{SetUp}
-use Rattle.buddy.specs.Blocks.{size}
-use Rattle.buddy.specs.SetUp.{top, words, fitting, absent}
-use Rattle.buddy.proofs.Size.{fitting-facts, absent-facts}
-use Rattle.buddy.proofs.Change.{words-whole}
+use Rattle.block.specs.declared.SetUp.{SetUp}
+use Rattle.block.specs.Blocks.{size}
+use Rattle.block.specs.SetUp.{top, words, fitting, absent}
+use Rattle.block.proofs.Size.{fitting-facts, absent-facts}
+use Rattle.block.proofs.Change.{words-whole}
 use Rattle.table.specs.declared.FieldName.{FieldName}
 use Rattle.table.specs.declared.Pair.{Pair}
 use Rattle.table.specs.Reference.{isReference}

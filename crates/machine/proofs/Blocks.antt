@@ -9,10 +9,10 @@ use mathlib.Core.Path.{_≡_, refl, subst, sym, ap, _∙_}
 use borrow.Author.Tests.{leb-false, ltb-false}
 use lib.Dec.{eqb, leb, ltb}
 use Rattle.word.specs.Field.{width, kept}
-use Rattle.buddy.specs.Blocks.{size, level, sizeAt}
-use Rattle.buddy.specs.SetUp.{top, runs}
-use Rattle.buddy.specs.Map.{deliveredMap}
-use Rattle.buddy.proofs.Size.{level-le, level-size}
+use Rattle.block.specs.Blocks.{size, level, sizeAt}
+use Rattle.block.specs.SetUp.{top, runs}
+use Rattle.block.specs.Map.{deliveredMap}
+use Rattle.block.proofs.Size.{level-le, level-size}
 use Rattle.machine.specs.declared.Core.{Core}
 use Rattle.machine.specs.declared.Location.{Location}
 use Rattle.machine.specs.declared.Location.the-variants.{Bug, Field}

@@ -9,9 +9,9 @@ use mathlib.Core.Path.{_≡_}
 use borrow.Author.Tests.{lt-ltb, le-leb, leb-true}
 use lib.ListN.{length, getD, set, take}
 use lib.Pow.{pow-pos}
-use Rattle.buddy.specs.declared.SetUp.{SetUp}
-use Rattle.buddy.specs.SetUp.{words, fitting, absent}
-use Rattle.buddy.specs.Map.{keeps}
+use Rattle.block.specs.declared.SetUp.{SetUp}
+use Rattle.block.specs.SetUp.{words, fitting, absent}
+use Rattle.block.specs.Map.{keeps}
 use Rattle.table.specs.declared.FieldName.{FieldName}
 use Rattle.machine.specs.declared.Place.{Place}
 use Rattle.machine.specs.declared.Definition.{Definition}

@@ -11,14 +11,14 @@ use lib.Dec.{eqb}
 use lib.ListN.{length, take, drop, replicate, length-replicate, length-take}
 use lib.Seq.{take-append-seam}
 use lib.Pow.{pow-pos}
-use Rattle.buddy.specs.declared.SetUp.{SetUp}
-use Rattle.buddy.specs.Blocks.{Block, size, sizeAt}
-use Rattle.buddy.specs.SetUp.{words, fitting, absent, runs}
-use Rattle.buddy.specs.Map.{live, keeps}
-use Rattle.buddy.proofs.Size.{size-pos, fitting-facts, absent-facts}
-use Rattle.buddy.proofs.Change.{fresh-section, keeps-freed, keeps-delivered}
-use Rattle.buddy.proofs.Tiling.{sizeAt-mem}
-use Rattle.buddy.proofs.Runs.{runs-sound}
+use Rattle.block.specs.declared.SetUp.{SetUp}
+use Rattle.block.specs.Blocks.{Block, size, sizeAt}
+use Rattle.block.specs.SetUp.{words, fitting, absent, runs}
+use Rattle.block.specs.Map.{live, keeps}
+use Rattle.block.proofs.Size.{size-pos, fitting-facts, absent-facts}
+use Rattle.block.proofs.Change.{fresh-section, keeps-freed, keeps-delivered}
+use Rattle.block.proofs.Tiling.{sizeAt-mem}
+use Rattle.block.proofs.Runs.{runs-sound}
 use Rattle.machine.specs.declared.State.{State}
 use Rattle.machine.specs.declared.Report.{Report}
 use Rattle.machine.specs.Storage.{noStore, noReport, placed, withStore, withDelivery, withCopy, afterReport}

@@ -7,14 +7,14 @@ use mathlib.Core.Logic.{_⊎_, inl, inr}
 use mathlib.Core.Path.{_≡_, subst}
 use lib.Dec.{eqb}
 use lib.ListN.{length}
-use Rattle.buddy.specs.declared.SetUp.{SetUp}
-use Rattle.buddy.specs.Blocks.{Block, size, sizeAt}
-use Rattle.buddy.specs.SetUp.{top, words, fitting, absent}
-use Rattle.buddy.specs.Map.{live}
-use Rattle.buddy.proofs.Size.{absent-facts}
-use Rattle.buddy.proofs.Map.{live-none}
-use Rattle.buddy.proofs.Each.{each-mem}
-use Rattle.buddy.proofs.Tiling.{Lies, map-each, sizeAt-mem}
+use Rattle.block.specs.declared.SetUp.{SetUp}
+use Rattle.block.specs.Blocks.{Block, size, sizeAt}
+use Rattle.block.specs.SetUp.{top, words, fitting, absent}
+use Rattle.block.specs.Map.{live}
+use Rattle.block.proofs.Size.{absent-facts}
+use Rattle.block.proofs.Map.{live-none}
+use Rattle.block.proofs.Each.{each-mem}
+use Rattle.block.proofs.Tiling.{Lies, map-each, sizeAt-mem}
 use Rattle.machine.specs.declared.State.{State}
 use Rattle.machine.proofs.Checks.{or-parts, nonzero}
 use Rattle.machine.proofs.Facts.{StorageFacts}

@@ -10,9 +10,9 @@ use lib.Dec.{eqb, ltb, leb}
 use lib.Pow.{pow-pos}
 use Rattle.word.specs.Field.{kept, width}
 use Rattle.word.proofs.Field.{field-word, kept-kept}
-use Rattle.buddy.specs.Blocks.{Block, sizeAt}
-use Rattle.buddy.specs.Map.{live}
-use Rattle.buddy.proofs.Tiling.{sizeAt-mem}
+use Rattle.block.specs.Blocks.{Block, sizeAt}
+use Rattle.block.specs.Map.{live}
+use Rattle.block.proofs.Tiling.{sizeAt-mem}
 use Rattle.table.specs.declared.FieldName.{FieldName}
 use Rattle.table.specs.declared.Pair.{Pair}
 use Rattle.machine.specs.declared.Definition.{Definition}

@@ -4,7 +4,7 @@ use Prim.Native.Nat.{ℕ, _^_}
 use mathlib.Core.Bool.{true}
 use mathlib.Core.Path.{_≡_, refl, subst, ap, _∙_}
 use borrow.Author.Tests.{ltb-true}
-use Rattle.buddy.specs.Blocks.{size}
+use Rattle.block.specs.Blocks.{size}
 use Rattle.table.specs.declared.FieldName.{FieldName}
 use Rattle.machine.specs.declared.Core.{Core}
 use Rattle.machine.specs.declared.State.{State}

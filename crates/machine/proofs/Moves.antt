@@ -7,10 +7,10 @@ use mathlib.Core.Logic.{_⊎_}
 use mathlib.Core.Path.{_≡_}
 use lib.Dec.{eqb}
 use lib.ListN.{length}
-use Rattle.buddy.specs.declared.SetUp.{SetUp}
-use Rattle.buddy.specs.Blocks.{Block, size, sizeAt}
-use Rattle.buddy.specs.SetUp.{top, words, fitting, runs}
-use Rattle.buddy.specs.Map.{live, freshMap, freedMap, deliveredMap}
+use Rattle.block.specs.declared.SetUp.{SetUp}
+use Rattle.block.specs.Blocks.{Block, size, sizeAt}
+use Rattle.block.specs.SetUp.{top, words, fitting, runs}
+use Rattle.block.specs.Map.{live, freshMap, freedMap, deliveredMap}
 use Rattle.machine.specs.Storage.{noStore, noReport}
 use Rattle.machine.specs.Sound.{Engine}
 use Rattle.machine.specs.Effects.{Effects}
@@ -55,7 +55,7 @@ pub record Delivers (b : ℕ) (u : SetUp) (m : List ℕ) (x : Effects) : Type 0 
   pub level : ℕ
   pub levelFits : level ≤ top (u .d)
   pub size : x .report .size ≡ size level
-  pub isRun : List·Memᴰ (x .report .delivered) (runs (Rattle.buddy.specs.Blocks.size level) u (live u m))
+  pub isRun : List·Memᴰ (x .report .delivered) (runs (Rattle.block.specs.Blocks.size level) u (live u m))
   pub map : x .state .map ≡ deliveredMap level (x .report .delivered) u m
   pub copied : (x .report .copied ≡ 0)
       ⊎ ((not (eqb (sizeAt (x .report .copied) (live u m)) 0) ≡ true) × (sizeAt (x .report .copied) (live u m) ≡ x .report .size))

@@ -14,7 +14,7 @@ use lib.Seq.{length-take-le, getD-append-add, getD-take, getD-drop}
 use lib.Pow.{pow-pos}
 use Rattle.word.specs.Field.{stored}
 use Rattle.word.proofs.Field.{stored-lt}
-use Rattle.buddy.specs.Blocks.{Block}
+use Rattle.block.specs.Blocks.{Block}
 use Rattle.machine.specs.declared.Store.{Store}
 use Rattle.machine.specs.Sound.{every}
 use Rattle.machine.specs.Storage.{placed, wordAt, withStore}

@@ -8,8 +8,8 @@ use mathlib.Core.Logic.{inl, inr}
 use mathlib.Core.Path.{_≡_, refl, subst, sym}
 use borrow.Author.Tests.{ltb-true, eqb-true, eqb-false, eq-eqb, ne-eqb, not-true}
 use lib.Dec.{eqb}
-use Rattle.buddy.specs.Blocks.{size, sizeAt}
-use Rattle.buddy.specs.SetUp.{top}
+use Rattle.block.specs.Blocks.{size, sizeAt}
+use Rattle.block.specs.SetUp.{top}
 use Rattle.table.specs.declared.Row.{Row}
 use Rattle.table.specs.Row.{lengthFits, rowAt, firstOperation, goTo, done}
 use Rattle.table.specs.Table.{usable}

@@ -8,7 +8,7 @@ use lib.Dec.{leb}
 use lib.ListN.{length}
 use mathlib.Core.List.{List, List·Memᴰ}
 use mathlib.Core.Path.{_≡_, refl, subst, sym, ap, _∙_}
-use Rattle.buddy.specs.SetUp.{runs}
+use Rattle.block.specs.SetUp.{runs}
 use Rattle.machine.specs.declared.Answer.{Answer}
 use Rattle.machine.specs.declared.Answer.the-variants.{Running, Finished, Refused}
 use Rattle.machine.specs.declared.Refusal.{Refusal}

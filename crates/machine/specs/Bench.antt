@@ -4,8 +4,8 @@ use Prim.Native.Nat.{ℕ, suc, _^_}
 use mathlib.Core.Bool.{Bool}
 use mathlib.Core.List.{List, [], _∷_, _++_, map}
 use lib.ListN.{getD, take, replicate}
-use Rattle.buddy.specs.Blocks.{Block}
-use Rattle.buddy.specs.Map.{same}
+use Rattle.block.specs.Blocks.{Block}
+use Rattle.block.specs.Map.{same}
 use Rattle.machine.specs.Answer.{answerNumber}
 use Rattle.machine.specs.State.{fresh}
 use Rattle.machine.specs.Locate.{liveBlocks}

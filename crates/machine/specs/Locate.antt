@@ -7,9 +7,9 @@ use mathlib.Core.List.{List, [], _∷_}
 use lib.Dec.{eqb, ltb}
 use lib.ListN.{length, getD}
 use Rattle.word.specs.Field.{width, fieldOf}
-use Rattle.buddy.specs.Blocks.{Block, size, sizeAt}
-use Rattle.buddy.specs.SetUp.{top, words}
-use Rattle.buddy.specs.Map.{keeps, live}
+use Rattle.block.specs.Blocks.{Block, size, sizeAt}
+use Rattle.block.specs.SetUp.{top, words}
+use Rattle.block.specs.Map.{keeps, live}
 use Rattle.table.specs.declared.FieldName.{FieldName}
 use Rattle.table.specs.declared.Pair.{Pair}
 use Rattle.table.specs.Reference.{referenceOf}

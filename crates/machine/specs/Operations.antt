@@ -9,10 +9,10 @@ use lib.Dec.{eqb, leb, ltb}
 use lib.ListN.{length, getD, set, take, drop}
 use Rattle.word.specs.Word.{sum, difference, product, complement, either, both, differing, ones, zeros, leftmost, rightmost, leftShift, rightShift}
 use Rattle.character.specs.Character.{packed, allBelow, printed, blanksToZeros, toBinary, fromBinary, zerosToBlanks}
-use Rattle.buddy.specs.declared.SetUp.{SetUp}
-use Rattle.buddy.specs.Blocks.{size, level, sizeAt}
-use Rattle.buddy.specs.SetUp.{top, words, fitting, runs}
-use Rattle.buddy.specs.Map.{freshMap, freedMap, deliveredMap}
+use Rattle.block.specs.declared.SetUp.{SetUp}
+use Rattle.block.specs.Blocks.{size, level, sizeAt}
+use Rattle.block.specs.SetUp.{top, words, fitting, runs}
+use Rattle.block.specs.Map.{freshMap, freedMap, deliveredMap}
 use Rattle.table.specs.declared.FieldName.{FieldName}
 use Rattle.table.specs.declared.Row.{Row}
 use Rattle.machine.specs.declared.Refusal.{Refusal}

@@ -5,8 +5,8 @@ use mathlib.Core.Bool.{Bool, true, _&&_, _||_, not, cond}
 use mathlib.Core.List.{List, [], _∷_}
 use lib.Dec.{eqb, leb, ltb}
 use lib.ListN.{length, take}
-use Rattle.buddy.specs.SetUp.{words, fitting, absent}
-use Rattle.buddy.specs.Map.{keeps}
+use Rattle.block.specs.SetUp.{words, fitting, absent}
+use Rattle.block.specs.Map.{keeps}
 use Rattle.machine.specs.declared.Place.{Place}
 use Rattle.machine.specs.declared.Definition.{Definition}
 use Rattle.machine.specs.declared.Core.{Core}

@@ -5,7 +5,7 @@ use mathlib.Core.Bool.{Bool, false, not}
 use mathlib.Core.List.{List}
 use lib.Dec.{eqb}
 use lib.ListN.{set, replicate}
-use Rattle.buddy.specs.declared.SetUp.{SetUp}
+use Rattle.block.specs.declared.SetUp.{SetUp}
 use Rattle.table.specs.declared.BugLetter.{BugLetter}
 use Rattle.table.specs.declared.FieldName.{FieldName}
 use Rattle.machine.specs.declared.Place.{Place}

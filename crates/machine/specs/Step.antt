@@ -6,7 +6,7 @@ use mathlib.Core.List.{List, _∷_, List·Memᴰ}
 use mathlib.Core.Path.{_≡_}
 use lib.Dec.{eqb, ltb}
 use lib.ListN.{getD}
-use Rattle.buddy.specs.declared.SetUp.{SetUp}
+use Rattle.block.specs.declared.SetUp.{SetUp}
 use Rattle.table.specs.Row.{lengthFits, rows, rowAt, firstTest, firstOperation, goTo, done}
 use Rattle.table.specs.Table.{usable}
 use Rattle.machine.specs.declared.Refusal.the-variants.{TableLength, BadRow, Unsound, BeforeSetUp, SecondSetUp, StackEmpty}

@@ -70,7 +70,7 @@ pub struct Core {
     pub contents: ContentsStack,
     pub saved: DefinitionStack,
     pub calls: CallStack,
-    pub setup: buddy::SetUp,
+    pub setup: block::SetUp,
     pub taken: usize,
     pub written: usize,
 }
@@ -84,7 +84,7 @@ pub struct State {
 pub struct Environment {
     pub bugs: [u64; 26],
     pub definitions: [Definition; 36],
-    pub setup: buddy::SetUp,
+    pub setup: block::SetUp,
 }
 
 // Where a reference leads: a bug, or bits left to right of the word at an address.

@@ -1,7 +1,7 @@
 -- `words_of` counts the set-up words. Assumes nothing.
 use mathlib.Core.Path.{sym}
 use native.Mathlib.Omega.{arith}
-use Rattle.buddy.proofs.Size.{words-set, words-none}
+use Rattle.block.proofs.Size.{words-set, words-none}
 use borrow.Author.Needs.{needs}
 use Rattle.buddy.proofs.section.words_of.Statement.{statement}
 use Rattle.buddy.proofs.section.words_of.Tie as tie

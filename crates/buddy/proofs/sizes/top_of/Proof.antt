@@ -1,5 +1,5 @@
 -- `top_of` gives the place of the largest size. Assumes nothing.
-use Rattle.buddy.specs.SetUp.{top}
+use Rattle.block.specs.SetUp.{top}
 use borrow.Author.Needs.{needs}
 use Rattle.buddy.proofs.sizes.top_of.Statement.{statement}
 use Rattle.buddy.proofs.sizes.top_of.Tie as tie

@@ -1,6 +1,6 @@
 -- `free_tag` gives the byte of a free block. Assumes nothing.
 use native.Mathlib.Omega.{arith}
-use Rattle.buddy.specs.Map.{freeTag}
+use Rattle.block.specs.Map.{freeTag}
 use borrow.Author.Needs.{needs}
 use Rattle.buddy.proofs.tree.free_tag.Statement.{statement}
 use Rattle.buddy.proofs.tree.free_tag.Tie as tie

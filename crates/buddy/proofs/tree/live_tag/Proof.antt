@@ -1,6 +1,6 @@
 -- `live_tag` gives the byte of a live block. Assumes nothing.
 use native.Mathlib.Omega.{arith}
-use Rattle.buddy.specs.Map.{liveTag}
+use Rattle.block.specs.Map.{liveTag}
 use borrow.Author.Needs.{needs}
 use Rattle.buddy.proofs.tree.live_tag.Statement.{statement}
 use Rattle.buddy.proofs.tree.live_tag.Tie as tie

@@ -1,11 +1,11 @@
-use Rattle.buddy.proofs.Zeros.{zero-next, zero-not, zero-end}
+use Rattle.block.proofs.Zeros.{zero-next, zero-not, zero-end}
 -- Assumes nothing.
 -- `zero_from` tests that every byte from a place on is zero. The loop's invariant: the answer is that of the bytes from i on.
 use mathlib.Core.Path.{_≡_, refl, sym, _∙_}
 use Prim.Native.Nat.{_≤_, _-_}
 use native.Mathlib.Omega.{arith}
 use lib.ListN.{length, drop, replicate}
-use Rattle.buddy.specs.Map.{same}
+use Rattle.block.specs.Map.{same}
 use Rattle.buddy.proofs.tree.zero_from.Statement.{statement}
 use Rattle.buddy.proofs.tree.zero_from.Tie as tie
 

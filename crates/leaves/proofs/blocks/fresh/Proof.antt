@@ -2,9 +2,9 @@
 use mathlib.Core.Path.{_≡_}
 use Prim.Native.Nat.{_-_, _≤_, _<_}
 use native.Mathlib.Omega.{arith}
-use Rattle.buddy.proofs.Address.{top-le}
-use Rattle.buddy.proofs.Halves.{size-small}
-use Rattle.buddy.proofs.Size.{size-pos}
+use Rattle.block.proofs.Address.{top-le}
+use Rattle.block.proofs.Halves.{size-small}
+use Rattle.block.proofs.Size.{size-pos}
 use borrow.Author.Needs.{needs}
 use Rattle.leaves.proofs.blocks.fresh.Statement.{statement}
 use Rattle.leaves.proofs.blocks.fresh.Tie as tie

@@ -3,10 +3,10 @@ use mathlib.Core.Path.{_≡_, sym, _∙_}
 use mathlib.Core.List.{List, [], _∷_, List·Memᴰ, List·Memᴰ·head}
 use Prim.Native.Nat.{ℕ}
 use native.Mathlib.Omega.{arith}
-use Rattle.buddy.specs.Lowest.{firstOf}
-use Rattle.buddy.proofs.Address.{top-le}
-use Rattle.buddy.proofs.Runs.{runs-sound}
-use Rattle.buddy.proofs.Size.{size-pos, level-le}
+use Rattle.block.specs.Lowest.{firstOf}
+use Rattle.block.proofs.Address.{top-le}
+use Rattle.block.proofs.Runs.{runs-sound}
+use Rattle.block.proofs.Size.{size-pos, level-le}
 use borrow.Author.Needs.{needs}
 use Rattle.leaves.proofs.blocks.get.Statement.{statement}
 use Rattle.leaves.proofs.blocks.get.Tie as tie

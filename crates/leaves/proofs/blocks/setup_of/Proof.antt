@@ -1,6 +1,6 @@
 -- `leaves::blocks::setup_of` meets its contract: each set-up fits, by computing. Assumes nothing.
-use Rattle.buddy.specs.Blocks.{size, level}
-use Rattle.buddy.specs.SetUp.{top, words}
+use Rattle.block.specs.Blocks.{size, level}
+use Rattle.block.specs.SetUp.{top, words}
 use borrow.Author.Needs.{needs}
 use Rattle.leaves.proofs.blocks.setup_of.Statement.{statement}
 use Rattle.leaves.proofs.blocks.setup_of.Tie as tie

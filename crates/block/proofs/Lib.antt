@@ -7,7 +7,7 @@ pub mod Tiling
 pub mod Runs
 pub mod Laws
 pub mod Halves
-pub mod Part
+pub mod Parts
 pub mod Tags
 pub mod Zeros
 pub mod Lowest

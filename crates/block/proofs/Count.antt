@@ -7,16 +7,16 @@ use native.Mathlib.Nat.{div-add-mod'}
 use native.Mathlib.Omega.{arith}
 use lib.Dec.{eqb}
 use lib.ListN.{length, drop, replicate}
-use Rattle.buddy.specs.declared.SetUp.{SetUp}
-use Rattle.buddy.specs.Blocks.{size}
-use Rattle.buddy.specs.SetUp.{top, words, runs}
-use Rattle.buddy.specs.Map.{same, allTold, trees, keeps, live}
-use Rattle.buddy.specs.Part.{allWhole}
-use Rattle.buddy.specs.Lowest.{firstOf, lowestOf}
+use Rattle.block.specs.declared.SetUp.{SetUp}
+use Rattle.block.specs.Blocks.{size}
+use Rattle.block.specs.SetUp.{top, words, runs}
+use Rattle.block.specs.Map.{same, allTold, trees, keeps, live}
+use Rattle.block.specs.Part.{allWhole}
+use Rattle.block.specs.Lowest.{firstOf, lowestOf}
 use Rattle.word.proofs.Tests.{either-way, by-test}
-use Rattle.buddy.proofs.Map.{keeps-long}
-use Rattle.buddy.proofs.Keeping.{keeps-whole, keeps-all}
-use Rattle.buddy.proofs.First.{first-run}
+use Rattle.block.proofs.Map.{keeps-long}
+use Rattle.block.proofs.Keeping.{keeps-whole, keeps-all}
+use Rattle.block.proofs.First.{first-run}
 
 -- there are no more words than addresses from the first to the last
 pub words-le : (u : SetUp) → words u ≤ suc (u .s2) - u .s1

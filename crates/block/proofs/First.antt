@@ -9,19 +9,19 @@ use native.Mathlib.Omega.{arith}
 use lib.Dec.{leb}
 use lib.ListN.{length}
 use borrow.Author.Tests.{lt-leb}
-use Rattle.buddy.specs.declared.Found.the-variants.{At, Nothing}
-use Rattle.buddy.specs.Blocks.{size, Block, Tree, Free, Live, Halves, liveIn, gathered, outside, runsFrom}
-use Rattle.buddy.specs.Map.{isFree, canonical, allCanonical, trees, live, keeps}
-use Rattle.buddy.specs.declared.SetUp.{SetUp}
-use Rattle.buddy.specs.SetUp.{top, words, runs}
-use Rattle.buddy.specs.Lowest.{firstOf, orElse, lowestIn, lowestOf}
+use Rattle.block.specs.declared.Found.the-variants.{At, Nothing}
+use Rattle.block.specs.Blocks.{size, Block, Tree, Free, Live, Halves, liveIn, gathered, outside, runsFrom}
+use Rattle.block.specs.Map.{isFree, canonical, allCanonical, trees, live, keeps}
+use Rattle.block.specs.declared.SetUp.{SetUp}
+use Rattle.block.specs.SetUp.{top, words, runs}
+use Rattle.block.specs.Lowest.{firstOf, orElse, lowestIn, lowestOf}
 use Rattle.word.proofs.Tests.{and-true, and-false, by-leb, by-test}
-use Rattle.buddy.proofs.Size.{size-pos, size-suc, size-divides}
-use Rattle.buddy.proofs.Map.{canonical-halves, keeps-parts, trees-fill}
-use Rattle.buddy.proofs.Each.{Each, each-map}
-use Rattle.buddy.proofs.Runs.{each-outside}
-use Rattle.buddy.proofs.Part.{and-assoc}
-use Rattle.buddy.proofs.Within.{Within, live-within, all-within}
+use Rattle.block.proofs.Size.{size-pos, size-suc, size-divides}
+use Rattle.block.proofs.Map.{canonical-halves, keeps-parts, trees-fill}
+use Rattle.block.proofs.Each.{Each, each-map}
+use Rattle.block.proofs.Runs.{each-outside}
+use Rattle.block.proofs.Parts.{and-assoc}
+use Rattle.block.proofs.Within.{Within, live-within, all-within}
 
 -- the first of two lists
 first-append : (xs ys : List ℕ) → firstOf (xs ++ ys) ≡ orElse (firstOf xs) (firstOf ys)

@@ -10,12 +10,12 @@ use lib.Dec.{eqb}
 use lib.ListN.{length, getD, take, drop, replicate, length-append, length-replicate, List·getD-append}
 use lib.Seq.{take-at, drop-at}
 use borrow.Author.Tests.{eqb-true, eq-eqb, ne-eqb}
-use Rattle.buddy.specs.declared.SetUp.{SetUp}
-use Rattle.buddy.specs.Blocks.{size, Tree, Free, Live, Halves, gathered}
-use Rattle.buddy.specs.SetUp.{top, words}
-use Rattle.buddy.specs.Map.{freeTag, liveTag, written, told, isFree, canonical, allWritten, allTold, allCanonical, same, trees, mapOf, keeps, live, free}
+use Rattle.block.specs.declared.SetUp.{SetUp}
+use Rattle.block.specs.Blocks.{size, Tree, Free, Live, Halves, gathered}
+use Rattle.block.specs.SetUp.{top, words}
+use Rattle.block.specs.Map.{freeTag, liveTag, written, told, isFree, canonical, allWritten, allTold, allCanonical, same, trees, mapOf, keeps, live, free}
 use Rattle.word.proofs.Tests.{and-true}
-use Rattle.buddy.proofs.Size.{size-zero, size-suc, size-pos}
+use Rattle.block.proofs.Size.{size-zero, size-suc, size-pos}
 
 -- a block of the k-th size has as many bytes
 pub length-written : (k : ℕ) (t : Tree) → length (written k t) ≡ size k

@@ -5,9 +5,9 @@ use mathlib.Core.Bool.{Bool, true, false, not, _&&_, cond}
 use mathlib.Core.List.{List, [], _∷_, _++_}
 use lib.Dec.{eqb}
 use lib.ListN.{length, getD, take, drop, replicate}
-use Rattle.buddy.specs.declared.SetUp.{SetUp}
-use Rattle.buddy.specs.Blocks.{size, Block, Tree, Free, Live, Halves, liveIn, freeIn, freed, delivered, gathered, changed}
-use Rattle.buddy.specs.SetUp.{top, words}
+use Rattle.block.specs.declared.SetUp.{SetUp}
+use Rattle.block.specs.Blocks.{size, Block, Tree, Free, Live, Halves, liveIn, freeIn, freed, delivered, gathered, changed}
+use Rattle.block.specs.SetUp.{top, words}
 
 -- the byte of a free block of the k-th size, and of a live one
 unfoldable pub freeTag : ℕ → ℕ

@@ -9,11 +9,11 @@ use native.Mathlib.Nat.{mul-sub, div-add-mod', le-div-iff-mul-le, add-mul-mod-se
 use native.Mathlib.Omega.{arith}
 use lib.Dec.{leb}
 use borrow.Author.Tests.{leb-true, le-leb}
-use Rattle.buddy.specs.declared.SetUp.{SetUp}
-use Rattle.buddy.specs.Blocks.{Block, outside, runsFrom}
-use Rattle.buddy.specs.SetUp.{words, runs}
+use Rattle.block.specs.declared.SetUp.{SetUp}
+use Rattle.block.specs.Blocks.{Block, outside, runsFrom}
+use Rattle.block.specs.SetUp.{words, runs}
 use Rattle.word.proofs.Tests.{and-true, either-way, by-test, by-leb}
-use Rattle.buddy.proofs.Each.{Each, each-nil, each-cons, each-mem, mem-each}
+use Rattle.block.proofs.Each.{Each, each-nil, each-cons, each-mem, mem-each}
 
 -- one of two tests of a disjunction that holds
 or-true : (s t : Bool) → (s || t) ≡ true → (s ≡ true) ⊎ (t ≡ true)

@@ -9,13 +9,13 @@ use lib.Dec.{eqb, ltb}
 use lib.ListN.{length, getD, replicate, getD-replicate, List·getD-append, List·getD-eq-default, length-replicate}
 use lib.Seq.{getD-append-add}
 use borrow.Author.Tests.{eq-eqb, ne-eqb, le-ltb}
-use Rattle.buddy.specs.Blocks.{size, Block, Tree, Free, Live, Halves, liveIn, gathered, sizeAt}
-use Rattle.buddy.specs.Map.{freeTag, liveTag, written, allWritten}
-use Rattle.buddy.specs.Tag.{tagSize}
+use Rattle.block.specs.Blocks.{size, Block, Tree, Free, Live, Halves, liveIn, gathered, sizeAt}
+use Rattle.block.specs.Map.{freeTag, liveTag, written, allWritten}
+use Rattle.block.specs.Tag.{tagSize}
 use Rattle.word.proofs.Tests.{by-leb}
-use Rattle.buddy.proofs.Size.{size-pos, size-suc, size-zero}
-use Rattle.buddy.proofs.Map.{length-written}
-use Rattle.buddy.proofs.Each.{Each, each-nil, each-cons, each-append, each-map}
+use Rattle.block.proofs.Size.{size-pos, size-suc, size-zero}
+use Rattle.block.proofs.Map.{length-written}
+use Rattle.block.proofs.Each.{Each, each-nil, each-cons, each-append, each-map}
 
 -- a block lies from a to before b
 pub record Within (a b : ℕ) (x : Block) : Type 0 where

@@ -10,17 +10,17 @@ use native.Mathlib.Omega.{arith}
 use lib.Dec.{leb, ltb}
 use lib.ListN.{length}
 use borrow.Author.Tests.{lt-ltb, le-ltb}
-use Rattle.buddy.specs.declared.SetUp.{SetUp}
-use Rattle.buddy.specs.Blocks.{size, Block, Tree, Free, Live, Halves, joined, liveIn, freed, delivered, gathered, changed, outside}
-use Rattle.buddy.specs.SetUp.{top, fitting}
-use Rattle.buddy.specs.Map.{isFree, canonical, allCanonical, trees, keeps, live, freedMap, deliveredMap}
+use Rattle.block.specs.declared.SetUp.{SetUp}
+use Rattle.block.specs.Blocks.{size, Block, Tree, Free, Live, Halves, joined, liveIn, freed, delivered, gathered, changed, outside}
+use Rattle.block.specs.SetUp.{top, fitting}
+use Rattle.block.specs.Map.{isFree, canonical, allCanonical, trees, keeps, live, freedMap, deliveredMap}
 use Rattle.word.proofs.Tests.{and-true, either-way, by-leb}
-use Rattle.buddy.proofs.Size.{size-suc, size-pos, size-mono, aligned-smaller, fitting-facts}
-use Rattle.buddy.proofs.Map.{canonical-halves, keeps-parts, length-trees}
-use Rattle.buddy.proofs.Change.{keeps-delivered}
-use Rattle.buddy.proofs.Runs.{Apart, outside-each}
-use Rattle.buddy.proofs.Each.{Each, each-nil, each-cons, each-map, each-mem, each-parts}
-use Rattle.buddy.proofs.Tiling.{InOrder, lies-pos, order-append, order-each, tree-order, forest-order}
+use Rattle.block.proofs.Size.{size-suc, size-pos, size-mono, aligned-smaller, fitting-facts}
+use Rattle.block.proofs.Map.{canonical-halves, keeps-parts, length-trees}
+use Rattle.block.proofs.Change.{keeps-delivered}
+use Rattle.block.proofs.Runs.{Apart, outside-each}
+use Rattle.block.proofs.Each.{Each, each-nil, each-cons, each-map, each-mem, each-parts}
+use Rattle.block.proofs.Tiling.{InOrder, lies-pos, order-append, order-each, tree-order, forest-order}
 
 -- halves that are not both free stay halves
 joined-apart : (l r : Tree) → not (isFree l && isFree r) ≡ true → joined l r ≡ Halves l r

@@ -8,13 +8,13 @@ use native.Mathlib.Nat.{div-add-mod'}
 use native.Mathlib.Omega.{arith}
 use lib.Dec.{leb, ltb}
 use lib.ListN.{length, replicate, length-replicate}
-use Rattle.buddy.specs.declared.SetUp.{SetUp}
-use Rattle.buddy.specs.Blocks.{size, Tree, Free, Live, Halves, joined, freed, delivered, changed}
-use Rattle.buddy.specs.SetUp.{top, words, fitting}
-use Rattle.buddy.specs.Map.{isFree, canonical, allCanonical, allWritten, trees, mapOf, keeps, freshMap, freedMap, deliveredMap}
+use Rattle.block.specs.declared.SetUp.{SetUp}
+use Rattle.block.specs.Blocks.{size, Tree, Free, Live, Halves, joined, freed, delivered, changed}
+use Rattle.block.specs.SetUp.{top, words, fitting}
+use Rattle.block.specs.Map.{isFree, canonical, allCanonical, allWritten, trees, mapOf, keeps, freshMap, freedMap, deliveredMap}
 use Rattle.word.proofs.Tests.{and-true, and-false, either-way, by-leb}
-use Rattle.buddy.proofs.Size.{fitting-facts}
-use Rattle.buddy.proofs.Map.{canonical-halves, keeps-parts, keeps-words, keeps-mapOf, trees-mapOf, trees-fill, length-mapOf}
+use Rattle.block.proofs.Size.{fitting-facts}
+use Rattle.block.proofs.Map.{canonical-halves, keeps-parts, keeps-words, keeps-mapOf, trees-mapOf, trees-fill, length-mapOf}
 
 -- a free block is canonical
 free-canonical : (k : ℕ) → canonical k Free ≡ true

@@ -4,8 +4,8 @@ use Prim.Native.Nat.{ℕ, suc, _-_, _/_, _%_}
 use mathlib.Core.Bool.{Bool, _&&_, cond}
 use mathlib.Core.List.{List}
 use lib.Dec.{eqb, leb, ltb}
-use Rattle.buddy.specs.declared.SetUp.{SetUp}
-use Rattle.buddy.specs.Blocks.{size, level, Block, runsFrom}
+use Rattle.block.specs.declared.SetUp.{SetUp}
+use Rattle.block.specs.Blocks.{size, level, Block, runsFrom}
 
 -- d is 1, 2, 4, .. or 128: the place of its size among the sizes
 unfoldable pub top : ℕ → ℕ

@@ -10,15 +10,15 @@ use native.Mathlib.Omega.{arith}
 use lib.Dec.{leb, ltb}
 use lib.ListN.{length}
 use borrow.Author.Tests.{lt-ltb, le-ltb, le-leb, lt-leb, eq-eqb, ne-eqb}
-use Rattle.buddy.specs.declared.SetUp.{SetUp}
-use Rattle.buddy.specs.Blocks.{size, Block, Tree, Free, Live, Halves, liveIn, freeIn, gathered, sizeAt}
-use Rattle.buddy.specs.SetUp.{top, words, fitting}
-use Rattle.buddy.specs.Map.{canonical, allCanonical, trees, keeps, live, free}
+use Rattle.block.specs.declared.SetUp.{SetUp}
+use Rattle.block.specs.Blocks.{size, Block, Tree, Free, Live, Halves, liveIn, freeIn, gathered, sizeAt}
+use Rattle.block.specs.SetUp.{top, words, fitting}
+use Rattle.block.specs.Map.{canonical, allCanonical, trees, keeps, live, free}
 use Rattle.word.proofs.Tests.{and-true, by-leb, by-eqb}
-use Rattle.buddy.proofs.Size.{size-pos, size-suc, aligned-smaller, fitting-facts}
-use Rattle.buddy.proofs.Map.{canonical-halves, keeps-parts, trees-fill}
-use Rattle.buddy.proofs.Change.{words-whole}
-use Rattle.buddy.proofs.Each.{Each, each-nil, each-cons, each-append, each-map, each-mem}
+use Rattle.block.proofs.Size.{size-pos, size-suc, aligned-smaller, fitting-facts}
+use Rattle.block.proofs.Map.{canonical-halves, keeps-parts, trees-fill}
+use Rattle.block.proofs.Change.{words-whole}
+use Rattle.block.proofs.Each.{Each, each-nil, each-cons, each-append, each-map, each-mem}
 
 -- a block lies from a to before b, aligned, and its size is one of those up to the k-th
 pub record Lies (k a b : ℕ) (x : Block) : Type 0 where

@@ -7,9 +7,9 @@ use native.Mathlib.Omega.{arith}
 use lib.Dec.{eqb, leb, ltb}
 use lib.Pow.{pow-pos, pow-mono, pow-add}
 use borrow.Author.Tests.{ltb-true, leb-true, eqb-true, eq-eqb, ne-eqb}
-use Rattle.buddy.specs.declared.SetUp.{SetUp}
-use Rattle.buddy.specs.Blocks.{size, level}
-use Rattle.buddy.specs.SetUp.{top, words, fitting, absent}
+use Rattle.block.specs.declared.SetUp.{SetUp}
+use Rattle.block.specs.Blocks.{size, level}
+use Rattle.block.specs.SetUp.{top, words, fitting, absent}
 use Rattle.word.proofs.Tests.{and-true, by-leb}
 
 -- the first size
