@@ -2,8 +2,8 @@
 -- Assumes nothing.
 use Prim.Native.Nat.{ℕ, suc, _-_, _/_, _≤_, _<_}
 use native.Mathlib.Omega.{arith}
-use mathlib.Core.Bool.{Bool, true, false, _&&_, _||_}
-use mathlib.Core.Path.{_≡_, refl, ap, ap₂, sym, _∙_}
+use mathlib.Core.Bool.{Bool, Bool·beq, true, false, not, _&&_, cond}
+use mathlib.Core.Path.{_≡_, refl, ap, sym, _∙_}
 use borrow.Author.Tests.{le-leb, lt-leb, lt-ltb, le-ltb, eq-eqb, ne-eqb}
 use mathlib.Core.List.{List}
 use lib.Dec.{leb}
@@ -14,25 +14,25 @@ use Rattle.table.specs.declared.TableCheck.the-variants.{Lowest, BadLeng
 use Rattle.table.specs.declared.Operand.{Operand}
 use Rattle.table.specs.declared.Pair.{Pair}
 use Rattle.table.specs.Operands.{testShape, takes}
-use Rattle.table.specs.Table.{fits, hasMode, hasTests, goesOn, restUnused, complete, isLine, isTest, shapeOf, isOperation, chained, shaped, wellFormedAs, wellFormed, usable, lowestFrom, checked}
+use Rattle.table.specs.Table.{fits, isLine, isTest, shapeOf, isOperation, chained, shaped, wellFormedAs, wellFormed, usable, lowestFrom, checked}
 use Rattle.table.specs.Row.{lengthFits, rows, rowAt}
 
 -- a pair's test is the definition's at the operand that is told
 pub takes-at : (b rows : ℕ) (p : Pair) {x y : Operand} {t : Bool} → x ≡ y → t ≡ takes b rows y p → t ≡ takes b rows x p
 takes-at b rows p e h = h ∙ ap (λ (z : Operand). takes b rows z p) (sym e)
 
--- a line's numbers
-pub complete-from : (row : Row) {mode tests on unused rest more : Bool} {all : Bool} → mode ≡ hasMode row → tests ≡ hasTests row → on ≡ goesOn row
-    → unused ≡ restUnused row → rest ≡ (on && unused) → more ≡ (tests && rest) → all ≡ (mode && more) → all ≡ complete row
-unfolding complete
-complete-from row m t o u r k a = a ∙ ap₂ _&&_ m (k ∙ ap₂ _&&_ t (r ∙ ap₂ _&&_ o u))
+-- two tests that come to the same
+pub same-tests : (x y : Bool) → Bool·beq x y ≡ cond x y (not y)
+same-tests true true = refl
+same-tests true false = refl
+same-tests false true = refl
+same-tests false false = refl
 
 -- a test
-pub test-from : (b rows : ℕ) (row : Row) {s : Shape} {fit few all : Bool} → s ≡ testShape → fit ≡ fits b rows s row → few ≡ (leb (row .code) 7 && fit)
-    → all ≡ (leb 1 (row .code) && few) → all ≡ isTest b rows row
+pub test-from : (b rows : ℕ) (row : Row) {s : Shape} {fit : Bool} → s ≡ testShape → fit ≡ fits b rows s row
+    → (leb 1 (row .code) && (leb (row .code) 7 && fit)) ≡ isTest b rows row
 unfolding isTest
-test-from b rows row s f n a =
-    a ∙ ap (λ (t : Bool). leb 1 (row .code) && t) (n ∙ ap (λ (t : Bool). leb (row .code) 7 && t) (f ∙ ap (λ (s : Shape). fits b rows s row) s))
+test-from b rows row s f = ap (λ (t : Bool). leb 1 (row .code) && (leb (row .code) 7 && t)) (f ∙ ap (λ (s : Shape). fits b rows s row) s)
 
 -- an operation: its code is out of range, or its pairs fit
 pub operation-small : (b rows : ℕ) (row : Row) → row .code < 1 → false ≡ isOperation b rows row
@@ -75,12 +75,6 @@ pub formed-from : (kind b rows r : ℕ) (row : Row) {t : Bool} → row .kind ≡
     → t ≡ wellFormedAs kind b rows r row
 unfolding wellFormedAs
 formed-from kind b rows r row k c t = rw (eq-eqb _ _ k, c) t
-
--- a row of any kind
-pub formed-any : (b rows r : ℕ) (row : Row) {line test operation two any : Bool} → line ≡ wellFormedAs 1 b rows r row → test ≡ wellFormedAs 2 b rows r row
-    → operation ≡ wellFormedAs 3 b rows r row → two ≡ (line || test) → any ≡ (two || operation) → any ≡ wellFormed b rows r row
-unfolding wellFormed
-formed-any b rows r row l t o w a = a ∙ ap₂ _||_ (w ∙ ap₂ _||_ l t) o
 
 -- a row that is used: missing below or above, or as it is formed
 pub missing-low : (kind b : ℕ) (table : List ℕ) (r : ℕ) → r < 1 → false ≡ usable kind b table r

@@ -13,7 +13,6 @@ use crate::Shape;
 use crate::TableCheck;
 use crate::operands;
 use crate::rows;
-use crate::tests;
 
 // The shape of an operation, or of a test, that has no name.
 fn unnamed(x: Operand, y: Operand, z: Operand) -> Shape
@@ -122,7 +121,7 @@ fn shape_of(code: u64) -> Shape
 fn row_or_none(rows: u64, r: u64) -> bool
     ensures { λ x. ⌜ x ≡ rowOrNone rows r ⌝ }
 {
-    tests::either(r == 0, r < rows)
+    (r == 0) | (r < rows)
 }
 
 // A line's first test row, first operation row and go-to, which may be DONE.
@@ -131,60 +130,57 @@ fn names_rows(rows: u64, row: Row) -> bool
 {
     let test = row_or_none(rows, row.first.form);
     let operation = row_or_none(rows, row.first.value);
-    let goes = tests::either(row_or_none(rows, row.second.form), row.second.form == 65535);
-    tests::both(test, tests::both(operation, goes))
+    let goes = row_or_none(rows, row.second.form) | (row.second.form == 65535);
+    test & (operation & goes)
 }
 
 // One of the five modes, and no name.
 fn has_mode(row: Row) -> bool
     ensures { λ x. ⌜ x ≡ hasMode row ⌝ }
 {
-    tests::both(row.code <= 4, row.name == 0)
+    (row.code <= 4) & (row.name == 0)
 }
 
 // THEN has no test, the others have one or more.
 fn has_tests(row: Row) -> bool
     ensures { λ x. ⌜ x ≡ hasTests row ⌝ }
 {
-    let none = row.first.form == 0;
-    tests::same(row.code == 0, none)
+    (row.code == 0) == (row.first.form == 0)
 }
 
 // Without operations a go-to is needed.
 fn goes_on(row: Row) -> bool
     ensures { λ x. ⌜ x ≡ goesOn row ⌝ }
 {
-    !tests::both(row.first.value == 0, row.second.form == 0)
+    !((row.first.value == 0) & (row.second.form == 0))
 }
 
 // Unused numbers are zero.
 fn rest_unused(row: Row) -> bool
     ensures { λ x. ⌜ x ≡ restUnused row ⌝ }
 {
-    tests::both(row.second.value == 0, operands::is_absent(row.third))
+    (row.second.value == 0) & operands::is_absent(row.third)
 }
 
 // A line's numbers but the rows that it names.
 fn is_complete(row: Row) -> bool
     ensures { λ x. ⌜ x ≡ complete row ⌝ }
 {
-    let rest = tests::both(goes_on(row), rest_unused(row));
-    tests::both(has_mode(row), tests::both(has_tests(row), rest))
+    has_mode(row) & (has_tests(row) & (goes_on(row) & rest_unused(row)))
 }
 
 // Kind 1, a line.
 fn is_line(rows: u64, row: Row) -> bool
     ensures { λ x. ⌜ x ≡ isLine rows row ⌝ }
 {
-    tests::both(names_rows(rows, row), is_complete(row))
+    names_rows(rows, row) & is_complete(row)
 }
 
 // Kind 2, a test: codes 1 to 7.
 fn is_test(b: u64, rows: u64, row: Row) -> bool
     ensures { λ x. ⌜ x ≡ isTest b rows row ⌝ }
 {
-    let shaped = operands::has_shape(b, rows, a_and_cd(), row);
-    tests::both(1 <= row.code, tests::both(row.code <= 7, shaped))
+    (1 <= row.code) & ((row.code <= 7) & operands::has_shape(b, rows, a_and_cd(), row))
 }
 
 // Kind 3, an operation: codes 1 to 36.
@@ -230,7 +226,7 @@ fn has_kind(kind: u64, b: u64, rows: u64, row: Row) -> bool
 fn is_chained(rows: u64, r: u64, next: u64) -> bool
     ensures { λ x. ⌜ x ≡ chained rows r next ⌝ }
 {
-    tests::either(next == 0, tests::both(r < next, next < rows))
+    (next == 0) | ((r < next) & (next < rows))
 }
 
 // Row r is well-formed.
@@ -240,7 +236,7 @@ fn well_formed(b: u64, rows: u64, r: u64, row: Row) -> bool
     let line = well_formed_as(1, b, rows, r, row);
     let test = well_formed_as(2, b, rows, r, row);
     let operation = well_formed_as(3, b, rows, r, row);
-    tests::either(tests::either(line, test), operation)
+    line | test | operation
 }
 
 // The table's length is 20 to 8,000 and a multiple of ten.
@@ -248,7 +244,7 @@ pub fn has_length(table: &[u64]) -> bool
     ensures { λ x. ⌜ x ≡ lengthFits (now (table .entry)) ⌝ }
 {
     let n = table.len();
-    tests::both(tests::both(20 <= n, n <= 8000), n % 10 == 0)
+    (20 <= n) & (n <= 8000) & (n % 10 == 0)
 }
 
 // Row r can be used as this kind: it is there, well-formed and of this kind.

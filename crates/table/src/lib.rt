@@ -3,7 +3,6 @@ pub mod check;
 mod operands;
 pub mod references;
 pub mod rows;
-mod tests;
 
 // A bug's letter: A is 0, Z is 25. It never selects a field's definition.
 pub struct BugLetter(pub u8);

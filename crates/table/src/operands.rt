@@ -9,14 +9,13 @@ use crate::Pair;
 use crate::Row;
 use crate::Shape;
 use crate::references;
-use crate::tests;
 use word::arithmetic;
 
 // Form 0, absent.
 pub(crate) fn is_absent(p: Pair) -> bool
     ensures { λ r. ⌜ r ≡ isAbsent p ⌝ }
 {
-    tests::both(p.form == 0, p.value == 0)
+    (p.form == 0) & (p.value == 0)
 }
 
 // A number below 2^b: each is, where b is 64 or more.
@@ -34,21 +33,21 @@ fn fits_word(b: u64, v: u64) -> bool
 fn is_literal(b: u64, p: Pair) -> bool
     ensures { λ r. ⌜ r ≡ isLiteral b p ⌝ }
 {
-    tests::both(p.form == 1, fits_word(b, p.value))
+    (p.form == 1) & fits_word(b, p.value)
 }
 
 // Form 2, a reference.
 fn is_ref(p: Pair) -> bool
     ensures { λ r. ⌜ r ≡ isRef p ⌝ }
 {
-    tests::both(p.form == 2, references::is_reference(p.value))
+    (p.form == 2) & references::is_reference(p.value)
 }
 
 // The literal 0.
 fn is_zero(p: Pair) -> bool
     ensures { λ r. ⌜ r ≡ isZero p ⌝ }
 {
-    tests::both(p.form == 1, p.value == 0)
+    (p.form == 1) & (p.value == 0)
 }
 
 // A pair is such an operand, in a table of this many rows.
@@ -59,10 +58,10 @@ fn is_operand(b: u64, rows: u64, x: Operand, p: Pair) -> bool
         Operand::Absent => is_absent(p),
         Operand::Literal => is_literal(b, p),
         Operand::Reference => is_ref(p),
-        Operand::Either => tests::either(is_literal(b, p), is_ref(p)),
-        Operand::ReferenceOrAbsent => tests::either(is_ref(p), is_absent(p)),
-        Operand::ReferenceOrZero => tests::either(is_ref(p), is_zero(p)),
-        Operand::Line => tests::both(is_literal(b, p), tests::both(1 <= p.value, p.value < rows)),
+        Operand::Either => is_literal(b, p) | is_ref(p),
+        Operand::ReferenceOrAbsent => is_ref(p) | is_absent(p),
+        Operand::ReferenceOrZero => is_ref(p) | is_zero(p),
+        Operand::Line => is_literal(b, p) & ((1 <= p.value) & (p.value < rows)),
     }
 }
 
@@ -76,7 +75,7 @@ fn has_pairs(b: u64, rows: u64, s: Shape, row: Row) -> bool
     let first = is_operand(b, rows, x, row.first);
     let second = is_operand(b, rows, y, row.second);
     let third = is_operand(b, rows, z, row.third);
-    tests::both(first, tests::both(second, third))
+    first & (second & third)
 }
 
 // The largest name number that a row may have: 35 where there is a name.
@@ -91,5 +90,5 @@ pub(crate) fn has_shape(b: u64, rows: u64, s: Shape, row: Row) -> bool
     ensures { λ r. ⌜ r ≡ fits b rows s row ⌝ }
 {
     let most = largest_name(s.named);
-    tests::both(row.name <= most, has_pairs(b, rows, s, row))
+    (row.name <= most) & has_pairs(b, rows, s, row)
 }

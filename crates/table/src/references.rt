@@ -12,7 +12,7 @@ use crate::Names;
 fn is_name(lowest: u64, x: u64) -> bool
     ensures { λ r. ⌜ r ≡ names lowest x ⌝ }
 {
-    lowest <= x && x <= 36
+    (lowest <= x) & (x <= 36)
 }
 
 // v is a reference: six base-64 digits at most, the first a bug's, the others fields'.

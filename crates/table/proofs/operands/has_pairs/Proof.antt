@@ -1,7 +1,7 @@
 -- `table::operands::has_pairs` meets its contract. Assumes nothing.
 use borrow.Author.Needs.{needs}
 use mathlib.Core.Bool.{_&&_}
-use mathlib.Core.Path.{ap₂, _∙_}
+use mathlib.Core.Path.{ap₂}
 use Rattle.table.specs.Table.{fitPairs}
 use Rattle.table.proofs.operands.has_pairs.Statement.{statement}
 use Rattle.table.proofs.operands.has_pairs.Tie as tie
@@ -15,27 +15,9 @@ is-operand-requires-2 c κs = search needs
 is-operand-requires-3 : tie.Need-is-operand-requires-3
 is-operand-requires-3 c κs = search needs
 
-both-requires : tie.Need-both-requires
-both-requires c κs = search needs
-
-both-requires-2 : tie.Need-both-requires-2
-both-requires-2 c κs = search needs
-
 returns : tie.Need-returns
 unfolding fitPairs
-returns c =
-    let three = c .before .before in
-    c .both2 .ensures
-    ∙ ap₂ _&&_ (three .before .before .is-operand .ensures)
-    (c .before .both .ensures ∙ ap₂ _&&_ (three .before .is-operand2 .ensures) (three .is-operand3 .ensures))
+returns c = ap₂ _&&_ (c .before .before .is-operand .ensures) (ap₂ _&&_ (c .before .is-operand2 .ensures) (c .is-operand3 .ensures))
 
 pub has-pairs-spec : {M : Type 1} → statement M
-has-pairs-spec =
-    tie.close
-    (tie.spec
-    is-operand-requires
-    is-operand-requires-2
-    is-operand-requires-3
-    both-requires
-    both-requires-2
-    returns)
+has-pairs-spec = tie.close (tie.spec is-operand-requires is-operand-requires-2 is-operand-requires-3 returns)
