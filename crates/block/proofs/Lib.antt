@@ -19,3 +19,4 @@ pub mod Placed
 pub mod Address
 pub mod Count
 pub mod Delivered
+pub mod Judged
