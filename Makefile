@@ -11,6 +11,7 @@ fmt:
 wrong:
 	bash .ci/wrong
 
-# Writes crates/leaves/stdout again: what the program leaves must print, computed independently.
+# Writes again what the programs leaves and allocations must print, computed independently.
 expected:
-	mkdir -p target && rustc -O -o target/leaves-reference reference/leaves.rs && target/leaves-reference > crates/leaves/stdout
+	mkdir -p target && rustc -O -o target/leaves-reference reference/leaves.rs
+	for name in leaves allocations; do target/leaves-reference $$name > crates/$$name/stdout; done

@@ -1,7 +1,7 @@
-// The lines that the program `leaves` must write, computed from document 01 by other means: words are lists of single bits,
-// products and differences are 128 bits wide, numbers become characters by way of text, a table's rules are read row by row,
-// and the allocator is a list of live blocks, from which its map is drawn. Only the generator of cases and the checksum are the
-// program's. `make expected` writes crates/leaves/stdout with it.
+// The lines that the programs `leaves` and `allocations` must write (the argument names the program), computed from document 01 by
+// other means: words are lists of single bits, products and differences are 128 bits wide, numbers become characters by way of
+// text, a table's rules are read row by row, and the allocator is a list of live blocks, from which its map is drawn. Only the
+// generator of cases and the checksum are the programs'. `make expected` writes their files stdout with it.
 
 // ---- The generator ----
 
@@ -539,14 +539,17 @@ impl Blocks {
         }
     }
 
+    fn drawn_step(&mut self, turn: u64, drawn: u64) -> u64 {
+        let operation = 1 + (turn + drawn % 8) / 3;
+        figure(self.operate(operation, self.operand(operation, drawn / 8)))
+    }
+
     fn sequence(mut self) {
         let mut g = Generator(STEPS);
         let mut sum = 0;
         for left in (0..STEPS).rev() {
-            let drawn = g.next();
-            let operation = 1 + (left / 256 % 2 * 4 + drawn % 8) / 3;
-            let answer = self.operate(operation, self.operand(operation, drawn / 8));
-            sum = fold(fold(sum, figure(answer)), folded(&self.map()));
+            let answer = self.drawn_step(left / 256 % 2 * 4, g.next());
+            sum = fold(fold(sum, answer), folded(&self.map()));
         }
         println!("blocks, d {}, s1 {}, s2 {}: {}", self.d, self.s1, self.s2, sum / 2);
     }
@@ -563,9 +566,104 @@ fn blocks() {
     }
 }
 
+// ---- References: a list of fields, each a word, a left and a right bit ----
+
+const FIELDS: [(u64, usize, usize); 10] = [
+    (0, 18, 35),
+    (0, 0, 17),
+    (0, 30, 35),
+    (0, 12, 17),
+    (1, 18, 35),
+    (1, 0, 17),
+    (2, 30, 35),
+    (0, 20, 10),
+    (127, 0, 35),
+    (0, 0, 35),
+];
+
+enum Location {
+    Bug(u64),
+    Field(u64, usize, usize),
+}
+
+// Bugs, the storage word by word, and blocks.
+struct World<'a> {
+    bugs: Vec<u64>,
+    storage: Vec<u64>,
+    blocks: &'a Blocks,
+}
+
+impl World<'_> {
+    fn contents(&self, at: &Location) -> u64 {
+        match at {
+            Location::Bug(letter) => self.bugs[*letter as usize],
+            Location::Field(address, left, right) => read(36, *left, *right, self.storage[(address - self.blocks.s1) as usize]),
+        }
+    }
+
+    fn link(&self, from: Location, name: u64) -> Result<Location, u64> {
+        let &(word, left, right) = FIELDS.get(name as usize).ok_or(14u64)?;
+        let pointer = self.contents(&from);
+        let &(start, size) = self.blocks.live.iter().find(|block| block.0 == pointer).ok_or(15u64)?;
+        if word < size { Ok(Location::Field(start + word, left, right)) } else { Err(16) }
+    }
+
+    // Where a reference leads and what stands there.
+    fn followed(&self, v: u64) -> Answer {
+        let digits = names(v).unwrap();
+        let at = digits[1..].iter().try_fold(Location::Bug(digits[0] - 11), |from, digit| self.link(from, digit - 1))?;
+        let numbers = match at {
+            Location::Bug(letter) => vec![1, letter],
+            Location::Field(address, left, right) => vec![2, address, left as u64, right as u64],
+        };
+        Ok(fold(numbers[1..].iter().fold(numbers[0], |sum, &n| fold(sum, n)), self.contents(&at)))
+    }
+}
+
+// The program's generated words and references: an address is 8, 12, 16 or 20, seldom up to 3 more.
+fn address(drawn: u64) -> u64 {
+    8 + drawn / 4 % 4 * 4 + (drawn & drawn / 256) % 4
+}
+
+fn address_pairs(seed: u64) -> Vec<(u64, u64)> {
+    let mut g = Generator(seed);
+    (0..26).map(|_| g.next()).map(|drawn| (address(drawn >> 18), address(drawn))).collect()
+}
+
+fn reference(a: u64, drawn: u64) -> u64 {
+    let digit = |place: u64| {
+        let [own, first, second, third] = [0, 1, 2, 3].map(|further| drawn >> (6 * (place + further)));
+        own & 7 | first & second & third & 8
+    };
+    let names: Vec<u64> = (0..5).rev().map(|place| digit(place) + 1).collect();
+    let kept = 5 - (a % 6) as usize;
+    names[..kept].iter().fold(a / 8 % 26 + 11, |v, name| v * 64 + name)
+}
+
+fn references() {
+    let mut blocks = Blocks::new(8, 8, 23);
+    let mut g = Generator(SEED);
+    let mut sum = 0;
+    for _ in 0..CASES {
+        let c = g.case();
+        sum = fold(sum, blocks.drawn_step(0, c.a));
+        let bugs = address_pairs(c.x).iter().map(|pair| pair.1).collect();
+        let storage = address_pairs(g.0).iter().map(|pair| pair.0 << 18 | pair.1).collect();
+        sum = fold(sum, figure(World { bugs, storage, blocks: &blocks }.followed(reference(c.a, g.0))));
+    }
+    println!("locate and contents: {}", sum / 2);
+}
+
 // ---- The bench cases ----
 
-fn bench() {
+fn tell(label: &str, answer: Answer) {
+    match answer {
+        Ok(value) => println!("{label}: {value}"),
+        Err(refusal) => println!("{label}: refusal {refusal}"),
+    }
+}
+
+fn bench_leaves() {
     let ones = value(&[true; 36]);
     println!("32769 into bits 6-20 of all ones, octal: {:o}", store(36, 6, 20, ones, 32769));
     println!("0 - 1 into 15 bits, octal: {:o}", read(36, 21, 35, store(36, 21, 35, 0, modulo(36, 0 - 1))));
@@ -574,12 +672,11 @@ fn bench() {
     println!("1000607 to decimal, octal: {:o}", decimal(6, 1000607));
     println!("zeros to blanks, octal: {:o}", lead(0, BLANK, codes(6, decimal(6, 607))));
     println!("eight printed of o60007, octal: {:o}", packed(&printed(8, 36, 0o60007)));
-    let tell = |label: &str, answer: Answer| match answer {
-        Ok(value) => println!("{label}: {value}"),
-        Err(refusal) => println!("{label}: refusal {refusal}"),
-    };
     tell("o606060060007 to binary", to_binary(10, 6, 0o606060060007));
     tell("o000000060007 to binary", to_binary(10, 6, 0o000000060007));
+}
+
+fn bench_blocks() {
     let fresh = Blocks::new(8, 8, 23);
     for n in [3, 5] {
         let mut one = fresh.clone();
@@ -598,10 +695,19 @@ fn bench() {
 }
 
 fn main() {
-    words();
-    fields();
-    characters();
-    tables();
-    blocks();
-    bench();
+    match std::env::args().nth(1).as_deref() {
+        Some("leaves") => {
+            words();
+            fields();
+            characters();
+            tables();
+            bench_leaves();
+        }
+        Some("allocations") => {
+            blocks();
+            references();
+            bench_blocks();
+        }
+        _ => println!("leaves or allocations"),
+    }
 }

@@ -1,9 +1,13 @@
 // Operations 24 to 31 on a generated case: a number for choices, and two values.
 ghost use Prim.Native.Nat.{_+_, _≤_};
-use crate::draws;
 use character::Converted;
 use character::Packed;
 use std::num;
+
+// Refusals 4 and 6.
+const NO_CHARACTER: u64 = cases::REFUSED + 4;
+
+const NO_DIGIT: u64 = cases::REFUSED + 6;
 
 // Ten characters each: all ones, all below 16, all below 8, blanks.
 const ANY: u64 = 0o77777777777777777777;
@@ -39,7 +43,7 @@ pub fn to_binary(base: u64, n: usize, v: u64) -> u64
 {
     match character::to_binary(base, n, v) {
         Converted::Value(v) => v,
-        Converted::NotADigit => draws::NO_DIGIT,
+        Converted::NotADigit => NO_DIGIT,
     }
 }
 
@@ -58,24 +62,8 @@ pub fn pack_input(input: &[u8; 160], from: usize, n: usize) -> u64
 {
     match character::pack_input(input, from, n) {
         Packed::Value(v) => v,
-        Packed::TooLarge => draws::NO_CHARACTER,
+        Packed::TooLarge => NO_CHARACTER,
     }
-}
-
-// A byte as a number.
-pub fn wide(byte: u8) -> u64 {
-    byte as u64
-}
-
-// The bytes of a slice folded.
-pub fn bytes(s: &[u8]) -> u64 {
-    let mut sum = 1;
-    let mut i = 0;
-    while i < s.len() {
-        sum = draws::fold(sum, wide(s[i]));
-        i += 1;
-    }
-    sum
 }
 
 // Output and input: a value printed, and a part of that packed again.
@@ -87,7 +75,7 @@ fn stream_result(which: u64, a: u64, v: u64, y: u64) -> u64 {
         v,
     );
     if which == 29 {
-        return bytes(&output);
+        return cases::bytes(&output);
     }
     pack_input(&output, (y % 151) as usize, (a / 128 % 11) as usize)
 }

@@ -1,7 +1,5 @@
 // References and the table check on a generated case: a number for choices, and two values.
 ghost use Prim.Native.Nat.{_<_};
-use crate::characters;
-use crate::draws;
 use std::num;
 use table::Names;
 use table::Pair;
@@ -29,7 +27,7 @@ fn taken_apart(n: Names) -> u64 {
     let mut sum = bug.0 as u64;
     while i < 5 {
         let name = fields[i];
-        sum = draws::fold(sum, name.0 as u64);
+        sum = cases::fold(sum, name.0 as u64);
         i += 1;
     }
     sum
@@ -56,7 +54,7 @@ fn by_length(a: u64) -> u64 {
     let zeros = [0u64; 8019];
     let n = (a % 802 * 10 + a / 1024 % 24 / 20 * 9) as usize;
     let part = &zeros[..n];
-    draws::fold(check::has_length(part) as u64, checked(part))
+    cases::fold(check::has_length(part) as u64, checked(part))
 }
 
 // Eight rows of ten numbers, row 0 ill-formed and the others well. A character is its place from '0' on.
@@ -75,7 +73,7 @@ fn good() -> [u64; 80] {
     let mut t = [0u64; 80];
     let mut i = 0;
     while i < 80 {
-        t[i] = num::wrapping_sub_u64(characters::wide(ROWS[i]), 48);
+        t[i] = num::wrapping_sub_u64(cases::wide(ROWS[i]), 48);
         i += 1;
     }
     t
@@ -93,13 +91,13 @@ fn changed(r: usize, a: u64, y: u64) -> [u64; 80]
 
 // The numbers of a pair folded.
 fn pair_folded(sum: u64, p: Pair) -> u64 {
-    draws::fold(draws::fold(sum, p.form), p.value)
+    cases::fold(cases::fold(sum, p.form), p.value)
 }
 
 // The ten numbers of a row folded.
 fn folded(row: Row) -> u64 {
-    let head = draws::fold(
-        draws::fold(draws::fold(row.kind, row.next), row.code),
+    let head = cases::fold(
+        cases::fold(cases::fold(row.kind, row.next), row.code),
         row.name,
     );
     pair_folded(
@@ -113,7 +111,7 @@ fn usable(t: &[u64], r: usize) -> u64 {
     let line = check::is_usable(1, 36, t, r) as u64;
     let test = check::is_usable(2, 36, t, r) as u64;
     let operation = check::is_usable(3, 36, t, r) as u64;
-    draws::fold(draws::fold(line, test), operation)
+    cases::fold(cases::fold(line, test), operation)
 }
 
 // The functions on a table: the row changed is asked for, seldom another one or one past the last.

@@ -1,6 +1,5 @@
 // Operations 8 to 23, and fields, on a generated case: a number for choices, and two values.
 ghost use Prim.Native.Nat.{_^_, _<_};
-use crate::draws;
 use word::arithmetic;
 use word::count;
 use word::fields;
@@ -19,7 +18,7 @@ fn word_of(b: u64, x: u64) -> u64
 fn field_result(which: u64, b: u64, a: u64, v: u64, y: u64) -> u64
     requires { ⌜ (0 < b) × (b < 64) ⌝ }
 {
-    let right = draws::below(b, a / 64);
+    let right = cases::below(b, a / 64);
     let left = a / 4096 % (right + 2);
     match which {
         18 => fields::width(left, right),
@@ -31,7 +30,7 @@ fn field_result(which: u64, b: u64, a: u64, v: u64, y: u64) -> u64
 
 // What function number `which` gives on a case.
 pub fn result(which: u64, a: u64, x: u64, y: u64) -> u64 {
-    let w = draws::width(a);
+    let w = cases::width(a);
     let v = word_of(w, x);
     match which {
         0 => arithmetic::power(a % 64),

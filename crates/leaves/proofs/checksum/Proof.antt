@@ -16,20 +16,8 @@ loop-holds c = search needs
 sub-left : tie.Need-sub-left Inv-loop μ-loop
 sub-left c = search needs
 
-next-requires : tie.Need-next-requires Inv-loop μ-loop
-next-requires c κs = search needs
-
-next-requires-2 : tie.Need-next-requires-2 Inv-loop μ-loop
-next-requires-2 c κs = search needs
-
-next-requires-3 : tie.Need-next-requires-3 Inv-loop μ-loop
-next-requires-3 c κs = search needs
-
-spread-requires : tie.Need-spread-requires Inv-loop μ-loop
-spread-requires c κs = search needs
-
-spread-requires-2 : tie.Need-spread-requires-2 Inv-loop μ-loop
-spread-requires-2 c κs = search needs
+case-after-requires : tie.Need-case-after-requires Inv-loop μ-loop
+case-after-requires c κs = search needs
 
 result-requires : tie.Need-result-requires Inv-loop μ-loop
 result-requires c κs = search needs
@@ -54,11 +42,7 @@ checksum-spec =
     μ-loop
     loop-holds
     sub-left
-    next-requires
-    next-requires-2
-    next-requires-3
-    spread-requires
-    spread-requires-2
+    case-after-requires
     result-requires
     fold-requires
     loop-less

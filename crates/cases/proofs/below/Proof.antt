@@ -1,8 +1,8 @@
--- `leaves::draws::below` meets its contract. A remainder is below its divisor. Assumes nothing.
+-- `cases::below` meets its contract. A remainder is below its divisor. Assumes nothing.
 use native.Mathlib.Nat.{mod-lt}
 use borrow.Author.Needs.{needs}
-use Rattle.leaves.proofs.draws.below.Statement.{statement}
-use Rattle.leaves.proofs.draws.below.Tie as tie
+use Rattle.cases.proofs.below.Statement.{statement}
+use Rattle.cases.proofs.below.Tie as tie
 
 rem-result : tie.Need-rem-result
 rem-result c = search needs

@@ -1,8 +1,8 @@
--- `leaves::blocks::sequence` meets its contract. The measure is the steps left. Assumes nothing.
+-- `allocations::maps::sequence` meets its contract. The measure is the steps left. Assumes nothing.
 use Prim.Native.Nat.{_≤_}
 use borrow.Author.Needs.{needs}
-use Rattle.leaves.proofs.blocks.sequence.Statement.{statement}
-use Rattle.leaves.proofs.blocks.sequence.Tie as tie
+use Rattle.allocations.proofs.maps.sequence.Statement.{statement}
+use Rattle.allocations.proofs.maps.sequence.Tie as tie
 
 abbrev Inv-loop : tie.InvT-loop
 Inv-loop which map₀ left₀ state₀ sum₀ map left state sum = left ≤ 4000
@@ -25,23 +25,11 @@ sub-left c = search needs
 next-requires : tie.Need-next-requires Inv-loop μ-loop
 next-requires c κs = search needs
 
-mul-operation : tie.Need-mul-operation Inv-loop μ-loop
-mul-operation c = search needs
+mul-turn : tie.Need-mul-turn Inv-loop μ-loop
+mul-turn c = search needs
 
-add-operation : tie.Need-add-operation Inv-loop μ-loop
-add-operation c = search needs
-
-add-operation-2 : tie.Need-add-operation-2 Inv-loop μ-loop
-add-operation-2 c = search needs
-
-setup-of-requires-2 : tie.Need-setup-of-requires-2 Inv-loop μ-loop
-setup-of-requires-2 c κs = search needs
-
-operand-requires : tie.Need-operand-requires Inv-loop μ-loop
-operand-requires c κs = search needs
-
-operate-requires : tie.Need-operate-requires Inv-loop μ-loop
-operate-requires c κs = search needs
+drawn-step-requires : tie.Need-drawn-step-requires Inv-loop μ-loop
+drawn-step-requires c κs = search needs
 
 fold-requires : tie.Need-fold-requires Inv-loop μ-loop
 fold-requires c κs = search needs
@@ -72,12 +60,8 @@ sequence-spec =
     loop-holds
     sub-left
     next-requires
-    mul-operation
-    add-operation
-    add-operation-2
-    setup-of-requires-2
-    operand-requires
-    operate-requires
+    mul-turn
+    drawn-step-requires
     fold-requires
     folded-requires
     fold-requires-2

@@ -6,30 +6,42 @@ ghost use lib.ListN.{length};
 ghost use Rattle.block.specs.Blocks.{size};
 ghost use Rattle.block.specs.Map.{keeps};
 ghost use Rattle.block.specs.SetUp.{top, words};
-use crate::characters;
-use crate::draws;
 use block::Found;
 use block::SetUp;
 use buddy::section;
 use buddy::sizes;
 use std::num;
 
+// Refusals 8, 11 and 17.
+const BAD_SIZE: u64 = cases::REFUSED + 8;
+
+pub const UNSOUND: u64 = cases::REFUSED + 11;
+
+const NO_RUN: u64 = cases::REFUSED + 17;
+
 // The bytes of a map: a few more than the words of the largest set-up.
-const BYTES: usize = 1030;
+pub const BYTES: usize = 1030;
 
 // The operations of a sequence.
 const STEPS: u64 = 4000;
 
-// The set-ups tried, the first one that of the bench cases.
+// The set-up of the bench cases.
+pub fn small() -> SetUp
+    ensures { λ r. ⌜ r ≡ record { d = 8; s1 = 8; s2 = 23 } ⌝ }
+{
+    SetUp {
+        d: 8,
+        s1: 8,
+        s2: 23,
+    }
+}
+
+// The set-ups tried.
 pub fn setup_of(which: u64) -> SetUp
     ensures { λ r. ⌜ (words r % size (top (r .d)) ≡ 0) × (words r ≤ 1030) ⌝ }
 {
     match which {
-        0 => SetUp {
-            d: 8,
-            s1: 8,
-            s2: 23,
-        },
+        0 => small(),
         1 => SetUp {
             d: 128,
             s1: 128,
@@ -69,12 +81,12 @@ fn get(setup: SetUp, map: &mut [u8], n: u64) -> u64
     requires { ⌜ (words setup % size (top (setup .d)) ≡ 0) × (keeps setup (now map) ≡ true) ⌝ }
 {
     if (setup.d as u64) <= num::wrapping_sub_u64(n, 1) {
-        return draws::BAD_SIZE;
+        return BAD_SIZE;
     }
     let j = sizes::level_of(sizes::top_of(setup.d), n);
     let found = section::lowest_run(setup, map, j);
     let Found::At(a) = found else {
-        return draws::NO_RUN;
+        return NO_RUN;
     };
     section::deliver(setup, map, j, a);
     a as u64
@@ -124,7 +136,7 @@ fn operate(which: u64, map: &mut [u8; BYTES], operation: u64, n: u64) -> u64 {
     if section::keeps_section(setup, map) {
         return done(setup, map, operation, n);
     }
-    draws::UNSOUND
+    UNSOUND
 }
 
 // The last answer of operations on a fresh map of the first set-up. Each is two hexadecimal digits, the last two first:
@@ -155,9 +167,18 @@ fn operand(setup: SetUp, operation: u64, a: u64) -> u64 {
     }
 }
 
+// A drawn operation; the larger the turn, from 0 to 4, the fewer gets.
+pub fn drawn_step(which: u64, map: &mut [u8; BYTES], turn: u64, drawn: u64) -> u64
+    requires { ⌜ turn ≤ 4 ⌝ }
+{
+    let operation = 1 + (turn + drawn % 8) / 3;
+    let n = operand(setup_of(which), operation, drawn / 8);
+    operate(which, map, operation, n)
+}
+
 // The bytes of a map folded.
 fn folded(map: &[u8; BYTES]) -> u64 {
-    characters::bytes(map)
+    cases::bytes(map)
 }
 
 // The checksum of a sequence from a fresh map, of answers and bytes: by turns the operations are mostly gets and seldom gets.
@@ -168,30 +189,10 @@ pub fn sequence(which: u64) -> u64 {
     let mut sum = 0;
     while left > 0 {
         left -= 1;
-        state = draws::next(state);
-        let operation = 1 + (left / 256 % 2 * 4 + state % 8) / 3;
-        let n = operand(setup_of(which), operation, state / 8);
-        sum = draws::fold(sum, operate(which, &mut map, operation, n));
-        sum = draws::fold(sum, folded(&map));
+        state = cases::next(state);
+        let turn = left / 256 % 2 * 4;
+        sum = cases::fold(sum, drawn_step(which, &mut map, turn, state));
+        sum = cases::fold(sum, folded(&map));
     }
     sum
-}
-
-// Any numbers for a set-up, its largest size seldom zero.
-fn drawn_setup(a: u64, x: u64, y: u64) -> SetUp {
-    SetUp {
-        d: (a % 9) as u16,
-        s1: (x % 65536) as u16,
-        s2: (y % 65536) as u16,
-    }
-}
-
-// What function number `which` gives on a case.
-pub fn result(which: u64, a: u64, x: u64, y: u64) -> u64 {
-    match which {
-        37 => sizes::size_of((a % 8) as u8) as u64,
-        38 => sizes::level_of((a % 8) as u8, x % 256) as u64,
-        39 => sizes::top_of((x % 65536) as u16) as u64,
-        _ => section::words_of(drawn_setup(a, x, y)) as u64,
-    }
 }

@@ -1,19 +1,21 @@
-// What cases are generated from, and the checksum over what is answered on them.
+// What the test programs share: how cases are generated, and the checksum over what is answered on them.
 ghost use Prim.Native.Nat.{_<_, _≤_};
 
 // An answer is a number: a value below this one, or this one and the number of a refusal.
 pub const REFUSED: u64 = 9223372036854775808;
 
-// Refusals 4, 6, 8, 11 and 17.
-pub const NO_CHARACTER: u64 = REFUSED + 4;
+// The generator's first state, and the cases of each function.
+pub const SEED: u64 = 1966;
 
-pub const NO_DIGIT: u64 = REFUSED + 6;
+pub const CASES: u64 = 8000;
 
-pub const BAD_SIZE: u64 = REFUSED + 8;
-
-pub const UNSOUND: u64 = REFUSED + 11;
-
-pub const NO_RUN: u64 = REFUSED + 17;
+// A case: a number for choices, two values, and the generator's state after it.
+pub struct Case {
+    pub a: u64,
+    pub x: u64,
+    pub y: u64,
+    pub state: u64,
+}
 
 // The generator's next state: a shift register of 64 bits.
 pub fn next(state: u64) -> u64 {
@@ -28,12 +30,25 @@ pub fn fold(sum: u64, result: u64) -> u64 {
 }
 
 // Small and large values: ones, a single one, or drawn bits, moved right or left by a drawn count.
-pub fn spread(drawn: u64) -> u64 {
+fn spread(drawn: u64) -> u64 {
     let places = drawn % 64;
     match drawn / 64 % 4 {
         0 => 18446744073709551615 >> places,
         1 => 1 << places,
         _ => next(drawn) >> places,
+    }
+}
+
+// The case after a state.
+pub fn case_after(state: u64) -> Case {
+    let a = next(state);
+    let x = next(a);
+    let y = next(x);
+    Case {
+        a: a,
+        x: spread(x),
+        y: spread(y),
+        state: y,
     }
 }
 
@@ -51,4 +66,20 @@ pub fn below(n: u64, drawn: u64) -> u64
     ensures { λ r. ⌜ r < n ⌝ }
 {
     drawn % n
+}
+
+// A byte as a number.
+pub fn wide(byte: u8) -> u64 {
+    byte as u64
+}
+
+// The bytes of a slice folded.
+pub fn bytes(s: &[u8]) -> u64 {
+    let mut sum = 1;
+    let mut i = 0;
+    while i < s.len() {
+        sum = fold(sum, wide(s[i]));
+        i += 1;
+    }
+    sum
 }

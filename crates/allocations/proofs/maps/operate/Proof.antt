@@ -1,8 +1,8 @@
--- `leaves::blocks::operate` meets its contract. What the allocator requires of the map is the test just made. Assumes nothing.
+-- `allocations::maps::operate` meets its contract. What the allocator requires of the map is the test just made. Assumes nothing.
 use mathlib.Core.Path.{sym, _∙_}
 use borrow.Author.Needs.{needs}
-use Rattle.leaves.proofs.blocks.operate.Statement.{statement}
-use Rattle.leaves.proofs.blocks.operate.Tie as tie
+use Rattle.allocations.proofs.maps.operate.Statement.{statement}
+use Rattle.allocations.proofs.maps.operate.Tie as tie
 
 setup-of-requires : tie.Need-setup-of-requires
 setup-of-requires c κs = search needs

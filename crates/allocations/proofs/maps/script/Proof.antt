@@ -1,7 +1,7 @@
--- `leaves::blocks::script` meets its contract. The measure is what is left of the steps. Assumes nothing.
+-- `allocations::maps::script` meets its contract. The measure is what is left of the steps. Assumes nothing.
 use borrow.Author.Needs.{needs}
-use Rattle.leaves.proofs.blocks.script.Statement.{statement}
-use Rattle.leaves.proofs.blocks.script.Tie as tie
+use Rattle.allocations.proofs.maps.script.Statement.{statement}
+use Rattle.allocations.proofs.maps.script.Tie as tie
 
 abbrev Inv-loop : tie.InvT-loop
 Inv-loop steps map₀ last₀ left₀ map last left = Unit {0}

@@ -1,9 +1,9 @@
--- `leaves::characters::bytes` meets its contract. The measure is what is left of the slice. Assumes nothing.
+-- `cases::bytes` meets its contract. The measure is what is left of the slice. Assumes nothing.
 use Prim.Native.Nat.{_-_, _≤_}
 use lib.ListN.{length}
 use borrow.Author.Needs.{needs}
-use Rattle.leaves.proofs.characters.bytes.Statement.{statement}
-use Rattle.leaves.proofs.characters.bytes.Tie as tie
+use Rattle.cases.proofs.bytes.Statement.{statement}
+use Rattle.cases.proofs.bytes.Tie as tie
 
 abbrev Inv-loop : tie.InvT-loop
 Inv-loop s sum₀ i₀ sum i = i ≤ length s

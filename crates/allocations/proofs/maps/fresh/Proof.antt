@@ -1,4 +1,4 @@
--- `leaves::blocks::fresh` meets its contract. A size is above 0, so the measure, the words left, falls. Assumes nothing.
+-- `allocations::maps::fresh` meets its contract. A size is above 0, so the measure, the words left, falls. Assumes nothing.
 use mathlib.Core.Path.{_≡_}
 use Prim.Native.Nat.{_-_, _≤_, _<_}
 use native.Mathlib.Omega.{arith}
@@ -6,8 +6,8 @@ use Rattle.block.proofs.Address.{top-le}
 use Rattle.block.proofs.Halves.{size-small}
 use Rattle.block.proofs.Size.{size-pos}
 use borrow.Author.Needs.{needs}
-use Rattle.leaves.proofs.blocks.fresh.Statement.{statement}
-use Rattle.leaves.proofs.blocks.fresh.Tie as tie
+use Rattle.allocations.proofs.maps.fresh.Statement.{statement}
+use Rattle.allocations.proofs.maps.fresh.Tie as tie
 
 abbrev Inv-loop : tie.InvT-loop
 Inv-loop map₀ k n end i₀ map i = (k ≤ 7) × (0 < n) × (n ≤ 128) × (end ≤ 1030)

@@ -1,4 +1,4 @@
--- `leaves::blocks::get` meets its contract. The address delivered is the one found, and each run lies in the set-up words. Assumes nothing.
+-- `allocations::maps::get` meets its contract. The address delivered is the one found, and each run lies in the set-up words. Assumes nothing.
 use mathlib.Core.Path.{_≡_, sym, _∙_}
 use mathlib.Core.List.{List, [], _∷_, List·Memᴰ, List·Memᴰ·head}
 use Prim.Native.Nat.{ℕ}
@@ -8,8 +8,8 @@ use Rattle.block.proofs.Address.{top-le}
 use Rattle.block.proofs.Runs.{runs-sound}
 use Rattle.block.proofs.Size.{size-pos, level-le}
 use borrow.Author.Needs.{needs}
-use Rattle.leaves.proofs.blocks.get.Statement.{statement}
-use Rattle.leaves.proofs.blocks.get.Tie as tie
+use Rattle.allocations.proofs.maps.get.Statement.{statement}
+use Rattle.allocations.proofs.maps.get.Tie as tie
 
 -- the first of a list is one of it
 first-mem : (l : List ℕ) (a : ℕ) → firstOf l ≡ firstOf (a ∷ []) → List·Memᴰ a l

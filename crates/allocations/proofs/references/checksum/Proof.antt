@@ -1,0 +1,70 @@
+-- `allocations::references::checksum` meets its contract. The measure is the cases left. Assumes nothing.
+use mathlib.Core.Path.{_≡_}
+use Prim.Native.Nat.{_≤_}
+use native.Mathlib.Omega.{arith}
+use Rattle.block.specs.SetUp.{words}
+use borrow.Author.Needs.{needs}
+use Rattle.allocations.proofs.references.checksum.Statement.{statement}
+use Rattle.allocations.proofs.references.checksum.Tie as tie
+
+abbrev Inv-loop : tie.InvT-loop
+Inv-loop map₀ left₀ state₀ sum₀ map left state sum = left ≤ 8000
+
+abbrev μ-loop : tie.MeasureT-loop
+μ-loop map₀ left₀ state₀ sum₀ map left state sum = left
+
+small-requires : tie.Need-small-requires Inv-loop μ-loop
+small-requires c κs = search needs
+
+fresh-requires : tie.Need-fresh-requires Inv-loop μ-loop
+unfolding words
+fresh-requires c κs = rw (c .small .ensures) (omega arith)
+
+loop-holds : tie.Need-loop-holds Inv-loop μ-loop
+loop-holds c = search needs
+
+sub-left : tie.Need-sub-left Inv-loop μ-loop
+sub-left c = search needs
+
+case-after-requires : tie.Need-case-after-requires Inv-loop μ-loop
+case-after-requires c κs = search needs
+
+drawn-step-requires : tie.Need-drawn-step-requires Inv-loop μ-loop
+drawn-step-requires c κs = search needs
+
+fold-requires : tie.Need-fold-requires Inv-loop μ-loop
+fold-requires c κs = search needs
+
+result-requires : tie.Need-result-requires Inv-loop μ-loop
+result-requires c κs = search needs
+
+fold-requires-2 : tie.Need-fold-requires-2 Inv-loop μ-loop
+fold-requires-2 c κs = search needs
+
+loop-less : tie.Need-loop-less Inv-loop μ-loop
+loop-less c = search needs
+
+loop-again : tie.Need-loop-again Inv-loop μ-loop
+loop-again c = search needs
+
+returns : tie.Need-returns Inv-loop μ-loop
+returns c = search needs
+
+pub checksum-spec : {M : Type 1} → statement M
+checksum-spec =
+    tie.close
+    (tie.spec
+    Inv-loop
+    μ-loop
+    small-requires
+    fresh-requires
+    loop-holds
+    sub-left
+    case-after-requires
+    drawn-step-requires
+    fold-requires
+    result-requires
+    fold-requires-2
+    loop-less
+    loop-again
+    returns)

@@ -1,0 +1,146 @@
+// References on generated cases: where one leads over a map of blocks, and what stands there.
+ghost use mathlib.Core.Path.{_≡_};
+ghost use mathlib.Core.Bool.{true};
+ghost use Rattle.table.specs.Reference.{isReference};
+ghost use Rattle.machine.specs.Locate.{Readable};
+ghost use Rattle.machine.specs.Sound.{every, isDefinition};
+use crate::maps;
+use buddy::section;
+use cases::Case;
+use engine::references::contents;
+use engine::references::locate;
+use machine::Definition;
+use machine::Environment;
+use machine::Linked;
+use machine::Location;
+use machine::Refusal;
+use std::num;
+use table::Pair;
+use table::references::is_reference;
+
+// The first ten fields: halves of words or less, a null one, one outside every block, a whole word.
+const WORDS: [u8; 10] = [0, 0, 0, 0, 1, 1, 2, 0, 127, 0];
+
+const LEFTS: [u8; 10] = [18, 0, 30, 12, 18, 0, 30, 20, 0, 0];
+
+const RIGHTS: [u8; 10] = [35, 17, 35, 17, 35, 17, 35, 10, 35, 35];
+
+// The definitions of the first ten fields, in range by their remainders; the others are undefined.
+fn definitions() -> [Definition; 36]
+    ensures { λ r. ⌜ every (isDefinition 36) r ≡ true ⌝ }
+{
+    let none = Definition {
+        defined: false,
+        word: 0,
+        left: 0,
+        right: 0,
+    };
+    let mut all = [none; 36];
+    let mut i = 0;
+    while i < 10 {
+        all[i] = Definition {
+            defined: true,
+            word: WORDS[i] % 128,
+            left: LEFTS[i] % 36,
+            right: RIGHTS[i] % 36,
+        };
+        i += 1;
+    }
+    all
+}
+
+// Two addresses of the set-up words, one in each half of a word, most often multiples of four.
+fn addresses(drawn: u64) -> u64 {
+    let fours = num::wrapping_add_u64(drawn & 0o000014000014, 0o000010000010);
+    fours | (drawn & (drawn >> 8) & 0o000003000003)
+}
+
+// Words of two addresses each, of which the bits in a mask are kept.
+fn words_of(drawn: u64, mask: u64) -> [u64; 26] {
+    let mut made = [0u64; 26];
+    let mut state = drawn;
+    let mut i = 0;
+    while i < 26 {
+        state = cases::next(state);
+        made[i] = addresses(state) & mask;
+        i += 1;
+    }
+    made
+}
+
+// A reference of one to six names: any bug, and fields, seldom beyond the first eight.
+fn reference(a: u64, drawn: u64) -> u64 {
+    let seldom = (drawn >> 6) & (drawn >> 12) & (drawn >> 18) & 0o1010101010;
+    let fields = num::wrapping_add_u64((drawn & 0o0707070707) | seldom, 0o0101010101);
+    let bug = (a / 8 % 26 + 11) << 30;
+    (bug | fields) >> (a % 6 * 6)
+}
+
+// A link's refusal.
+fn refused(why: Refusal) -> u64 {
+    match why {
+        Refusal::UndefinedField => cases::REFUSED + 14,
+        Refusal::NotABlock => cases::REFUSED + 15,
+        Refusal::OutsideBlock => cases::REFUSED + 16,
+        _ => cases::REFUSED,
+    }
+}
+
+// A location folded: a bug or a field, and its numbers.
+fn folded(at: Location) -> u64 {
+    match at {
+        Location::Bug(x) => cases::fold(1, x.0 as u64),
+        Location::Field(address, left, right) => cases::fold(
+            cases::fold(cases::fold(2, address), left as u64),
+            right as u64,
+        ),
+    }
+}
+
+// Where a reference leads and what stands there, or why it does not lead there.
+fn followed(names: Environment, map: &[u8], storage: &[u64], v: u64) -> u64
+    requires { ⌜ Readable 36 (record { names = names; map = now map; storage = now storage }) × (isReference v ≡ true) ⌝ }
+{
+    let operand = Pair { form: 2, value: v };
+    match locate(36, names, map, storage, operand) {
+        Linked::Stopped(why) => refused(why),
+        Linked::At(at) => cases::fold(folded(at), contents(36, names, storage, at)),
+    }
+}
+
+// A drawn reference over drawn bugs and storage; 1,000 if it is none.
+fn result(map: &[u8; maps::BYTES], case: Case) -> u64 {
+    let setup = maps::small();
+    let bugs = words_of(case.x, 0o77);
+    let definitions = definitions();
+    let names = Environment {
+        bugs: bugs,
+        definitions: definitions,
+        setup: setup,
+    };
+    let storage = words_of(case.state, 0o777777777777);
+    let v = reference(case.a, case.state);
+    if !section::keeps_section(setup, map) {
+        return maps::UNSOUND;
+    }
+    if !is_reference(v) {
+        return 1000;
+    }
+    followed(names, map, &storage, v)
+}
+
+// The checksum over references, each after a drawn operation on the map.
+pub fn checksum() -> u64 {
+    let mut map = maps::fresh(maps::small());
+    let mut left = cases::CASES;
+    let mut state = cases::SEED;
+    let mut sum = 0;
+    while left > 0 {
+        left -= 1;
+        let case = cases::case_after(state);
+        state = case.state;
+        sum = cases::fold(sum, maps::drawn_step(0, &mut map, 0, case.a));
+        sum = cases::fold(sum, result(&map, case));
+    }
+    sum
+}
