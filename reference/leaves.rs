@@ -1,7 +1,8 @@
 // The lines that the programs `leaves` and `allocations` must write (the argument names the program), computed from document 01 by
 // other means: words are lists of single bits, products and differences are 128 bits wide, numbers become characters by way of
-// text, a table's rules are read row by row, and the allocator is a list of live blocks, from which its map is drawn. Only the
-// generator of cases and the checksum are the programs'. `make expected` writes their files stdout with it.
+// text, a table's rules are read row by row, and the allocator is a list of live blocks, from which its map is drawn and through
+// which references lead. Only the generator of cases and the checksum are the programs'. `make expected` writes their files stdout
+// with it.
 
 // ---- The generator ----
 

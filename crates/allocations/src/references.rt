@@ -7,6 +7,7 @@ ghost use Rattle.machine.specs.Sound.{every, isDefinition};
 use crate::maps;
 use buddy::section;
 use cases::Case;
+use cases::references;
 use engine::references::contents;
 use engine::references::locate;
 use machine::Definition;
@@ -14,7 +15,6 @@ use machine::Environment;
 use machine::Linked;
 use machine::Location;
 use machine::Refusal;
-use std::num;
 use table::Pair;
 use table::references::is_reference;
 
@@ -47,33 +47,6 @@ fn definitions() -> [Definition; 36]
         i += 1;
     }
     all
-}
-
-// Two addresses of the set-up words, one in each half of a word, most often multiples of four.
-fn addresses(drawn: u64) -> u64 {
-    let fours = num::wrapping_add_u64(drawn & 0o000014000014, 0o000010000010);
-    fours | (drawn & (drawn >> 8) & 0o000003000003)
-}
-
-// Words of two addresses each, of which the bits in a mask are kept.
-fn words_of(drawn: u64, mask: u64) -> [u64; 26] {
-    let mut made = [0u64; 26];
-    let mut state = drawn;
-    let mut i = 0;
-    while i < 26 {
-        state = cases::next(state);
-        made[i] = addresses(state) & mask;
-        i += 1;
-    }
-    made
-}
-
-// A reference of one to six names: any bug, and fields, seldom beyond the first eight.
-fn reference(a: u64, drawn: u64) -> u64 {
-    let seldom = (drawn >> 6) & (drawn >> 12) & (drawn >> 18) & 0o1010101010;
-    let fields = num::wrapping_add_u64((drawn & 0o0707070707) | seldom, 0o0101010101);
-    let bug = (a / 8 % 26 + 11) << 30;
-    (bug | fields) >> (a % 6 * 6)
 }
 
 // A link's refusal.
@@ -111,15 +84,15 @@ fn followed(names: Environment, map: &[u8], storage: &[u64], v: u64) -> u64
 // A drawn reference over drawn bugs and storage; 1,000 if it is none.
 fn result(map: &[u8; maps::BYTES], case: Case) -> u64 {
     let setup = maps::small();
-    let bugs = words_of(case.x, 0o77);
+    let bugs = references::words_of(case.x, 0o77);
     let definitions = definitions();
     let names = Environment {
         bugs: bugs,
         definitions: definitions,
         setup: setup,
     };
-    let storage = words_of(case.state, 0o777777777777);
-    let v = reference(case.a, case.state);
+    let storage = references::words_of(case.state, 0o777777777777);
+    let v = references::drawn(case.a, case.state);
     if !section::keeps_section(setup, map) {
         return maps::UNSOUND;
     }

@@ -1,4 +1,8 @@
 // What the test programs share: how cases are generated, and the checksum over what is answered on them.
+pub mod characters;
+pub mod references;
+pub mod tables;
+
 ghost use Prim.Native.Nat.{_<_, _≤_};
 
 // An answer is a number: a value below this one, or this one and the number of a refusal.

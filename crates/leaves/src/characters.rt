@@ -2,40 +2,11 @@
 ghost use Prim.Native.Nat.{_+_, _≤_};
 use character::Converted;
 use character::Packed;
-use std::num;
 
 // Refusals 4 and 6.
 const NO_CHARACTER: u64 = cases::REFUSED + 4;
 
 const NO_DIGIT: u64 = cases::REFUSED + 6;
-
-// Ten characters each: all ones, all below 16, all below 8, blanks.
-const ANY: u64 = 0o77777777777777777777;
-
-const SIXTEEN: u64 = 0o17171717171717171717;
-
-const EIGHT: u64 = 0o07070707070707070707;
-
-const BLANKS: u64 = 0o60606060606060606060;
-
-// Characters that are digits more or less often.
-fn digits(how: u64, x: u64) -> u64 {
-    match how {
-        0 => x & ANY,
-        1 => x & SIXTEEN,
-        _ => x & EIGHT,
-    }
-}
-
-// Ten characters, of which blanks lead in half of the cases.
-fn characters(a: u64, x: u64) -> u64 {
-    let some = digits(a % 3, x);
-    if a / 64 % 2 == 0 {
-        return some;
-    }
-    let last = num::wrapping_sub_u64(1 << (a / 4 % 11 * 6), 1);
-    (some & last) | (BLANKS & (last ^ ANY))
-}
 
 // Characters to binary: the number, or refusal 6.
 pub fn to_binary(base: u64, n: usize, v: u64) -> u64
@@ -83,7 +54,7 @@ fn stream_result(which: u64, a: u64, v: u64, y: u64) -> u64 {
 // What function number `which` gives on a case.
 pub fn result(which: u64, a: u64, x: u64, y: u64) -> u64 {
     let n = (a / 128 % 11) as usize;
-    let v = characters(a, x ^ y);
+    let v = cases::characters::drawn(a, x ^ y);
     match which {
         22 => character::holds((a % 65) as usize) as u64,
         23 => character::from_binary_octal(n, x),

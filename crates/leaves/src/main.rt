@@ -60,22 +60,13 @@ fn bench_word(which: u64) -> u64 {
     }
 }
 
-// Characters to binary.
-fn bench_number(which: u64) -> u64 {
-    let word = if which == 44 {
-        0o606060060007
-    } else {
-        0o000000060007
-    };
-    characters::to_binary(10, 6, word)
-}
-
 // The figure of line number `which`: the checksum of a function, or a bench case.
 fn figure(which: u64) -> u64 {
     match which {
         0..=36 => checksum(which) / 2,
         37..=43 => octal(bench_word(which)),
-        _ => bench_number(which),
+        44 => characters::to_binary(10, 6, 0o606060060007),
+        _ => characters::to_binary(10, 6, 0o000000060007),
     }
 }
 

@@ -1,6 +1,5 @@
 // References and the table check on a generated case: a number for choices, and two values.
-ghost use Prim.Native.Nat.{_<_};
-use std::num;
+use cases::tables;
 use table::Names;
 use table::Pair;
 use table::Row;
@@ -8,16 +7,6 @@ use table::TableCheck;
 use table::check;
 use table::references;
 use table::rows;
-
-// Six base-64 digits from 5 to 36, of which a drawn count is dropped; in half of the cases one bit is then changed.
-fn candidate(a: u64, x: u64) -> u64 {
-    let digits = num::wrapping_add_u64(x & 0o373737373737, 0o050505050505);
-    let some = digits >> (a % 6 * 6);
-    if a / 8 % 2 == 0 {
-        return some;
-    }
-    some ^ (1 << (a / 16 % 40))
-}
 
 // The names folded, the bug first.
 fn taken_apart(n: Names) -> u64 {
@@ -57,38 +46,6 @@ fn by_length(a: u64) -> u64 {
     cases::fold(check::has_length(part) as u64, checked(part))
 }
 
-// Eight rows of ten numbers, row 0 ill-formed and the others well. A character is its place from '0' on.
-const ROWS: [u8; 80] = *b"\
-    9999999999\
-    1700020000\
-    331018181G\
-    34302Q142Q\
-    352S112T1S\
-    30I0112Q00\
-    20702Q2Q00\
-    1040601000";
-
-// The eight rows.
-fn good() -> [u64; 80] {
-    let mut t = [0u64; 80];
-    let mut i = 0;
-    while i < 80 {
-        t[i] = num::wrapping_sub_u64(cases::wide(ROWS[i]), 48);
-        i += 1;
-    }
-    t
-}
-
-// The eight rows with a code and any number of a row drawn anew.
-fn changed(r: usize, a: u64, y: u64) -> [u64; 80]
-    requires { ⌜ r < 8 ⌝ }
-{
-    let mut t = good();
-    t[r * 10 + 2] = a / 64 % 38;
-    t[r * 10 + (a / 4096 % 10) as usize] = y >> (a % 64);
-    t
-}
-
 // The numbers of a pair folded.
 fn pair_folded(sum: u64, p: Pair) -> u64 {
     cases::fold(cases::fold(sum, p.form), p.value)
@@ -117,7 +74,7 @@ fn usable(t: &[u64], r: usize) -> u64 {
 // The functions on a table: the row changed is asked for, seldom another one or one past the last.
 fn table_result(which: u64, a: u64, y: u64) -> u64 {
     let r = (a % 8) as usize;
-    let t = changed(r, a / 8, y);
+    let t = tables::changed(r, a / 8, y);
     match which {
         34 => checked(&t),
         35 => folded(rows::row_at(&t, r)),
@@ -128,8 +85,8 @@ fn table_result(which: u64, a: u64, y: u64) -> u64 {
 // What function number `which` gives on a case.
 pub fn result(which: u64, a: u64, x: u64, y: u64) -> u64 {
     match which {
-        31 => references::is_reference(candidate(a, x ^ y)) as u64,
-        32 => names_in(candidate(a, x ^ y)),
+        31 => references::is_reference(tables::candidate(a, x ^ y)) as u64,
+        32 => names_in(tables::candidate(a, x ^ y)),
         33 => by_length(a),
         _ => table_result(which, a, y),
     }

@@ -20,8 +20,8 @@ definitions-requires c κs = search needs
 words-of-requires-2 : tie.Need-words-of-requires-2
 words-of-requires-2 c κs = search needs
 
-reference-requires : tie.Need-reference-requires
-reference-requires c κs = search needs
+drawn-requires : tie.Need-drawn-requires
+drawn-requires c κs = search needs
 
 keeps-section-requires : tie.Need-keeps-section-requires
 keeps-section-requires c κs = search needs
@@ -67,7 +67,7 @@ result-spec =
     words-of-requires
     definitions-requires
     words-of-requires-2
-    reference-requires
+    drawn-requires
     keeps-section-requires
     returns
     is-reference-requires

@@ -1,8 +1,8 @@
--- `allocations::references::words_of` meets its contract. The measure is the words left. Assumes nothing.
+-- `cases::references::words_of` meets its contract. The measure is the words left. Assumes nothing.
 use Prim.Native.Nat.{_-_, _≤_}
 use borrow.Author.Needs.{needs}
-use Rattle.allocations.proofs.references.words_of.Statement.{statement}
-use Rattle.allocations.proofs.references.words_of.Tie as tie
+use Rattle.cases.proofs.references.words_of.Statement.{statement}
+use Rattle.cases.proofs.references.words_of.Tie as tie
 
 abbrev Inv-loop : tie.InvT-loop
 Inv-loop drawn mask made₀ state₀ i₀ made state i = i ≤ 26

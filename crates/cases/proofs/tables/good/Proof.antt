@@ -1,8 +1,8 @@
--- `leaves::tables::good` meets its contract. The measure is the numbers left. Assumes nothing.
+-- `cases::tables::good` meets its contract. The measure is the numbers left. Assumes nothing.
 use Prim.Native.Nat.{_-_, _≤_}
 use borrow.Author.Needs.{needs}
-use Rattle.leaves.proofs.tables.good.Statement.{statement}
-use Rattle.leaves.proofs.tables.good.Tie as tie
+use Rattle.cases.proofs.tables.good.Statement.{statement}
+use Rattle.cases.proofs.tables.good.Tie as tie
 
 abbrev Inv-loop : tie.InvT-loop
 Inv-loop t₀ i₀ t i = i ≤ 80
