@@ -27,15 +27,12 @@ fn result(which: u64, a: u64, x: u64, y: u64) -> u64 {
 }
 
 // The checksum of a function over its cases.
-fn checksum(which: u64) -> u64 {
-    let mut left = cases::CASES;
-    let mut state = cases::SEED;
+fn checksum(number: u64) -> u64 {
+    let mut case = cases::before_all();
     let mut sum = 0;
-    while left > 0 {
-        left -= 1;
-        let case = cases::case_after(state);
-        state = case.state;
-        sum = cases::fold(sum, result(which, case.a, case.x, case.y));
+    while case.left > 0 {
+        case = cases::case_after(case);
+        sum = cases::fold(sum, result(number, case.a, case.x, case.y));
     }
     sum
 }
@@ -62,37 +59,12 @@ fn figure(which: u64) -> u64 {
     }
 }
 
-// Writes an answer.
-fn write_answer(answer: u64) {
-    if answer < cases::REFUSED {
-        io::print_decimal(1, answer);
-    } else {
-        io::write_all(1, b"refusal ");
-        io::print_decimal(1, answer - cases::REFUSED);
-    }
-}
-
-// A line for each name, and a newline ends each name: the name and its figure.
-fn try_all(names: &[u8]) {
-    let mut i = 0;
-    let mut which = 0;
-    while i < names.len() {
-        let byte = [names[i]];
-        if names[i] == b'\n' {
-            io::write_all(1, b": ");
-            write_answer(figure(which));
-            which += 1;
-        }
-        io::write_all(1, &byte);
-        i += 1;
-    }
-}
-
 fn main() {
-    try_all(
-        b"size_of\nlevel_of\ntop_of\nwords_of\n\
+    let names = b"size_of\nlevel_of\ntop_of\nwords_of\n\
         blocks, d 8, s1 8, s2 23\nblocks, d 128, s1 128, s2 1151\nblocks, d 1, s1 1, s2 40\nblocks, d 16, s1 32, s2 95\nlocate and contents\n\
         get 3, its size\nget 5, its size\nget 9\nget 8, 8, 1\n\
-        get 8, 8, 1, free the first, get 8\nget 8, 8, 1, free the second, get 8\n",
-    );
+        get 8, 8, 1, free the first, get 8\nget 8, 8, 1, free the second, get 8\n";
+    for which in 0..15 {
+        cases::lines::write_line(names, which, figure(which));
+    }
 }

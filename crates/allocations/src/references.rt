@@ -105,13 +105,10 @@ fn result(map: &[u8; maps::BYTES], case: Case) -> u64 {
 // The checksum over references, each after a drawn operation on the map.
 pub fn checksum() -> u64 {
     let mut map = maps::fresh(maps::small());
-    let mut left = cases::CASES;
-    let mut state = cases::SEED;
+    let mut case = cases::before_all();
     let mut sum = 0;
-    while left > 0 {
-        left -= 1;
-        let case = cases::case_after(state);
-        state = case.state;
+    while case.left > 0 {
+        case = cases::case_after(case);
         sum = cases::fold(sum, maps::drawn_step(0, &mut map, 0, case.a));
         sum = cases::fold(sum, result(&map, case));
     }

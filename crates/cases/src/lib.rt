@@ -1,24 +1,22 @@
-// What the test programs share: how cases are generated, and the checksum over what is answered on them.
+// What the test programs share: how cases are generated, the checksum over what is answered on them, and how lines are written.
 pub mod characters;
+pub mod lines;
 pub mod references;
 pub mod tables;
 
-ghost use Prim.Native.Nat.{_<_, _≤_};
+ghost use mathlib.Core.Path.{_≡_};
+ghost use Prim.Native.Nat.{_-_, _<_, _≤_};
 
 // An answer is a number: a value below this one, or this one and the number of a refusal.
 pub const REFUSED: u64 = 9223372036854775808;
 
-// The generator's first state, and the cases of each function.
-pub const SEED: u64 = 1966;
-
-pub const CASES: u64 = 8000;
-
-// A case: a number for choices, two values, and the generator's state after it.
+// A case: a number for choices, two values, the generator's state after it, and how many cases come after it.
 pub struct Case {
     pub a: u64,
     pub x: u64,
     pub y: u64,
     pub state: u64,
+    pub left: u64,
 }
 
 // The generator's next state: a shift register of 64 bits.
@@ -43,9 +41,23 @@ fn spread(drawn: u64) -> u64 {
     }
 }
 
-// The case after a state.
-pub fn case_after(state: u64) -> Case {
-    let a = next(state);
+// What stands before the 8,000 cases of a function.
+pub fn before_all() -> Case {
+    Case {
+        a: 0,
+        x: 0,
+        y: 0,
+        state: 1966,
+        left: 8000,
+    }
+}
+
+// The case after another.
+pub fn case_after(case: Case) -> Case
+    requires { ⌜ 0 < case .left ⌝ }
+    ensures { λ r. ⌜ r .left ≡ case .left - 1 ⌝ }
+{
+    let a = next(case.state);
     let x = next(a);
     let y = next(x);
     Case {
@@ -53,6 +65,7 @@ pub fn case_after(state: u64) -> Case {
         x: spread(x),
         y: spread(y),
         state: y,
+        left: case.left - 1,
     }
 }
 

@@ -42,7 +42,7 @@ live-words u m whole x k =
     subst (λ (n : ℕ). Within (u .s1) (u .s1 + n) x) (trees-fill u m whole) (each-mem (all-within (top (u .d)) (u .s1) (trees u m)) k)
 
 -- an answer taken apart
-at-passed : (k : Checked Location) (x : Location) → At x ≡ linked k → k ≡ passed x
+pub at-passed : (k : Checked Location) (x : Location) → At x ≡ linked k → k ≡ passed x
 unfolding linked
 at-passed (passed y) x h = let same : x ≡ y = cc in ap passed (sym same)
 at-passed (refused r) x h = let never : _≡_ {A = ℕ} 0 1 = cc in absurd (omega arith)

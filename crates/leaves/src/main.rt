@@ -18,13 +18,10 @@ fn result(which: u64, a: u64, x: u64, y: u64) -> u64 {
 
 // The checksum of a function over its cases.
 fn checksum(which: u64) -> u64 {
-    let mut left = cases::CASES;
-    let mut state = cases::SEED;
+    let mut case = cases::before_all();
     let mut sum = 0;
-    while left > 0 {
-        left -= 1;
-        let case = cases::case_after(state);
-        state = case.state;
+    while case.left > 0 {
+        case = cases::case_after(case);
         sum = cases::fold(sum, result(which, case.a, case.x, case.y));
     }
     sum
@@ -70,34 +67,8 @@ fn figure(which: u64) -> u64 {
     }
 }
 
-// Writes an answer.
-fn write_answer(answer: u64) {
-    if answer < cases::REFUSED {
-        io::print_decimal(1, answer);
-    } else {
-        io::write_all(1, b"refusal ");
-        io::print_decimal(1, answer - cases::REFUSED);
-    }
-}
-
-// A line for each name, and a newline ends each name: the name and its figure.
-fn try_all(names: &[u8]) {
-    let mut i = 0;
-    let mut which = 0;
-    while i < names.len() {
-        let byte = [names[i]];
-        if names[i] == b'\n' {
-            io::write_all(1, b": ");
-            write_answer(figure(which));
-            which += 1;
-        }
-        io::write_all(1, &byte);
-        i += 1;
-    }
-}
-
 fn main() {
-    try_all(
+    let names =
         b"power\nlow_bits\nadd\nsubtract\nmultiply\ndivide\nor\nand\nexclusive_or\ncomplement\n\
         count_ones\ncount_zeros\nleftmost_one\nrightmost_one\nleftmost_zero\nrightmost_zero\n\
         left_shift\nright_shift\nwidth\nread_field\nkept_bits\nstore_field\n\
@@ -106,6 +77,8 @@ fn main() {
         is_reference\nnames_in\nhas_length and check by length\ncheck\nrow_at\nis_usable\n\
         32769 into bits 6-20 of all ones, octal\n0 - 1 into 15 bits, octal\n2^35 times 3, octal\n\
         607 to decimal, octal\n1000607 to decimal, octal\nzeros to blanks, octal\neight printed of o60007, octal\n\
-        o606060060007 to binary\no000000060007 to binary\n",
-    );
+        o606060060007 to binary\no000000060007 to binary\n";
+    for which in 0..46 {
+        cases::lines::write_line(names, which, figure(which));
+    }
 }

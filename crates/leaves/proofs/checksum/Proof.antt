@@ -1,20 +1,20 @@
 -- `leaves::checksum` meets its contract. The measure is the cases left. Assumes nothing.
-use Prim.Native.Nat.{_≤_}
+use native.Mathlib.Omega.{arith}
 use borrow.Author.Needs.{needs}
 use Rattle.leaves.proofs.checksum.Statement.{statement}
 use Rattle.leaves.proofs.checksum.Tie as tie
 
 abbrev Inv-loop : tie.InvT-loop
-Inv-loop which left₀ state₀ sum₀ left state sum = left ≤ 8000
+Inv-loop which case₀ sum₀ case sum = Unit {0}
 
 abbrev μ-loop : tie.MeasureT-loop
-μ-loop which left₀ state₀ sum₀ left state sum = left
+μ-loop which case₀ sum₀ case sum = case .left
+
+before-all-requires : tie.Need-before-all-requires Inv-loop μ-loop
+before-all-requires c κs = search needs
 
 loop-holds : tie.Need-loop-holds Inv-loop μ-loop
-loop-holds c = search needs
-
-sub-left : tie.Need-sub-left Inv-loop μ-loop
-sub-left c = search needs
+loop-holds c = tt
 
 case-after-requires : tie.Need-case-after-requires Inv-loop μ-loop
 case-after-requires c κs = search needs
@@ -26,10 +26,10 @@ fold-requires : tie.Need-fold-requires Inv-loop μ-loop
 fold-requires c κs = search needs
 
 loop-less : tie.Need-loop-less Inv-loop μ-loop
-loop-less c = search needs
+loop-less c = omega arith
 
 loop-again : tie.Need-loop-again Inv-loop μ-loop
-loop-again c = search needs
+loop-again c = tt
 
 returns : tie.Need-returns Inv-loop μ-loop
 returns c = search needs
@@ -37,14 +37,4 @@ returns c = search needs
 pub checksum-spec : {M : Type 1} → statement M
 checksum-spec =
     tie.close
-    (tie.spec
-    Inv-loop
-    μ-loop
-    loop-holds
-    sub-left
-    case-after-requires
-    result-requires
-    fold-requires
-    loop-less
-    loop-again
-    returns)
+    (tie.spec Inv-loop μ-loop before-all-requires loop-holds case-after-requires result-requires fold-requires loop-less loop-again returns)

@@ -1,17 +1,15 @@
 -- `allocations::references::checksum` meets its contract. The measure is the cases left. Assumes nothing.
-use mathlib.Core.Path.{_≡_}
-use Prim.Native.Nat.{_≤_}
 use native.Mathlib.Omega.{arith}
-use Rattle.block.specs.SetUp.{words}
 use borrow.Author.Needs.{needs}
+use Rattle.block.specs.SetUp.{words}
 use Rattle.allocations.proofs.references.checksum.Statement.{statement}
 use Rattle.allocations.proofs.references.checksum.Tie as tie
 
 abbrev Inv-loop : tie.InvT-loop
-Inv-loop map₀ left₀ state₀ sum₀ map left state sum = left ≤ 8000
+Inv-loop map₀ case₀ sum₀ map case sum = Unit {0}
 
 abbrev μ-loop : tie.MeasureT-loop
-μ-loop map₀ left₀ state₀ sum₀ map left state sum = left
+μ-loop map₀ case₀ sum₀ map case sum = case .left
 
 small-requires : tie.Need-small-requires Inv-loop μ-loop
 small-requires c κs = search needs
@@ -20,11 +18,11 @@ fresh-requires : tie.Need-fresh-requires Inv-loop μ-loop
 unfolding words
 fresh-requires c κs = rw (c .small .ensures) (omega arith)
 
-loop-holds : tie.Need-loop-holds Inv-loop μ-loop
-loop-holds c = search needs
+before-all-requires : tie.Need-before-all-requires Inv-loop μ-loop
+before-all-requires c κs = search needs
 
-sub-left : tie.Need-sub-left Inv-loop μ-loop
-sub-left c = search needs
+loop-holds : tie.Need-loop-holds Inv-loop μ-loop
+loop-holds c = tt
 
 case-after-requires : tie.Need-case-after-requires Inv-loop μ-loop
 case-after-requires c κs = search needs
@@ -42,10 +40,10 @@ fold-requires-2 : tie.Need-fold-requires-2 Inv-loop μ-loop
 fold-requires-2 c κs = search needs
 
 loop-less : tie.Need-loop-less Inv-loop μ-loop
-loop-less c = search needs
+loop-less c = omega arith
 
 loop-again : tie.Need-loop-again Inv-loop μ-loop
-loop-again c = search needs
+loop-again c = tt
 
 returns : tie.Need-returns Inv-loop μ-loop
 returns c = search needs
@@ -58,8 +56,8 @@ checksum-spec =
     μ-loop
     small-requires
     fresh-requires
+    before-all-requires
     loop-holds
-    sub-left
     case-after-requires
     drawn-step-requires
     fold-requires

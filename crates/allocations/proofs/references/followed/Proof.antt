@@ -1,25 +1,17 @@
 -- `allocations::references::followed` meets its contract. Where a reference leads can be read. Assumes nothing.
-use Prim.Native.Nat.{ℕ}
-use native.Mathlib.Omega.{arith}
-use mathlib.Core.Path.{_≡_, ap, sym, _∙_}
+use mathlib.Core.Path.{_≡_, sym, _∙_}
 use mathlib.Core.Bool.{true}
 use Rattle.table.specs.declared.Pair.{Pair}
 use Rattle.table.specs.Reference.{isReference}
 use Rattle.machine.specs.declared.Location.{Location}
 use Rattle.machine.specs.declared.Linked.{Linked}
 use Rattle.machine.specs.declared.Linked.the-variants.{At}
-use Rattle.machine.specs.Answer.{Checked, passed, refused}
 use Rattle.machine.specs.Locate.{World, locate, linked, Readable, Reached}
+use Rattle.engine.proofs.Follows.{at-passed}
 use Rattle.engine.proofs.Readable.{locate-reached}
 use borrow.Author.Needs.{needs}
 use Rattle.allocations.proofs.references.followed.Statement.{statement}
 use Rattle.allocations.proofs.references.followed.Tie as tie
-
--- an answer that is a location
-at-passed : (k : Checked Location) (x : Location) → At x ≡ linked k → k ≡ passed x
-unfolding linked
-at-passed (passed y) x h = let same : x ≡ y = cc in ap passed (sym same)
-at-passed (refused r) x h = let never : _≡_ {A = ℕ} 0 1 = cc in absurd (omega arith)
 
 -- a location that is answered can be read
 leads-reached : (w : World) (p : Pair) (answer : Linked) (at : Location) → Readable 36 w → isReference (p .value) ≡ true
