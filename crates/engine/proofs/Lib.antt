@@ -2,3 +2,4 @@
 pub mod Links
 pub mod Follows
 pub mod Readable
+pub mod Stored

@@ -3,7 +3,7 @@
 use Prim.Native.Nat.{ℕ, _%_, _≤_}
 use native.Mathlib.Nat.{zero-mod}
 use native.Mathlib.Omega.{arith}
-use mathlib.Core.Bool.{true}
+use mathlib.Core.Bool.{true, _||_}
 use mathlib.Core.List.{List, [], _∷_}
 use mathlib.Core.Logic.{_⊎_, inl, inr}
 use mathlib.Core.Path.{_≡_, subst}
@@ -39,6 +39,10 @@ numbers lent u (inl f) =
 numbers lent u (inr a) =
     let k = absent-facts u a in
     record { first = omega (arith, k .first); last = omega (arith, k .last); whole = rw (k .count) (zero-mod _); room = omega (arith, k .count) }
+
+-- numbers that fit, or that are absent, leave room for the words
+pub numbers-room : (lent : ℕ) (u : SetUp) → (fitting lent u || absent u) ≡ true → words u ≤ lent
+numbers-room lent u h = numbers lent u (or-parts _ _ h) .room
 
 pub sound-readable : (b : ℕ) (e : Engine) → b ≤ 48 → soundEngine b e ≡ true → Readable b (world e)
 unfolding world environmentOf

@@ -1,16 +1,24 @@
-// Soundness of the core: refusal 11, clause by clause.
+// Soundness: refusal 11, clause by clause.
 ghost use mathlib.Core.Bool.{_&&_, _||_, cond};
 ghost use mathlib.Core.Path.{_≡_};
-ghost use Prim.Native.Nat.{_^_, _<_};
+ghost use mathlib.Core.List.{[]};
+ghost use Prim.Native.Nat.{_^_, _≤_, _<_};
 ghost use lib.Dec.{eqb, ltb};
-ghost use Rattle.machine.specs.Sound.{every, isRow, isPlace, isDefinition, soundPlace, soundStack, soundStacks, soundCore};
+ghost use lib.ListN.{length, take};
+ghost use Rattle.block.specs.SetUp.{words};
+ghost use Rattle.machine.specs.Sound.{every, isRow, isPlace, isDefinition, soundPlace, soundStack, soundStacks, soundCore, soundStorage, sound};
+use block::SetUp;
+use buddy::section::keeps_section;
+use buddy::section::words_of;
+use buddy::setup::fits;
+use buddy::setup::is_absent;
 use machine::Core;
 use machine::Definition;
 use machine::Place;
 use word::arithmetic::power;
 
 // Each of these words is below 2^b.
-pub(crate) fn are_words(b: u64, words: &[u64]) -> bool
+fn are_words(b: u64, words: &[u64]) -> bool
     requires { ⌜ b < 64 ⌝ }
     ensures { λ r. ⌜ r ≡ every (λ x. ltb x (2 ^ b)) (now (words .entry)) ⌝ }
 {
@@ -140,7 +148,7 @@ fn are_stacks(b: u64, core: Core) -> bool
 }
 
 // Bugs, definitions, place and stacks in range.
-pub fn is_sound_core(b: u64, core: Core) -> bool
+fn is_sound_core(b: u64, core: Core) -> bool
     requires { ⌜ b < 64 ⌝ }
     ensures { λ r. ⌜ r ≡ soundCore b core ⌝ }
 {
@@ -151,4 +159,50 @@ pub fn is_sound_core(b: u64, core: Core) -> bool
         & are_definitions(b, definitions)
         & is_sound_place(place)
         & are_stacks(b, core)
+}
+
+// The set-up words are below 2^b.
+fn are_set_up_words(b: u64, setup: SetUp, storage: &[u64]) -> bool
+    requires { ⌜ (b < 64) × (words setup ≤ length (now storage)) ⌝ }
+    ensures { λ r. ⌜ r ≡ every (λ x. ltb x (2 ^ b)) (take (words setup) (now (storage .entry))) ⌝ }
+{
+    let end = words_of(setup);
+    are_words(b, &storage[..end])
+}
+
+// Set-up numbers that fit the lent storage, or none yet; blocks that keep their section; set-up words in range.
+fn is_sound_storage(b: u64, setup: SetUp, map: &[u8], storage: &[u64]) -> bool
+    requires { ⌜ b < 64 ⌝ }
+    ensures { λ r. ⌜ r ≡ soundStorage b setup (now (map .entry)) (now (storage .entry)) ⌝ }
+{
+    let fitting = fits(
+        storage.len(),
+        setup.d as u64,
+        setup.s1 as u64,
+        setup.s2 as u64,
+    );
+    let known = fitting | is_absent(setup);
+    if !known {
+        return false;
+    }
+    keeps_section(setup, map) & are_set_up_words(b, setup, storage)
+}
+
+// A sound engine: core and storage, and counts not past the input's or the output's length.
+pub fn is_sound(
+    b: u64,
+    core: Core,
+    map: &[u8],
+    storage: &[u64],
+    input: &[u8],
+    output: &[u8],
+) -> bool
+    requires { ⌜ b < 64 ⌝ }
+    ensures { λ r. ⌜ r ≡ sound b (record { table = []; input = now (input .entry); output = now (output .entry) }) (record { state = record { core = core; map = now (map .entry) }; storage = now (storage .entry) }) ⌝ }
+{
+    let setup = core.setup;
+    is_sound_core(b, core)
+        & is_sound_storage(b, setup, map, storage)
+        & (core.taken <= input.len())
+        & (core.written <= output.len())
 }

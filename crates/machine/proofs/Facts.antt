@@ -89,7 +89,7 @@ core-facts b c h =
       calls = stack-facts _ _ _ calls;
     }
 
-pub storage-facts : (b : ℕ) (s : State) (storage : List ℕ) → soundStorage b s storage ≡ true → StorageFacts b s storage
+pub storage-facts : (b : ℕ) (s : State) (storage : List ℕ) → soundStorage b (s .core .setup) (s .map) storage ≡ true → StorageFacts b s storage
 unfolding soundStorage
 storage-facts b s storage h =
     let (s₁, values) = and-parts _ _ h in
@@ -104,7 +104,7 @@ pub record Facts (b : ℕ) (e : Engine) : Type 0 where
 pub sound-facts : (b : ℕ) (e : Engine) → soundEngine b e ≡ true → Facts b e
 unfolding soundEngine
 sound-facts b e h =
-    let parts = and-parts (soundCore b (e .state .core)) (soundStorage b (e .state) (e .storage)) h in
+    let parts = and-parts (soundCore b (e .state .core)) (soundStorage b (e .state .core .setup) (e .state .map) (e .storage)) h in
     record { core = core-facts b (e .state .core) (parts .0); storage = storage-facts b (e .state) (e .storage) (parts .1) }
 
 pub facts-sound : (b : ℕ) (e : Engine) → Facts b e → soundEngine b e ≡ true

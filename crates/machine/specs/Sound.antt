@@ -5,6 +5,7 @@ use mathlib.Core.Bool.{Bool, true, _&&_, _||_, not, cond}
 use mathlib.Core.List.{List, [], _∷_}
 use lib.Dec.{eqb, leb, ltb}
 use lib.ListN.{length, take}
+use Rattle.block.specs.declared.SetUp.{SetUp}
 use Rattle.block.specs.SetUp.{words, fitting, absent}
 use Rattle.block.specs.Map.{keeps}
 use Rattle.machine.specs.declared.Place.{Place}
@@ -62,11 +63,11 @@ soundStacks b c =
     && soundStack isPlace (c .calls .count) (c .calls .entries)
 
 -- set-up numbers in range, against the lent storage too, or none yet; blocks that keep their section; set-up words below 2 ^ b
-unfoldable pub soundStorage : ℕ → State → List ℕ → Bool
-soundStorage b s storage =
-    (fitting (length storage) (s .core .setup) || absent (s .core .setup))
-    && keeps (s .core .setup) (s .map)
-    && every (λ x. ltb x (2 ^ b)) (take (words (s .core .setup)) storage)
+unfoldable pub soundStorage : ℕ → SetUp → List ℕ → List ℕ → Bool
+soundStorage b setup map storage =
+    (fitting (length storage) setup || absent setup)
+    && keeps setup map
+    && every (λ x. ltb x (2 ^ b)) (take (words setup) storage)
 
 -- bugs below 2 ^ b, definitions, place and stacks in range
 unfoldable pub soundCore : ℕ → Core → Bool
@@ -78,7 +79,8 @@ soundCore b c =
 
 -- what of soundness no lent table, input or output bears on
 unfoldable pub soundEngine : ℕ → Engine → Bool
-soundEngine b e = soundCore b (e .state .core) && soundStorage b (e .state) (e .storage)
+soundEngine b e =
+    soundCore b (e .state .core) && soundStorage b (e .state .core .setup) (e .state .map) (e .storage)
 
 -- sound: and the counts are not past the input's or the output's length
 unfoldable pub sound : ℕ → Lent → Engine → Bool
