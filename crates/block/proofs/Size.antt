@@ -10,7 +10,7 @@ use borrow.Author.Tests.{ltb-true, leb-true, eqb-true, eq-eqb, ne-eqb}
 use Rattle.block.specs.declared.SetUp.{SetUp}
 use Rattle.block.specs.Blocks.{size, level}
 use Rattle.block.specs.SetUp.{top, words, fitting, absent}
-use Rattle.word.proofs.Tests.{and-true, by-leb}
+use Rattle.word.proofs.Tests.{and-true, either-way, by-leb}
 
 -- the first size
 pub size-zero : size 0 ≡ 1
@@ -42,6 +42,11 @@ size-strict {j} {k} h =
     let l : 2 ^ suc j ≤ 2 ^ k = pow-mono h in
     rw (size-pow j, size-pow k) (omega arith)
 
+-- the sizes up to the seventh are small
+pub size-small : (k : ℕ) → k ≤ 7 → size k ≤ 128
+unfolding size
+size-small k h = size-mono {j = k} {k = 7} h
+
 -- a size divides the later ones
 pub size-divides : {j k : ℕ} → j ≤ k → (q : ℕ) × (size k ≡ q * size j)
 size-divides {j} {k} h = (2 ^ (k - j), rw (size-pow j, size-pow k, ← pow-add, sub-add-cancel h))
@@ -62,6 +67,11 @@ pub level-le : (k n : ℕ) → level k n ≤ k
 unfolding level
 level-le zero n = omega arith
 level-le (suc k) n = by-leb (λ t. cond t (level k n) (suc k) ≤ suc k) n (size k) (λ l. omega (arith, level-le k n)) (λ l. omega arith)
+
+-- the largest size is one of the first eight
+pub top-le : (d : ℕ) → top d ≤ 7
+unfolding top
+top-le d = level-le 7 d
 
 -- the block of a level holds n if the largest does
 pub level-fits : (k n : ℕ) → n ≤ size k → n ≤ size (level k n)
@@ -96,6 +106,11 @@ words-set u h = rw (ne-eqb (u .d) 0 (omega arith))
 pub words-none : (u : SetUp) → u .d ≡ 0 → words u ≡ 0
 unfolding words
 words-none u e = rw (eq-eqb (u .d) 0 e)
+
+-- there are no more words than addresses from the first to the last
+pub words-le : (u : SetUp) → words u ≤ suc (u .s2) - u .s1
+unfolding words
+words-le u = either-way (λ (n : ℕ). n ≤ suc (u .s2) - u .s1) (eqb (u .d) 0) (omega arith) (omega arith)
 
 -- what a fitting set-up says
 pub record Fitting (lent : ℕ) (u : SetUp) : Type 0 where

@@ -2,6 +2,3 @@
 pub mod Blocks
 pub mod SetUp
 pub mod Map
-pub mod Part
-pub mod Lowest
-pub mod Tag

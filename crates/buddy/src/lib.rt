@@ -1,5 +1,18 @@
-// The buddy allocator on a block map: what its functions give stands in the crate block.
+// The buddy allocator on a block map. What its functions give stands in the crate block, and in specs/ what those inside it give.
 pub mod section;
 pub mod setup;
 pub mod sizes;
 mod tree;
+
+// An address, or none.
+pub enum Found {
+    At(usize),
+    Nothing,
+}
+
+// What the bytes of one block tell: no tree that keeps the section, one free block, or a tree with a live block in it.
+pub enum Part {
+    Broken,
+    Free,
+    Taken,
+}

@@ -3,13 +3,15 @@ ghost use mathlib.Core.Path.{_≡_};
 ghost use mathlib.Core.Bool.{true};
 ghost use Prim.Native.Nat.{_+_, _-_, _*_, _/_, _%_, _≤_, _<_};
 ghost use lib.ListN.{length};
-ghost use Rattle.block.specs.declared.Found.the-variants.{At};
+ghost use Rattle.buddy.specs.declared.Found.the-variants.{At};
 ghost use Rattle.block.specs.Blocks.{size, sizeAt};
 ghost use Rattle.block.specs.SetUp.{top, words, runs};
 ghost use Rattle.block.specs.Map.{allTold, keeps, live, freedMap, deliveredMap};
-ghost use Rattle.block.specs.Part.{whole, allWhole};
-ghost use Rattle.block.specs.Lowest.{firstOf, lowestOf};
-ghost use Rattle.block.specs.Tag.{tagSize};
+ghost use Rattle.buddy.specs.Part.{whole, allWhole};
+ghost use Rattle.buddy.specs.Lowest.{firstOf, lowestOf};
+ghost use Rattle.buddy.specs.Tag.{tagSize};
+use super::Found;
+use super::Part;
 use super::sizes::size_of;
 use super::sizes::top_of;
 use super::tree::check;
@@ -17,8 +19,6 @@ use super::tree::deliver_at;
 use super::tree::free_at;
 use super::tree::lowest;
 use super::tree::zero_from;
-use block::Found;
-use block::Part;
 use block::SetUp;
 
 // How many words are set up.

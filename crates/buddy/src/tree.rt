@@ -7,11 +7,11 @@ ghost use lib.Dec.{ltb};
 ghost use lib.ListN.{length, replicate, drop};
 ghost use Rattle.block.specs.Blocks.{Tree, Free, size, joined, freed, delivered};
 ghost use Rattle.block.specs.Map.{freeTag, liveTag, written, same, canonical};
-ghost use Rattle.block.specs.Part.{part, both, leaf};
-ghost use Rattle.block.specs.Lowest.{lowestIn};
-ghost use Rattle.block.specs.declared.Found.the-variants.{At};
-use block::Found;
-use block::Part;
+ghost use Rattle.buddy.specs.Part.{part, both, leaf};
+ghost use Rattle.buddy.specs.Lowest.{lowestIn};
+ghost use Rattle.buddy.specs.declared.Found.the-variants.{At};
+use super::Found;
+use super::Part;
 
 // The byte of a free block of the k-th size.
 pub(crate) fn free_tag(k: u8) -> u8

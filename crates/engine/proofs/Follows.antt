@@ -8,11 +8,11 @@ use mathlib.Core.List.{List, [], _∷_, List·Memᴰ}
 use mathlib.Core.Path.{_≡_, refl, ap, sym, subst, _∙_}
 use lib.ListN.{length, getD, drop, drop-of-length-le}
 use lib.Seq.{drop-cons, getD-drop}
+use Rattle.block.proofs.Size.{words-le}
 use Rattle.block.specs.declared.SetUp.{SetUp}
 use Rattle.block.specs.Blocks.{Block, size, sizeAt}
 use Rattle.block.specs.SetUp.{top, words}
 use Rattle.block.specs.Map.{trees, live}
-use Rattle.block.proofs.Count.{words-le}
 use Rattle.block.proofs.Each.{each-mem}
 use Rattle.block.proofs.Map.{trees-fill}
 use Rattle.block.proofs.Tiling.{sizeAt-mem}

@@ -2,9 +2,7 @@
 use mathlib.Core.Path.{_≡_}
 use Prim.Native.Nat.{_-_, _≤_, _<_}
 use native.Mathlib.Omega.{arith}
-use Rattle.block.proofs.Address.{top-le}
-use Rattle.block.proofs.Halves.{size-small}
-use Rattle.block.proofs.Size.{size-pos}
+use Rattle.block.proofs.Size.{size-pos, top-le, size-small}
 use borrow.Author.Needs.{needs}
 use Rattle.allocations.proofs.maps.fresh.Statement.{statement}
 use Rattle.allocations.proofs.maps.fresh.Tie as tie

@@ -3,10 +3,9 @@ use mathlib.Core.Path.{_≡_, sym, _∙_}
 use mathlib.Core.List.{List, [], _∷_, List·Memᴰ, List·Memᴰ·head}
 use Prim.Native.Nat.{ℕ}
 use native.Mathlib.Omega.{arith}
-use Rattle.block.specs.Lowest.{firstOf}
-use Rattle.block.proofs.Address.{top-le}
+use Rattle.buddy.specs.Lowest.{firstOf}
 use Rattle.block.proofs.Runs.{runs-sound}
-use Rattle.block.proofs.Size.{size-pos, level-le}
+use Rattle.block.proofs.Size.{size-pos, level-le, top-le}
 use borrow.Author.Needs.{needs}
 use Rattle.allocations.proofs.maps.get.Statement.{statement}
 use Rattle.allocations.proofs.maps.get.Tie as tie

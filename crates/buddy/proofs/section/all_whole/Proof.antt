@@ -4,9 +4,9 @@ use mathlib.Core.Bool.{Bool, _&&_}
 use Prim.Native.Nat.{ℕ, _+_, _-_, _*_, _≤_}
 use native.Mathlib.Omega.{arith}
 use lib.ListN.{length, drop}
-use Rattle.block.specs.Part.{whole, allWhole}
-use Rattle.block.proofs.Halves.{times-pred, part-length}
-use Rattle.block.proofs.Keeping.{whole-next, whole-end}
+use Rattle.buddy.specs.Part.{whole, allWhole}
+use Rattle.buddy.proofs.Halves.{times-pred, part-length}
+use Rattle.buddy.proofs.Keeping.{whole-next, whole-end}
 use Rattle.buddy.proofs.section.all_whole.Statement.{statement}
 use Rattle.buddy.proofs.section.all_whole.Tie as tie
 

@@ -3,9 +3,9 @@ use mathlib.Core.Path.{_∙_}
 use Prim.Native.Nat.{_-_, _*_, _/_}
 use native.Mathlib.Nat.{div-add-mod', mod-lt}
 use native.Mathlib.Omega.{arith}
-use Rattle.block.proofs.Halves.{part-length}
-use Rattle.block.proofs.Size.{size-pos}
-use Rattle.block.proofs.Address.{top-le, tree-fits, frees-map}
+use Rattle.buddy.proofs.Halves.{part-length}
+use Rattle.block.proofs.Size.{size-pos, top-le}
+use Rattle.buddy.proofs.Address.{tree-fits, frees-map}
 use borrow.Author.Needs.{needs}
 use Rattle.buddy.proofs.section.free_block.Statement.{statement}
 use Rattle.buddy.proofs.section.free_block.Tie as tie

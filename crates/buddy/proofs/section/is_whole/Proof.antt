@@ -1,5 +1,5 @@
 -- `is_whole` tells that a part is not broken. Assumes nothing.
-use Rattle.block.specs.Part.{whole}
+use Rattle.buddy.specs.Part.{whole}
 use borrow.Author.Needs.{needs}
 use Rattle.buddy.proofs.section.is_whole.Statement.{statement}
 use Rattle.buddy.proofs.section.is_whole.Tie as tie

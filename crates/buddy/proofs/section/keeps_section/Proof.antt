@@ -6,9 +6,8 @@ use mathlib.Core.Bool.{_&&_}
 use native.Mathlib.Nat.{div-add-mod'}
 use native.Mathlib.Omega.{arith}
 use borrow.Author.Needs.{needs}
-use Rattle.block.proofs.Size.{size-pos}
-use Rattle.block.proofs.Address.{top-le}
-use Rattle.block.proofs.Count.{count-short, count-keeps}
+use Rattle.block.proofs.Size.{size-pos, top-le}
+use Rattle.buddy.proofs.Count.{count-short, count-keeps}
 use Rattle.buddy.proofs.section.keeps_section.Statement.{statement}
 use Rattle.buddy.proofs.section.keeps_section.Tie as tie
 

@@ -2,7 +2,7 @@
 use mathlib.Core.Path.{sym, _∙_}
 use native.Mathlib.Omega.{arith}
 use Rattle.block.proofs.Map.{keeps-words}
-use Rattle.block.proofs.Address.{live-below, live-above, live-tag}
+use Rattle.buddy.proofs.Address.{live-below, live-above, live-tag}
 use borrow.Author.Needs.{needs}
 use Rattle.buddy.proofs.section.live_size.Statement.{statement}
 use Rattle.buddy.proofs.section.live_size.Tie as tie

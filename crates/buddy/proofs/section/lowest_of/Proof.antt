@@ -5,12 +5,12 @@ use mathlib.Core.Bool.{true}
 use Prim.Native.Nat.{ℕ, _+_, _-_, _*_}
 use native.Mathlib.Omega.{arith}
 use lib.ListN.{drop}
-use Rattle.block.specs.declared.Found.{Found}
+use Rattle.buddy.specs.declared.Found.{Found}
 use Rattle.block.specs.Map.{allTold}
-use Rattle.block.specs.Part.{allWhole}
-use Rattle.block.specs.Lowest.{orElse, lowestOf}
-use Rattle.block.proofs.Halves.{times-pred, part-length}
-use Rattle.block.proofs.Keeping.{whole-rest, found-next, lowest-end}
+use Rattle.buddy.specs.Part.{allWhole}
+use Rattle.buddy.specs.Lowest.{orElse, lowestOf}
+use Rattle.buddy.proofs.Halves.{times-pred, part-length}
+use Rattle.buddy.proofs.Keeping.{whole-rest, found-next, lowest-end}
 use Rattle.buddy.proofs.section.lowest_of.Statement.{statement}
 use Rattle.buddy.proofs.section.lowest_of.Tie as tie
 

@@ -1,10 +1,9 @@
 -- `lowest_run` finds the first of the aligned runs. Assumes nothing.
 use mathlib.Core.Path.{_∙_}
 use native.Mathlib.Omega.{arith}
-use Rattle.block.proofs.Size.{size-pos}
+use Rattle.block.proofs.Size.{size-pos, top-le, words-le}
 use Rattle.block.proofs.Map.{keeps-words}
-use Rattle.block.proofs.Address.{top-le}
-use Rattle.block.proofs.Count.{words-le, count-fill, count-all, count-first}
+use Rattle.buddy.proofs.Count.{count-fill, count-all, count-first}
 use borrow.Author.Needs.{needs}
 use Rattle.buddy.proofs.section.lowest_run.Statement.{statement}
 use Rattle.buddy.proofs.section.lowest_run.Tie as tie

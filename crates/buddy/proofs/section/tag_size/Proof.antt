@@ -1,7 +1,7 @@
 -- `tag_size` gives the size of the live block of which a byte is the tag. Assumes nothing.
 use mathlib.Core.Path.{_∙_}
 use borrow.Author.Tests.{lt-ltb, le-ltb, eq-eqb, ne-eqb}
-use Rattle.block.specs.Tag.{tagSize}
+use Rattle.buddy.specs.Tag.{tagSize}
 use borrow.Author.Needs.{needs}
 use Rattle.buddy.proofs.section.tag_size.Statement.{statement}
 use Rattle.buddy.proofs.section.tag_size.Tie as tie

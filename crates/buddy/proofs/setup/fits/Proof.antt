@@ -5,9 +5,8 @@ use borrow.Author.Needs.{needs}
 use borrow.Author.Tests.{not-true, not-false}
 use Rattle.block.specs.Blocks.{size}
 use Rattle.block.specs.SetUp.{top}
-use Rattle.block.proofs.Address.{top-le}
-use Rattle.block.proofs.Judged.{not-largest, found-largest, not-placed, words-judged, placed-order}
-use Rattle.block.proofs.Size.{size-pos}
+use Rattle.buddy.proofs.Judged.{not-largest, found-largest, not-placed, words-judged, placed-order}
+use Rattle.block.proofs.Size.{size-pos, top-le}
 use Rattle.buddy.proofs.setup.fits.Statement.{statement}
 use Rattle.buddy.proofs.setup.fits.Tie as tie
 

@@ -1,7 +1,7 @@
 -- `level_of` gives the level of n up to k. The measure is k. Assumes nothing.
 use mathlib.Core.Path.{sym, _∙_}
 use native.Mathlib.Omega.{arith}
-use Rattle.block.proofs.Halves.{level-first, level-down, level-stays}
+use Rattle.buddy.proofs.Halves.{level-first, level-down, level-stays}
 use Prim.Native.Nat.{ℕ, _<_}
 use borrow.Fn.Kinds.{In, Out}
 use borrow.Fn.PlainCycle.{Measures, is, falls, and}

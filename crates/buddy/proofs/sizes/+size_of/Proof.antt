@@ -1,7 +1,8 @@
 -- `size_of` gives the k-th size. The measure is k. Assumes nothing.
 use mathlib.Core.Path.{sym, ap₂, _∙_}
 use native.Mathlib.Omega.{arith}
-use Rattle.block.proofs.Halves.{size-first, size-pred, size-small}
+use Rattle.block.proofs.Size.{size-small}
+use Rattle.buddy.proofs.Halves.{size-first, size-pred}
 use Prim.Native.Nat.{ℕ, _<_, _+_, _-_}
 use borrow.Fn.Kinds.{In, Out}
 use borrow.Fn.PlainCycle.{Measures, is, falls, and}

@@ -2,10 +2,10 @@
 use mathlib.Core.Path.{sym, ap₂, _∙_}
 use native.Mathlib.Omega.{arith}
 use lib.Seq.{length-take-le}
-use Rattle.block.specs.Part.{both}
+use Rattle.buddy.specs.Part.{both}
 use Rattle.block.proofs.Size.{size-pos}
-use Rattle.block.proofs.Halves.{low-length, high-length}
-use Rattle.block.proofs.Parts.{part-free, part-live, part-word, part-halves}
+use Rattle.buddy.proofs.Halves.{low-length, high-length}
+use Rattle.buddy.proofs.Parts.{part-free, part-live, part-word, part-halves}
 use Prim.Native.Nat.{ℕ, _<_}
 use borrow.Fn.Kinds.{In, Out}
 use borrow.Fn.PlainCycle.{Measures, is, falls, and}

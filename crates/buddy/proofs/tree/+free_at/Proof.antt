@@ -6,8 +6,8 @@ use native.Mathlib.Nat.{le-add-right}
 use native.Mathlib.Omega.{arith}
 use lib.ListN.{length}
 use Rattle.block.proofs.Size.{size-pos}
-use Rattle.block.proofs.Halves.{Around, around}
-use Rattle.block.proofs.Tags.{frees-live, frees-free, frees-word, frees-half}
+use Rattle.buddy.proofs.Halves.{Around, around}
+use Rattle.buddy.proofs.Tags.{frees-live, frees-free, frees-word, frees-half}
 use Prim.Native.Nat.{ℕ, _<_}
 use borrow.Fn.Kinds.{In, Out}
 use borrow.Fn.PlainCycle.{Measures, is, falls, and}

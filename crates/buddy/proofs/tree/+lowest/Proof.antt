@@ -5,8 +5,8 @@ use Prim.Native.Nat.{_-_, _+_}
 use native.Mathlib.Omega.{arith}
 use lib.Seq.{length-take-le}
 use Rattle.block.proofs.Size.{size-pos}
-use Rattle.block.proofs.Halves.{half-size, size-pred, low-length, high-length}
-use Rattle.block.proofs.Lowest.{lowest-free, lowest-live, lowest-small, Halved-above, lowest-low, lowest-high}
+use Rattle.buddy.proofs.Halves.{half-size, size-pred, low-length, high-length}
+use Rattle.buddy.proofs.Lowest.{lowest-free, lowest-live, lowest-small, Halved-above, lowest-low, lowest-high}
 use Prim.Native.Nat.{ℕ, _<_}
 use borrow.Fn.Kinds.{In, Out}
 use borrow.Fn.PlainCycle.{Measures, is, falls, and}

@@ -5,8 +5,8 @@ use Prim.Native.Nat.{_/_}
 use native.Mathlib.Omega.{arith}
 use lib.ListN.{length, length-set}
 use Rattle.block.proofs.Size.{size-pos}
-use Rattle.block.proofs.Halves.{half-size, part-length}
-use Rattle.block.proofs.Tags.{split-ends, split-goes}
+use Rattle.buddy.proofs.Halves.{half-size, part-length}
+use Rattle.buddy.proofs.Tags.{split-ends, split-goes}
 use Prim.Native.Nat.{ℕ, _<_}
 use borrow.Fn.Kinds.{In, Out}
 use borrow.Fn.PlainCycle.{Measures, is, falls, and}

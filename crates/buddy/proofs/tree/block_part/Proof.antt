@@ -1,6 +1,6 @@
 -- `block_part` tells a block whose first byte is its tag: its other bytes are zero. Assumes nothing.
 use mathlib.Core.Path.{sym, _∙_}
-use Rattle.block.specs.Part.{leaf}
+use Rattle.buddy.specs.Part.{leaf}
 use borrow.Author.Needs.{needs}
 use Rattle.buddy.proofs.tree.block_part.Statement.{statement}
 use Rattle.buddy.proofs.tree.block_part.Tie as tie

@@ -1,5 +1,5 @@
 -- `both_parts` tells two halves by the part that each is. Assumes nothing.
-use Rattle.block.specs.Part.{both}
+use Rattle.buddy.specs.Part.{both}
 use borrow.Author.Needs.{needs}
 use Rattle.buddy.proofs.tree.both_parts.Statement.{statement}
 use Rattle.buddy.proofs.tree.both_parts.Tie as tie

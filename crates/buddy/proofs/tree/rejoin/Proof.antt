@@ -6,8 +6,8 @@ use native.Mathlib.Omega.{arith}
 use Rattle.block.specs.Blocks.{size, joined}
 use Rattle.block.specs.Map.{freeTag, written}
 use Rattle.block.proofs.Size.{size-pos}
-use Rattle.block.proofs.Halves.{half-size}
-use Rattle.block.proofs.Tags.{rejoins, leaves-low, leaves-high}
+use Rattle.buddy.proofs.Halves.{half-size}
+use Rattle.buddy.proofs.Tags.{rejoins, leaves-low, leaves-high}
 use borrow.Author.Needs.{needs}
 use Rattle.buddy.proofs.tree.rejoin.Statement.{statement}
 use Rattle.buddy.proofs.tree.rejoin.Tie as tie

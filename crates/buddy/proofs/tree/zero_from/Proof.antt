@@ -1,4 +1,4 @@
-use Rattle.block.proofs.Zeros.{zero-next, zero-not, zero-end}
+use Rattle.buddy.proofs.Zeros.{zero-next, zero-not, zero-end}
 -- Assumes nothing.
 -- `zero_from` tests that every byte from a place on is zero. The loop's invariant: the answer is that of the bytes from i on.
 use mathlib.Core.Path.{_≡_, refl, sym, _∙_}

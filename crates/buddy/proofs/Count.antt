@@ -2,26 +2,20 @@
 use mathlib.Core.Path.{_≡_, refl, sym}
 use mathlib.Core.Bool.{true, false, _&&_}
 use mathlib.Core.List.{List}
-use Prim.Native.Nat.{ℕ, suc, _+_, _-_, _*_, _/_, _%_, _≤_}
+use Prim.Native.Nat.{ℕ, _+_, _-_, _*_, _/_, _%_, _≤_}
 use native.Mathlib.Nat.{div-add-mod'}
 use native.Mathlib.Omega.{arith}
-use lib.Dec.{eqb}
 use lib.ListN.{length, drop, replicate}
 use Rattle.block.specs.declared.SetUp.{SetUp}
 use Rattle.block.specs.Blocks.{size}
 use Rattle.block.specs.SetUp.{top, words, runs}
 use Rattle.block.specs.Map.{same, allTold, trees, keeps, live}
-use Rattle.block.specs.Part.{allWhole}
-use Rattle.block.specs.Lowest.{firstOf, lowestOf}
-use Rattle.word.proofs.Tests.{either-way, by-test}
+use Rattle.buddy.specs.Part.{allWhole}
+use Rattle.buddy.specs.Lowest.{firstOf, lowestOf}
+use Rattle.word.proofs.Tests.{by-test}
 use Rattle.block.proofs.Map.{keeps-long}
-use Rattle.block.proofs.Keeping.{keeps-whole, keeps-all}
-use Rattle.block.proofs.First.{first-run}
-
--- there are no more words than addresses from the first to the last
-pub words-le : (u : SetUp) → words u ≤ suc (u .s2) - u .s1
-unfolding words
-words-le u = either-way (λ (n : ℕ). n ≤ suc (u .s2) - u .s1) (eqb (u .d) 0) (omega arith) (omega arith)
+use Rattle.buddy.proofs.Keeping.{keeps-whole, keeps-all}
+use Rattle.buddy.proofs.First.{first-run}
 
 module _ (u : SetUp) (k n w : ℕ) (ek : k ≡ top (u .d)) (en : n ≡ size k) (ew : w ≡ words u) where
   -- a map that keeps the section is as long as the trees and the bytes past the words

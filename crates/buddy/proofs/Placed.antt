@@ -3,18 +3,18 @@ use mathlib.Core.Path.{_≡_, sym, ap, ap₂, subst, _∙_}
 use mathlib.Core.Bool.{true}
 use mathlib.Core.Logic.{⊎-elim}
 use mathlib.Core.List.{List, [], _∷_, _++_, append-assoc}
-use Prim.Native.Nat.{ℕ, zero, suc, _+_, _-_, _*_, _≤_, _<_}
+use Prim.Native.Nat.{ℕ, zero, suc, _+_, _*_, _≤_, _<_}
 use native.Mathlib.Omega.{arith}
 use lib.ListN.{length, take, drop}
 use lib.Seq.{take-at, drop-at, drop-drop, take-add}
 use borrow.Author.Tests.{lt-ltb, le-ltb}
-use Rattle.block.specs.declared.Found.the-variants.{At}
+use Rattle.buddy.specs.declared.Found.the-variants.{At}
 use Rattle.block.specs.Blocks.{size, Tree, changed}
 use Rattle.block.specs.Map.{written, canonical, allWritten, allCanonical}
-use Rattle.block.specs.Lowest.{lowestIn, lowestOf}
+use Rattle.buddy.specs.Lowest.{lowestIn, lowestOf}
 use Rattle.word.proofs.Tests.{and-true}
-use Rattle.block.proofs.Delivered.{found-where, lowest-bound, lowestOf-bound}
+use Rattle.buddy.proofs.Delivered.{found-where, lowest-bound, lowestOf-bound}
 use Rattle.block.proofs.Map.{length-written}
 
 -- the tree at the q-th place of trees whose map is m
 pub record Placed (k q : ℕ) (ts : List Tree) (m rest : List ℕ) : Type 0 where

@@ -5,19 +5,19 @@ use mathlib.Core.List.{List, [], _∷_}
 use Prim.Native.Nat.{ℕ, zero, suc, _+_, _%_, _≤_, _<_}
 use native.Mathlib.Nat.{le-suc, add-mod-right}
 use native.Mathlib.Omega.{arith}
 use Rattle.block.specs.declared.SetUp.{SetUp}
-use Rattle.block.specs.declared.Found.{Found}
-use Rattle.block.specs.declared.Found.the-variants.{At, Nothing}
+use Rattle.buddy.specs.declared.Found.{Found}
+use Rattle.buddy.specs.declared.Found.the-variants.{At, Nothing}
 use Rattle.block.specs.Blocks.{size, Block, Tree, Free, Live, Halves, freeIn, gathered}
 use Rattle.block.specs.SetUp.{top, fitting, runs}
 use Rattle.block.specs.Map.{trees, keeps, live, free}
-use Rattle.block.specs.Lowest.{firstOf, orElse, lowestIn, lowestOf}
+use Rattle.buddy.specs.Lowest.{firstOf, orElse, lowestIn, lowestOf}
 use Rattle.word.proofs.Tests.{by-leb}
 use Rattle.block.proofs.Size.{size-suc, size-pos, size-mono, aligned-smaller, fitting-facts}
 use Rattle.block.proofs.Change.{words-whole}
 use Rattle.block.proofs.Each.{Each, each-nil, each-cons, each-append, each-parts, each-map}
 use Rattle.block.proofs.Tiling.{tree-order, order-each}
-use Rattle.block.proofs.First.{first-run}
+use Rattle.buddy.proofs.First.{first-run}
 
 -- nothing is found where nothing is in either
 orElse-nothing : (x y : Found) → orElse x y ≡ Nothing → (x ≡ Nothing) × (y ≡ Nothing)

@@ -6,13 +6,13 @@ use Prim.Native.Nat.{ℕ, zero, suc, _+_, _-_, _/_, _≤_, _<_}
 use native.Mathlib.Omega.{arith}
 use lib.ListN.{length, getD, take, drop}
 use borrow.Author.Tests.{le-leb, lt-leb}
-use Rattle.block.specs.declared.Found.{Found}
-use Rattle.block.specs.declared.Found.the-variants.{At, Nothing}
+use Rattle.buddy.specs.declared.Found.{Found}
+use Rattle.buddy.specs.declared.Found.the-variants.{At, Nothing}
 use Rattle.block.specs.Blocks.{size, Tree, Free, Live, Halves}
 use Rattle.block.specs.Map.{freeTag, liveTag, written, canonical}
-use Rattle.block.specs.Lowest.{orElse, lowestIn}
-use Rattle.block.proofs.Halves.{one-less, upper}
-use Rattle.block.proofs.Tags.{first-free, first-live, halved-tree}
+use Rattle.buddy.specs.Lowest.{orElse, lowestIn}
+use Rattle.buddy.proofs.Halves.{one-less, upper}
+use Rattle.buddy.proofs.Tags.{first-free, first-live, halved-tree}
 
 module _ (j k at : ℕ) (l : List ℕ) (t : Tree) (w : l ≡ written k t) where
   -- a free block

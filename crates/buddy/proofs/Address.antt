@@ -7,24 +7,19 @@ use Prim.Native.Nat.{ℕ, suc, _+_, _-_, _*_, _/_, _%_, _≤_, _<_}
 use native.Mathlib.Nat.{div-add-mod', mod-lt, div-lt-iff-lt-mul, mul-le-mul-right}
 use native.Mathlib.Omega.{arith}
 use lib.ListN.{length, getD, take, drop, replicate}
 use Rattle.block.specs.declared.SetUp.{SetUp}
-use Rattle.block.specs.declared.Found.the-variants.{At}
+use Rattle.buddy.specs.declared.Found.the-variants.{At}
 use Rattle.block.specs.Blocks.{size, Tree, changed, freed, delivered, sizeAt}
 use Rattle.block.specs.SetUp.{top, words}
 use Rattle.block.specs.Map.{written, canonical, allWritten, trees, mapOf, keeps, live, freedMap, deliveredMap}
 use Rattle.block.specs.SetUp.{runs}
-use Rattle.block.specs.Lowest.{firstOf, lowestIn, lowestOf}
-use Rattle.block.specs.Tag.{tagSize}
-use Rattle.block.proofs.Size.{size-pos, level-le}
+use Rattle.buddy.specs.Lowest.{firstOf, lowestIn, lowestOf}
+use Rattle.buddy.specs.Tag.{tagSize}
+use Rattle.block.proofs.Size.{size-pos, top-le}
 use Rattle.block.proofs.Map.{keeps-parts, keeps-words, trees-fill}
-use Rattle.block.proofs.Within.{all-tag, tag-below, tag-above}
-use Rattle.block.proofs.First.{first-run}
-use Rattle.block.proofs.Placed.{Placed, placed}
-
--- the largest size is one of the first eight
-pub top-le : (d : ℕ) → top d ≤ 7
-unfolding top
-top-le d = level-le 7 d
+use Rattle.buddy.proofs.LiveSize.{all-tag, tag-below, tag-above}
+use Rattle.buddy.proofs.First.{first-run}
+use Rattle.buddy.proofs.Placed.{Placed, placed}
 
 module _ (u : SetUp) (m : List ℕ) where
   -- below the set-up words no live block starts

@@ -3,13 +3,13 @@ use Prim.Native.Nat.{ℕ, suc, _-_, _%_, _≤_, _<_}
 use native.Mathlib.Omega.{arith}
 use mathlib.Core.Bool.{Bool, true, false, _&&_}
 use mathlib.Core.Path.{_≡_, ap, sym, _∙_}
-use borrow.Author.Tests.{eq-eqb, ne-eqb, ltb-true, leb-true}
+use borrow.Author.Tests.{eq-eqb, ne-eqb, leb-true}
 use lib.Dec.{eqb, leb, ltb}
 use Rattle.word.proofs.Tests.{and-true}
 use Rattle.block.specs.declared.SetUp.{SetUp}
 use Rattle.block.specs.Blocks.{size, level}
 use Rattle.block.specs.SetUp.{top, words, fitting}
 use Rattle.block.proofs.Size.{size-pos}
 
 -- the addresses: positive, a multiple of the largest size, in order, at most 32767
 abbrev pub placed : ℕ → ℕ → ℕ → Bool

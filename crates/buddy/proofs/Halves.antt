@@ -9,14 +9,9 @@ use borrow.Author.Tests.{le-leb, lt-leb}
 use lib.Dec.{ltb}
 use lib.ListN.{length, take, drop, length-drop, drop-of-length-le}
 use lib.Seq.{take-all, length-take-le}
 use Rattle.block.specs.Blocks.{size, level}
 use Rattle.word.proofs.Tests.{by-leb}
-use Rattle.block.proofs.Size.{size-zero, size-suc, size-mono}
-
--- the sizes up to the seventh are small
-pub size-small : (k : ℕ) → k ≤ 7 → size k ≤ 128
-unfolding size
-size-small k h = size-mono {j = k} {k = 7} h
+use Rattle.block.proofs.Size.{size-zero, size-suc}
 
 -- the first size, by an equation
 pub size-first : (k : ℕ) → k ≡ 0 → size k ≡ 1

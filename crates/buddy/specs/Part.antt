@@ -3,10 +3,10 @@ use Prim.Native.Nat.{ℕ, zero, suc, _-_}
 use mathlib.Core.Bool.{Bool, true, false, _&&_, cond}
 use mathlib.Core.List.{List}
 use lib.ListN.{length, take, drop, replicate}
-use Rattle.block.specs.declared.Part.{Part}
-use Rattle.block.specs.declared.Part.the-variants as tells
+use Rattle.buddy.specs.declared.Part.{Part}
+use Rattle.buddy.specs.declared.Part.the-variants as tells
 use Rattle.block.specs.Blocks.{size}
 use Rattle.block.specs.Map.{written, told, isFree, canonical, same}
 
 -- the bytes are those of the tree that they tell, and its free halves are rejoined: it is one free block, or not; otherwise they are broken
 unfoldable pub part : ℕ → List ℕ → Part

@@ -3,24 +3,23 @@
 use mathlib.Core.Path.{_≡_, refl, sym, ap, ap₂, _∙_}
 use mathlib.Core.Bool.{Bool, true, false, _&&_, cond}
 use mathlib.Core.List.{List, _++_, append-assoc}
-use Prim.Native.Nat.{ℕ, zero, suc, _+_, _-_, _*_, _/_, _%_, _<_}
-use native.Mathlib.Nat.{div-add-mod'}
+use Prim.Native.Nat.{ℕ, zero, suc, _+_, _-_, _*_, _/_, _<_}
 use native.Mathlib.Omega.{arith}
 use lib.ListN.{length, take, drop, replicate}
 use lib.Seq.{drop-drop}
 use Rattle.block.specs.declared.SetUp.{SetUp}
-use Rattle.block.specs.declared.Part.the-variants as tells
-use Rattle.block.specs.declared.Found.{Found}
-use Rattle.block.specs.declared.Found.the-variants.{Nothing}
+use Rattle.buddy.specs.declared.Part.the-variants as tells
+use Rattle.buddy.specs.declared.Found.{Found}
+use Rattle.buddy.specs.declared.Found.the-variants.{Nothing}
 use Rattle.block.specs.Blocks.{size, Tree}
 use Rattle.block.specs.SetUp.{top, words}
 use Rattle.block.specs.Map.{written, told, isFree, canonical, same, allWritten, allTold, allCanonical, trees, mapOf, keeps}
-use Rattle.block.specs.Part.{part, whole, allWhole}
-use Rattle.block.specs.Lowest.{orElse, lowestIn, lowestOf}
+use Rattle.buddy.specs.Part.{part, whole, allWhole}
+use Rattle.buddy.specs.Lowest.{orElse, lowestIn, lowestOf}
 use Rattle.word.proofs.Tests.{and-true}
 use Rattle.block.proofs.Map.{length-written, same-true}
-use Rattle.block.proofs.Parts.{same-append, and-assoc}
-use Rattle.block.proofs.Halves.{one-less}
+use Rattle.buddy.proofs.Parts.{same-append, and-assoc}
+use Rattle.buddy.proofs.Halves.{one-less}
 
 whole-cond : (b c : Bool) → whole (cond b (cond c tells.Free tells.Taken) tells.Broken) ≡ b
 unfolding whole

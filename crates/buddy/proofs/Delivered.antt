@@ -8,16 +8,16 @@ use native.Mathlib.Omega.{arith}
 use lib.Dec.{ltb}
 use lib.ListN.{length, getD, take, drop}
 use borrow.Author.Tests.{lt-ltb, le-ltb}
-use Rattle.block.specs.declared.Found.{Found}
-use Rattle.block.specs.declared.Found.the-variants.{At, Nothing}
+use Rattle.buddy.specs.declared.Found.{Found}
+use Rattle.buddy.specs.declared.Found.the-variants.{At, Nothing}
 use Rattle.block.specs.Blocks.{size, Tree, Free, Live, Halves, delivered}
 use Rattle.block.specs.Map.{freeTag, liveTag, written, canonical}
-use Rattle.block.specs.Lowest.{orElse, lowestIn, lowestOf}
+use Rattle.buddy.specs.Lowest.{orElse, lowestIn, lowestOf}
 use Rattle.word.proofs.Tests.{by-leb}
 use Rattle.block.proofs.Size.{size-pos, size-suc}
-use Rattle.block.proofs.Halves.{one-less, low-part, low-changed, high-part, high-changed}
-use Rattle.block.proofs.Tags.{first-free, written-halves, Halved, halved-tree}
-use Rattle.block.proofs.Lowest.{not-found, lowest-live, lowest-small, lowest-large}
+use Rattle.buddy.proofs.Halves.{one-less, low-part, low-changed, high-part, high-changed}
+use Rattle.buddy.proofs.Tags.{first-free, written-halves, Halved, halved-tree}
+use Rattle.buddy.proofs.Lowest.{not-found, lowest-live, lowest-small, lowest-large}
 
 -- an address is one
 same-address : (a b : ℕ) → At a ≡ At b → a ≡ b
