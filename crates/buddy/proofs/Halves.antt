@@ -5,17 +5,12 @@ use mathlib.Core.List.{List, [], _++_, append-nil}
 use Prim.Native.Nat.{ℕ, zero, suc, _+_, _-_, _*_, _/_, _≤_, _<_}
 use native.Mathlib.Numerals.{sub-one}
 use native.Mathlib.Omega.{arith}
-use borrow.Author.Tests.{le-leb, lt-leb}
 use lib.Dec.{ltb}
 use lib.ListN.{length, take, drop, length-drop, drop-of-length-le}
 use lib.Seq.{take-all, length-take-le}
-use Rattle.block.specs.Blocks.{size, level}
+use Rattle.block.specs.Blocks.{size}
 use Rattle.word.proofs.Tests.{by-leb}
-use Rattle.block.proofs.Size.{size-zero, size-suc}
-
--- the first size, by an equation
-pub size-first : (k : ℕ) → k ≡ 0 → size k ≡ 1
-size-first k e = rw e size-zero
+use Rattle.block.proofs.Size.{size-suc}
 
 -- what holds of each number and the one before it holds of a positive number and one less
 pub one-less : (P : ℕ → ℕ → Type 0) → ((j : ℕ) → P (suc j) j) → (k : ℕ) → 0 < k → P k (k - 1)
@@ -29,20 +24,6 @@ times-pred n = one-less (λ left less. left * n ≡ less * n + n) (λ less. omeg
 -- a block is two of the size before
 pub size-pred : (k : ℕ) → 0 < k → size k ≡ size (k - 1) + size (k - 1)
 size-pred = one-less (λ k j. size k ≡ size j + size j) size-suc
-
--- the level of n up to k, by the size before
-pub level-first : (k n : ℕ) → k ≡ 0 → level k n ≡ 0
-unfolding level
-level-first zero n e = refl
-level-first (suc k) n e = absurd (omega arith)
-
-pub level-down : (n k : ℕ) → 0 < k → n ≤ size (k - 1) → level k n ≡ level (k - 1) n
-unfolding level
-level-down n = one-less (λ k j. n ≤ size j → level k n ≡ level j n) (λ j l. rw (le-leb n (size j) l))
-
-pub level-stays : (n k : ℕ) → 0 < k → size (k - 1) < n → level k n ≡ k
-unfolding level
-level-stays n = one-less (λ k j. size j < n → level k n ≡ k) (λ j l. rw (lt-leb n (size j) l))
 
 -- half of the length of a block
 pub half-size : (k n : ℕ) → 0 < k → n ≡ size k → n / 2 ≡ size (k - 1)

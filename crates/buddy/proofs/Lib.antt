@@ -1,4 +1,5 @@
 -- The laws that the proofs of the functions cite.
+pub mod Level
 pub mod Halves
 pub mod Parts
 pub mod Tags

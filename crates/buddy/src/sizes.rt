@@ -9,26 +9,19 @@ pub fn size_of(k: u8) -> usize
     requires { ⌜ k ≤ 7 ⌝ }
     ensures { λ r. ⌜ r ≡ size k ⌝ }
 {
-    if k == 0 {
-        return 1;
-    }
-    let half = size_of(k - 1);
-    half + half
+    1 << k
 }
 
-// The least level up to k whose size is n or more, k if there is none.
+// The least level up to k whose size is n or more, k if there is none: that level is the length of n - 1 in bits.
 pub fn level_of(k: u8, n: u64) -> u8
     requires { ⌜ k ≤ 7 ⌝ }
     ensures { λ r. ⌜ r ≡ level k n ⌝ }
 {
-    if k == 0 {
+    if n == 0 {
         return 0;
     }
-    if n <= size_of(k - 1) as u64 {
-        level_of(k - 1, n)
-    } else {
-        k
-    }
+    let least = 64 - u64::leading_zeros(n - 1) as u8;
+    if least < k { least } else { k }
 }
 
 // The place of the largest size d among the sizes.
