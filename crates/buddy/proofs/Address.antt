@@ -13,13 +13,14 @@ use Rattle.block.specs.Blocks.{size, Tree, changed, freed, delivered, sizeAt}
 use Rattle.block.specs.SetUp.{top, words}
 use Rattle.block.specs.Map.{written, canonical, allWritten, trees, mapOf, keeps, live, freedMap, deliveredMap}
 use Rattle.block.specs.SetUp.{runs}
-use Rattle.buddy.specs.Lowest.{firstOf, lowestIn, lowestOf}
+use Rattle.buddy.specs.Lowest.{firstOf, lowestIn}
 use Rattle.buddy.specs.Tag.{tagSize}
 use Rattle.block.proofs.Size.{size-pos, top-le}
 use Rattle.block.proofs.Map.{keeps-parts, keeps-words, trees-fill}
 use Rattle.buddy.proofs.LiveSize.{all-tag, tag-below, tag-above}
 use Rattle.buddy.proofs.First.{first-run}
 use Rattle.buddy.proofs.Placed.{Placed, placed}
+use Rattle.buddy.proofs.Lowest.{lowestOf}
 
 module _ (u : SetUp) (m : List ℕ) where
   -- below the set-up words no live block starts

@@ -2,20 +2,17 @@
 use mathlib.Core.Path.{_≡_, refl, sym}
 use mathlib.Core.Bool.{true, false, _&&_}
 use mathlib.Core.List.{List}
-use Prim.Native.Nat.{ℕ, _+_, _-_, _*_, _/_, _%_, _≤_}
-use native.Mathlib.Nat.{div-add-mod'}
+use Prim.Native.Nat.{ℕ, _+_, _-_, _*_, _/_}
 use native.Mathlib.Omega.{arith}
 use lib.ListN.{length, drop, replicate}
 use Rattle.block.specs.declared.SetUp.{SetUp}
 use Rattle.block.specs.Blocks.{size}
-use Rattle.block.specs.SetUp.{top, words, runs}
-use Rattle.block.specs.Map.{same, allTold, trees, keeps, live}
+use Rattle.block.specs.SetUp.{top, words}
+use Rattle.block.specs.Map.{same, keeps}
 use Rattle.buddy.specs.Part.{allWhole}
-use Rattle.buddy.specs.Lowest.{firstOf, lowestOf}
 use Rattle.word.proofs.Tests.{by-test}
 use Rattle.block.proofs.Map.{keeps-long}
-use Rattle.buddy.proofs.Keeping.{keeps-whole, keeps-all}
-use Rattle.buddy.proofs.First.{first-run}
+use Rattle.buddy.proofs.Keeping.{keeps-whole}
 
 module _ (u : SetUp) (k n w : ℕ) (ek : k ≡ top (u .d)) (en : n ≡ size k) (ew : w ≡ words u) where
   -- a map that keeps the section is as long as the trees and the bytes past the words
@@ -32,17 +29,3 @@ module _ (u : SetUp) (k n w : ℕ) (ek : k ≡ top (u .d)) (en : n ≡ size k) (
   count-keeps m long =
       let rest : length m - w / n * n ≡ length m - w = omega arith in
       rw rest (rw (en, ew, ek) (sym (keeps-whole u m)))
-
-  module _ (whole : words u % size (top (u .d)) ≡ 0) where
-    -- they fill the words
-    pub count-fill : w / n * size k ≡ words u
-    count-fill = rw (en, ew, ek) (omega (arith, div-add-mod' (words u) (size (top (u .d)))))
-
-    module _ (m : List ℕ) (kept : keeps u m ≡ true) where
-      pub count-all : allWhole k (w / n) m ≡ true
-      count-all = rw (en, ew, ek) (keeps-all u m kept)
-
-      -- what is found in them is the first run
-      pub count-first : (j : ℕ) → j ≤ top (u .d) → lowestOf j k (u .s1) (allTold k (w / n) m) ≡ firstOf (runs (size j) u (live u m))
-      unfolding trees
-      count-first j h = rw (en, ew, ek) (first-run u m j whole kept h)

@@ -12,12 +12,12 @@ use Rattle.buddy.specs.declared.Found.{Found}
 use Rattle.buddy.specs.declared.Found.the-variants.{At, Nothing}
 use Rattle.block.specs.Blocks.{size, Tree, Free, Live, Halves, delivered}
 use Rattle.block.specs.Map.{freeTag, liveTag, written, canonical}
-use Rattle.buddy.specs.Lowest.{orElse, lowestIn, lowestOf}
+use Rattle.buddy.specs.Lowest.{orElse, lowestIn}
 use Rattle.word.proofs.Tests.{by-leb}
 use Rattle.block.proofs.Size.{size-pos, size-suc}
 use Rattle.buddy.proofs.Halves.{one-less, low-part, low-changed, high-part, high-changed}
 use Rattle.buddy.proofs.Tags.{first-free, written-halves, Halved, halved-tree}
-use Rattle.buddy.proofs.Lowest.{not-found, lowest-live, lowest-small, lowest-large}
+use Rattle.buddy.proofs.Lowest.{lowestOf, not-found, lowest-live, lowest-small, lowest-large}
 
 -- an address is one
 same-address : (a b : ℕ) → At a ≡ At b → a ≡ b

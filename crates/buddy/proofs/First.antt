@@ -14,7 +14,7 @@ use Rattle.block.specs.Blocks.{size, Block, Tree, Free, Live, Halves, liveIn, g
 use Rattle.block.specs.Map.{isFree, canonical, allCanonical, trees, live, keeps}
 use Rattle.block.specs.declared.SetUp.{SetUp}
 use Rattle.block.specs.SetUp.{top, words, runs}
-use Rattle.buddy.specs.Lowest.{firstOf, orElse, lowestIn, lowestOf}
+use Rattle.buddy.specs.Lowest.{firstOf, orElse, lowestIn}
 use Rattle.word.proofs.Tests.{and-true, and-false, by-leb, by-test}
 use Rattle.block.proofs.Size.{size-pos, size-suc, size-divides}
 use Rattle.block.proofs.Map.{canonical-halves, keeps-parts, trees-fill}
@@ -22,6 +22,7 @@ use Rattle.block.proofs.Each.{Each, each-map}
 use Rattle.block.proofs.Runs.{each-outside}
 use Rattle.buddy.proofs.Parts.{and-assoc}
 use Rattle.block.proofs.Within.{Within, live-within, all-within}
+use Rattle.buddy.proofs.Lowest.{lowestOf}
 
 -- the first of two lists
 first-append : (xs ys : List ℕ) → firstOf (xs ++ ys) ≡ orElse (firstOf xs) (firstOf ys)

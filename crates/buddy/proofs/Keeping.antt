@@ -9,15 +9,11 @@ use lib.ListN.{length, take, drop, replicate}
 use lib.Seq.{drop-drop}
 use Rattle.block.specs.declared.SetUp.{SetUp}
 use Rattle.buddy.specs.declared.Part.the-variants as tells
-use Rattle.buddy.specs.declared.Found.{Found}
-use Rattle.buddy.specs.declared.Found.the-variants.{Nothing}
-use Rattle.block.specs.Blocks.{size, Tree}
+use Rattle.block.specs.Blocks.{size}
 use Rattle.block.specs.SetUp.{top, words}
 use Rattle.block.specs.Map.{written, told, isFree, canonical, same, allWritten, allTold, allCanonical, trees, mapOf, keeps}
 use Rattle.buddy.specs.Part.{part, whole, allWhole}
-use Rattle.buddy.specs.Lowest.{orElse, lowestIn, lowestOf}
-use Rattle.word.proofs.Tests.{and-true}
-use Rattle.block.proofs.Map.{length-written, same-true}
+use Rattle.block.proofs.Map.{length-written}
 use Rattle.buddy.proofs.Parts.{same-append, and-assoc}
 use Rattle.buddy.proofs.Halves.{one-less}
 
@@ -69,26 +65,11 @@ pub keeps-whole : (u : SetUp) (m : List ℕ)
 unfolding keeps trees mapOf
 keeps-whole u m = kept-parts (top (u .d)) (words u / size (top (u .d))) m (replicate (length m - words u) 0)
 
--- the trees of a map that keeps the section are whole
-pub keeps-all : (u : SetUp) (m : List ℕ) → keeps u m ≡ true → allWhole (top (u .d)) (words u / size (top (u .d))) m ≡ true
-keeps-all u m kept = and-true (allWhole (top (u .d)) (words u / size (top (u .d))) m) _ (sym (keeps-whole u m) ∙ kept) .0
-
--- what a whole tree is
-pub whole-parts : (k : ℕ) (m : List ℕ) → whole (part k m) ≡ true → (canonical k (told k m) ≡ true) × (m ≡ written k (told k m))
-whole-parts k m h =
-    let (first, bytes) = and-true (canonical k (told k m)) _ (sym (whole-told k m) ∙ h) in
-    (first, sym (same-true _ m bytes))
-
 -- no tree is left
 pub whole-end : (k left : ℕ) (m : List ℕ) → left ≡ 0 → allWhole k left m ≡ true
 unfolding allWhole
 whole-end k zero m e = refl
 whole-end k (suc left) m e = absurd (omega arith)
-
-pub lowest-end : (j k at left : ℕ) (m : List ℕ) → left ≡ 0 → lowestOf j k at (allTold k left m) ≡ Nothing
-unfolding allTold lowestOf
-lowest-end j k at zero m e = refl
-lowest-end j k at (suc left) m e = absurd (omega arith)
 
 module _ (k n i : ℕ) (m : List ℕ) (e : n ≡ size k) where
   -- the bytes of the next tree as a part of the slice
@@ -103,29 +84,3 @@ module _ (k n i : ℕ) (m : List ℕ) (e : n ≡ size k) where
   whole-next =
       one-less (λ left rest. allWhole k left (drop i m) ≡ (whole (part k (take (i + n - i) (drop i m))) && allWhole k rest (drop (i + n) m)))
       (λ rest. unfold allWhole in ap₂ (λ (xs ys : List ℕ). whole (part k xs) && allWhole k rest ys) (sym next-tree) next-rest)
-
-  -- one more tree is looked through
-  pub lowest-next : (j at left : ℕ) → 0 < left
-      → lowestOf j k at (allTold k left (drop i m))
-      ≡ orElse (lowestIn j k at (told k (take (i + n - i) (drop i m)))) (lowestOf j k (at + n) (allTold k (left - 1) (drop (i + n) m)))
-  lowest-next j at =
-      one-less (λ left rest. lowestOf j k at (allTold k left (drop i m))
-      ≡ orElse (lowestIn j k at (told k (take (i + n - i) (drop i m)))) (lowestOf j k (at + n) (allTold k rest (drop (i + n) m))))
-      (λ rest. unfold lowestOf allTold in
-      ap₂ orElse (ap (λ (xs : List ℕ). lowestIn j k at (told k xs)) (sym next-tree))
-      (ap₂ (λ (c : ℕ) (ys : List ℕ). lowestOf j k (at + c) (allTold k rest ys)) (sym e) next-rest))
-
-  module _ (left : ℕ) (h : 0 < left) (all : allWhole k left (drop i m) ≡ true) where
-    -- the trees after a whole one are whole
-    pub whole-rest : allWhole k (left - 1) (drop (i + n) m) ≡ true
-    whole-rest = and-true (whole (part k (take (i + n - i) (drop i m)))) _ (sym (whole-next left h) ∙ all) .1
-
-    -- what is found in the next tree, or else in the others
-    pub found-next : (j at : ℕ) (r : Found)
-        → ((t : Tree) → canonical k t ≡ true → take (i + n - i) (drop i m) ≡ written k t → r ≡ lowestIn j k at t)
-        → lowestOf j k at (allTold k left (drop i m)) ≡ orElse r (lowestOf j k (at + n) (allTold k (left - 1) (drop (i + n) m)))
-    found-next j at r f =
-        let first = and-true (whole (part k (take (i + n - i) (drop i m)))) _ (sym (whole-next left h) ∙ all) .0 in
-        let (canon, bytes) = whole-parts k (take (i + n - i) (drop i m)) first in
-        lowest-next j at left h
-        ∙ ap (λ (x : Found). orElse x (lowestOf j k (at + n) (allTold k (left - 1) (drop (i + n) m)))) (sym (f (told k (take (i + n - i) (drop i m))) canon bytes))

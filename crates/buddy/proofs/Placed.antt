@@ -11,10 +11,11 @@ use borrow.Author.Tests.{lt-ltb, le-ltb}
 use Rattle.buddy.specs.declared.Found.the-variants.{At}
 use Rattle.block.specs.Blocks.{size, Tree, changed}
 use Rattle.block.specs.Map.{written, canonical, allWritten, allCanonical}
-use Rattle.buddy.specs.Lowest.{lowestIn, lowestOf}
+use Rattle.buddy.specs.Lowest.{lowestIn}
 use Rattle.word.proofs.Tests.{and-true}
 use Rattle.buddy.proofs.Delivered.{found-where, lowest-bound, lowestOf-bound}
 use Rattle.block.proofs.Map.{length-written}
+use Rattle.buddy.proofs.Lowest.{lowestOf}
 
 -- the tree at the q-th place of trees whose map is m
 pub record Placed (k q : ℕ) (ts : List Tree) (m rest : List ℕ) : Type 0 where

@@ -1,4 +1,4 @@
--- What the contracts of the code cite beside the definitions of `block`: each says what one function answers.
+-- What the contracts of the code cite beside the definitions of `block`.
 pub mod Part
 pub mod Lowest
 pub mod Tag

@@ -23,8 +23,3 @@ lowestIn j k at Free = At at
 lowestIn j k at Live = Nothing
 lowestIn j zero at (Halves l r) = Nothing
 lowestIn j (suc k) at (Halves l r) = cond (leb (suc k) j) Nothing (orElse (lowestIn j k at l) (lowestIn j k (at + size k) r))
-
--- in one tree after the other
-unfoldable pub lowestOf : ℕ → ℕ → ℕ → List Tree → Found
-lowestOf j k at [] = Nothing
-lowestOf j k at (t ∷ ts) = orElse (lowestIn j k at t) (lowestOf j k (at + size k) ts)

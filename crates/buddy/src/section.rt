@@ -6,9 +6,9 @@ ghost use lib.ListN.{length};
 ghost use Rattle.buddy.specs.declared.Found.the-variants.{At};
 ghost use Rattle.block.specs.Blocks.{size, sizeAt};
 ghost use Rattle.block.specs.SetUp.{top, words, runs};
-ghost use Rattle.block.specs.Map.{allTold, keeps, live, freedMap, deliveredMap};
+ghost use Rattle.block.specs.Map.{keeps, live, freedMap, deliveredMap};
 ghost use Rattle.buddy.specs.Part.{whole, allWhole};
-ghost use Rattle.buddy.specs.Lowest.{firstOf, lowestOf};
+ghost use Rattle.buddy.specs.Lowest.{firstOf};
 ghost use Rattle.buddy.specs.Tag.{tagSize};
 use super::Found;
 use super::Part;
@@ -17,7 +17,7 @@ use super::sizes::top_of;
 use super::tree::check;
 use super::tree::deliver_at;
 use super::tree::free_at;
-use super::tree::lowest;
+use super::tree::free_tag;
 use super::tree::zero_from;
 use block::SetUp;
 
@@ -125,36 +125,27 @@ pub fn live_size(setup: SetUp, map: &[u8], address: u64) -> u64
     }
 }
 
-// The start of the first free block of the j-th size or a larger, in so many trees from an address on.
-fn lowest_of(k: u8, j: u8, at: usize, count: usize, map: &[u8]) -> Found
-    requires { ⌜ (j ≤ k) × (k ≤ 7) × (count * size k ≤ length (now map)) × (at + count * size k ≤ 65536) × (allWhole k count (now map) ≡ true) ⌝ }
-    ensures { λ r. ⌜ r ≡ lowestOf j k at (allTold k count (now (map .entry))) ⌝ }
-{
-    let n = size_of(k);
-    let mut i = 0;
-    let mut left = count;
-    while 0 < left {
-        let end = i + n;
-        let found = lowest(k, j, at + i, &map[i..end]);
-        match found {
-            Found::At(a) => return Found::At(a),
-            Found::Nothing => {
-                i = end;
-                left -= 1;
-            }
-        }
-    }
-    Found::Nothing
-}
-
-// The lowest aligned run of the j-th size outside the live blocks.
+// The lowest aligned run of the j-th size outside the live blocks, from block to block: a free block of that size or a larger starts
+// one, a live block has none in its words, and where a smaller block stands there is none in as many words as are wanted.
 pub fn lowest_run(setup: SetUp, map: &[u8], j: u8) -> Found
     requires { ⌜ (words setup % size (top (setup .d)) ≡ 0) × (keeps setup (now map) ≡ true) × (j ≤ top (setup .d)) ⌝ }
     ensures { λ r. ⌜ r ≡ firstOf (runs (size j) setup (live setup (now (map .entry)))) ⌝ }
 {
-    let k = top_of(setup.d);
-    let count = words_of(setup) / size_of(k);
-    lowest_of(k, j, setup.s1 as usize, count, map)
+    let n = size_of(j);
+    let least = free_tag(j);
+    let words = words_of(setup);
+    let mut i = 0;
+    while i < words {
+        let tag = map[i];
+        if tag < least {
+            i += n;
+        } else if tag % 2 == 0 {
+            i += size_of(tag / 2 - 1);
+        } else {
+            return Found::At(setup.s1 as usize + i);
+        }
+    }
+    Found::Nothing
 }
 
 // Frees the live block around an address of the set-up words.

@@ -1,7 +1,7 @@
 // One tree of the block map: the bytes of a block of the k-th size.
 ghost use mathlib.Core.Path.{_≡_};
 ghost use mathlib.Core.Bool.{true, cond};
-ghost use mathlib.Core.List.{_∷_, _++_};
+ghost use mathlib.Core.List.{_++_};
 ghost use Prim.Native.Nat.{ℕ, suc, _+_, _-_, _≤_, _<_};
 ghost use lib.Dec.{ltb};
 ghost use lib.ListN.{length, replicate, drop};
@@ -10,7 +10,6 @@ ghost use Rattle.block.specs.Map.{freeTag, liveTag, written, same, canonical};
 ghost use Rattle.buddy.specs.Part.{part, both, leaf};
 ghost use Rattle.buddy.specs.Lowest.{lowestIn};
 ghost use Rattle.buddy.specs.declared.Found.the-variants.{At};
-use super::Found;
 use super::Part;
 
 // The byte of a free block of the k-th size.
@@ -156,28 +155,6 @@ pub(crate) fn free_at(k: u8, offset: usize, tags: &mut [u8])
     let end = start + half;
     free_at(k - 1, offset - start, &mut tags[start..end]);
     rejoin(k, tags);
-}
-
-// The start of the first free block of the j-th size or a larger, in a block of the k-th size at an address.
-pub(crate) fn lowest(k: u8, j: u8, at: usize, tags: &[u8]) -> Found
-    requires { ⌜ (j ≤ k) × (k ≤ 7) × (length (now tags) ≡ size k) × (at + size k ≤ 65536) ⌝ }
-    ensures { λ r. ⌜ ((t : Tree) → canonical k t ≡ true → now (tags .entry) ≡ written k t → r ≡ lowestIn j k at t) ⌝ }
-{
-    if tags[0] == free_tag(k) {
-        return Found::At(at);
-    }
-    if tags[0] == live_tag(k) {
-        return Found::Nothing;
-    }
-    if k == j {
-        return Found::Nothing;
-    }
-    let half = tags.len() / 2;
-    let low = lowest(k - 1, j, at, &tags[..half]);
-    match low {
-        Found::At(a) => Found::At(a),
-        Found::Nothing => lowest(k - 1, j, at + half, &tags[half..]),
-    }
 }
 
 // Delivers the lowest run of the j-th size, which starts at an offset: the free block there is split.
