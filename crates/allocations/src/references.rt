@@ -1,20 +1,20 @@
 // References on generated cases: where one leads over a map of blocks, and what stands there.
 ghost use mathlib.Core.Path.{_≡_};
 ghost use mathlib.Core.Bool.{true};
-ghost use Rattle.table.specs.Reference.{isReference};
-ghost use Rattle.machine.specs.Locate.{Readable};
 ghost use Rattle.machine.specs.Sound.{every, isDefinition};
 use crate::maps;
+use block::SetUp;
 use buddy::section;
+use buddy::setup::fits;
 use cases::Case;
 use cases::references;
-use engine::references::contents;
-use engine::references::locate;
 use machine::Definition;
-use machine::Environment;
-use machine::Linked;
 use machine::Location;
 use machine::Refusal;
+use operands::Linked;
+use operands::references::contents;
+use operands::references::locate;
+use soundness::are_words;
 use table::Pair;
 use table::references::is_reference;
 
@@ -70,36 +70,47 @@ fn folded(at: Location) -> u64 {
     }
 }
 
-// Where a reference leads and what stands there, or why it does not lead there.
-fn followed(names: Environment, map: &[u8], storage: &[u64], v: u64) -> u64
-    requires { ⌜ Readable 36 (record { names = names; map = now map; storage = now storage }) × (isReference v ≡ true) ⌝ }
+// Where a reference leads and what stands there, or why it does not lead there; 1,000 if it is none.
+fn followed(
+    bugs: &[u64; 26],
+    definitions: [Definition; 36],
+    setup: SetUp,
+    map: &[u8],
+    storage: &[u64],
+    v: u64,
+) -> u64
+    requires { ⌜ every (isDefinition 36) definitions ≡ true ⌝ }
 {
-    let operand = Pair { form: 2, value: v };
-    match locate(36, names, map, storage, operand) {
-        Linked::Stopped(why) => refused(why),
-        Linked::At(at) => cases::fold(folded(at), contents(36, names, storage, at)),
+    if !fits(
+        storage.len(),
+        setup.d as u64,
+        setup.s1 as u64,
+        setup.s2 as u64,
+    ) {
+        return maps::UNSOUND;
     }
-}
-
-// A drawn reference over drawn bugs and storage; 1,000 if it is none.
-fn result(map: &[u8; maps::BYTES], case: Case) -> u64 {
-    let setup = maps::small();
-    let bugs = references::words_of(case.x, 0o77);
-    let definitions = definitions();
-    let names = Environment {
-        bugs: bugs,
-        definitions: definitions,
-        setup: setup,
-    };
-    let storage = references::words_of(case.state, 0o777777777777);
-    let v = references::drawn(case.a, case.state);
     if !section::keeps_section(setup, map) {
+        return maps::UNSOUND;
+    }
+    if !are_words(36, bugs) {
         return maps::UNSOUND;
     }
     if !is_reference(v) {
         return 1000;
     }
-    followed(names, map, &storage, v)
+    let operand = Pair { form: 2, value: v };
+    match locate(36, bugs, definitions, setup, map, storage, operand) {
+        Linked::Stopped(why) => refused(why),
+        Linked::At(at) => cases::fold(folded(at), contents(36, bugs, setup.s1, storage, at)),
+    }
+}
+
+// A drawn reference over drawn bugs and storage.
+fn result(map: &[u8; maps::BYTES], case: Case) -> u64 {
+    let bugs = references::words_of(case.x, 0o77);
+    let storage = references::words_of(case.state, 0o777777777777);
+    let v = references::drawn(case.a, case.state);
+    followed(&bugs, definitions(), maps::small(), map, &storage, v)
 }
 
 // The checksum over references, each after a drawn operation on the map.

@@ -25,7 +25,7 @@ use Rattle.machine.specs.State.{isSetUp, isFinished, onCore, movedTo}
 use Rattle.machine.specs.Sound.{Lent, Engine}
 use Rattle.machine.specs.Locate.{World, world, liveBlocks, linkBy, link, follow, locate, contents}
 use Rattle.machine.specs.Effects.{Effects, engineAfter}
-use Rattle.machine.specs.Operations.{Given, Wanted, getWants, duplicateWants, delivering, andStoring, get, duplicate, oneOf, chosen, meaning, meanings}
+use Rattle.machine.specs.Operations.{Given, Wanted, getWants, duplicateWants, delivering, andStoring, get, duplicate, oneOf, chosen, meaning, meaningOf, operationOf, operations}
 use Rattle.machine.specs.Step.{given, inTurn, operationStep, plan, outcome, unchanged, carriedOut, step}
 use Rattle.machine.proofs.Checks.{or-parts, nonzero, need-passed, bind-passed, passed-same}
 use Rattle.machine.proofs.Facts.{Facts}
@@ -148,7 +148,7 @@ module _ (b : ℕ) (choose : List ℕ → ℕ) (l : Lent) (e : Engine) (w : Want
   engineRuns = runs (w .words) (e .state .core .setup) (liveBlocks e)
 
   meant : (code ≡ 1 → ⊥) × (meaning code b (given choose l e) ≡ refused NoRun ↔ engineRuns ≡ [])
-  unfolding given onCore movedTo meaning meanings getWants duplicateWants
+  unfolding given onCore movedTo meaning meaningOf operationOf operations getWants duplicateWants
   meant = go (h .cleared)
     where
       go : ((code ≡ 3) × (getWants b (given (λ runs. 0) l e) ≡ passed w)) ⊎ ((code ≡ 5) × (duplicateWants b (given (λ runs. 0) l e) ≡ passed w))

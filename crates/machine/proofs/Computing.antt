@@ -1,5 +1,106 @@
--- Every definition of the machine, opened at once: a proof that computes says `unfolding computing`.
--- Assumes nothing.
+-- The definitions of the machine, opened at once: a proof that computes says `unfolding computing`. Each file of definitions has its
+-- own list here. Assumes nothing.
+use Rattle.word.specs.Field as fields-file
+use Rattle.word.specs.Word as words-file
+use Rattle.character.specs.Character as characters-file
+use Rattle.block.specs.Blocks as blocks-file
+use Rattle.block.specs.SetUp as setups-file
+use Rattle.block.specs.Map as maps-file
+use Rattle.table.specs.Reference as references-file
+use Rattle.table.specs.Row as rows-file
+use Rattle.table.specs.Operands as operands-file
+use Rattle.table.specs.Table as tables-file
+use Rattle.machine.specs.Answer as answers-file
+use Rattle.machine.specs.State as states-file
+use Rattle.machine.specs.Storage as storages-file
+use Rattle.machine.specs.Sound as soundness-file
+use Rattle.machine.specs.Locate as locations-file
+use Rattle.machine.specs.Test as tests-file
+use Rattle.machine.specs.Effects as effects-file
+use Rattle.machine.specs.Operations as operations-file
+use Rattle.machine.specs.Step as steps-file
+use Rattle.machine.specs.Bench as benches-file
+
+unfoldable fields : Unit {0}
+unfolding fields-file.width fields-file.shift fields-file.fieldOf fields-file.kept fields-file.stored
+fields = tt
+
+unfoldable words : Unit {0}
+unfolding words-file.bit words-file.sum words-file.difference words-file.product words-file.complement words-file.bitwise words-file.either words-file.both words-file.differing words-file.ones words-file.zeros words-file.leftmost words-file.rightmostOf words-file.rightmost words-file.leftShift words-file.rightShift
+words = tt
+
+unfoldable characters : Unit {0}
+unfolding characters-file.digits characters-file.number characters-file.characters characters-file.packed characters-file.holds characters-file.blank characters-file.leading characters-file.allBelow characters-file.printed characters-file.blanksToZeros characters-file.toBinary characters-file.fromBinary characters-file.zerosToBlanks
+characters = tt
+
+unfoldable blocks : Unit {0}
+unfolding blocks-file.size blocks-file.level blocks-file.joined blocks-file.liveIn blocks-file.freeIn blocks-file.freed blocks-file.delivered blocks-file.gathered blocks-file.changed blocks-file.sizeAt blocks-file.outside blocks-file.runsFrom
+blocks = tt
+
+unfoldable setups : Unit {0}
+unfolding setups-file.top setups-file.words setups-file.fitting setups-file.absent setups-file.runs
+setups = tt
+
+unfoldable maps : Unit {0}
+unfolding maps-file.freeTag maps-file.liveTag maps-file.written maps-file.told maps-file.isFree maps-file.canonical maps-file.allWritten maps-file.allTold maps-file.allCanonical maps-file.same maps-file.trees maps-file.mapOf maps-file.keeps maps-file.live maps-file.free maps-file.freshMap maps-file.freedMap maps-file.deliveredMap
+maps = tt
+
+unfoldable references : Unit {0}
+unfolding references-file.digitsBefore references-file.digitsOf references-file.names references-file.namesField references-file.namesBug references-file.nameFields references-file.startsWithBug references-file.isReference references-file.named references-file.referenceOf
+references = tt
+
+unfoldable rows : Unit {0}
+unfolding rows-file.lengthFits rows-file.rows rows-file.pairAt rows-file.asRow rows-file.rowAt
+rows = tt
+
+unfoldable operands : Unit {0}
+unfolding operands-file.shapes
+operands = tt
+
+unfoldable tables : Unit {0}
+unfolding tables-file.fitPairs tables-file.namesRows tables-file.complete tables-file.isLine tables-file.isTest tables-file.shapeOf tables-file.isOperation tables-file.shaped tables-file.wellFormedAs tables-file.usable
+tables = tt
+
+unfoldable answers : Unit {0}
+unfolding answers-file.refusalNumber answers-file.answerNumber answers-file.isRunning answers-file._>>=_ answers-file._>>_ answers-file.need
+answers = tt
+
+unfoldable states : Unit {0}
+unfolding states-file.testsOf states-file.operationAt states-file.exitOf states-file.theEnd states-file.isFinished states-file.undefined states-file.noSetUp states-file.isSetUp states-file.fresh states-file.movedTo states-file.withBug states-file.withDefinition states-file.withContents states-file.withSaved states-file.withCalls states-file.withSetUp states-file.withTaken states-file.withWritten states-file.onCore states-file.withMap
+states = tt
+
+unfoldable storages : Unit {0}
+unfolding storages-file.noStore storages-file.noReport storages-file.placed storages-file.wordAt storages-file.withStore storages-file.withDelivery storages-file.withCopy storages-file.afterReport
+storages = tt
+
+unfoldable soundness : Unit {0}
+unfolding soundness-file.every soundness-file.isRow soundness-file.isPlace soundness-file.inRange soundness-file.isDefinition soundness-file.soundPlace soundness-file.soundStack soundness-file.soundStacks soundness-file.soundStorage soundness-file.soundCore soundness-file.soundEngine soundness-file.sound
+soundness = tt
+
+unfoldable locations : Unit {0}
+unfolding locations-file.world locations-file.definitionOf locations-file.contentsOf locations-file.widthOf locations-file.linkBy locations-file.link locations-file.follow locations-file.locate locations-file.read locations-file.operand
+locations = tt
+
+unfoldable tests : Unit {0}
+unfolding tests-file.comparisons tests-file.compared tests-file.settling tests-file.settledAs tests-file.testing tests-file.satisfied
+tests = tt
+
+unfoldable effects : Unit {0}
+unfolding effects-file.quietly effects-file.reporting effects-file.assigned effects-file.storeTo effects-file.storing effects-file.storageAfter effects-file.engineAfter
+effects = tt
+
+unfoldable operations : Unit {0}
+unfolding operations-file.orRefuse operations-file.asked operations-file.setUp operations-file.theName operations-file.define operations-file.oneOf operations-file.chosen operations-file.delivering operations-file.andStoring operations-file.getWants operations-file.get operations-file.liesIn operations-file.free operations-file.duplicateWants operations-file.duplicate operations-file.interchange operations-file.computing operations-file.quotient operations-file.input operations-file.print operations-file.saveContents operations-file.restoreContents operations-file.saveDefinition operations-file.restoreDefinition operations-file.do-line operations-file.makes operations-file.operations operations-file.operationOf operations-file.meaningOf operations-file.meaning
+operations = tt
+
+unfoldable steps : Unit {0}
+unfolding steps-file.nextLine steps-file.operationOrExit steps-file.goingTo steps-file.testsStep steps-file.inTurn steps-file.given steps-file.operationStep steps-file.return steps-file.exitStep steps-file.plan steps-file.unchanged steps-file.carriedOut steps-file.outcome steps-file.step steps-file.lowest steps-file.engineOf steps-file.ending steps-file.runFrom steps-file.run
+steps = tt
+
+unfoldable benches : Unit {0}
+unfolding benches-file.operation benches-file.lit benches-file.ref benches-file.chain benches-file.program benches-file.benchRun benches-file.refusalOf benches-file.bugOf benches-file.wordOf benches-file.sizesOf benches-file.passes benches-file.W benches-file.X benches-file.Y benches-file.WA benches-file.getting benches-file.field benches-file.with benches-file.from benches-file.cases benches-file.tour benches-file.tourRun
+benches = tt
+
 unfoldable pub computing : Unit {0}
-unfolding Rattle.word.specs.Field.width Rattle.word.specs.Field.shift Rattle.word.specs.Field.fieldOf Rattle.word.specs.Field.kept Rattle.word.specs.Field.stored Rattle.word.specs.Word.bit Rattle.word.specs.Word.sum Rattle.word.specs.Word.difference Rattle.word.specs.Word.product Rattle.word.specs.Word.complement Rattle.word.specs.Word.bitwise Rattle.word.specs.Word.either Rattle.word.specs.Word.both Rattle.word.specs.Word.differing Rattle.word.specs.Word.ones Rattle.word.specs.Word.zeros Rattle.word.specs.Word.leftmost Rattle.word.specs.Word.rightmostOf Rattle.word.specs.Word.rightmost Rattle.word.specs.Word.leftShift Rattle.word.specs.Word.rightShift Rattle.character.specs.Character.digits Rattle.character.specs.Character.number Rattle.character.specs.Character.characters Rattle.character.specs.Character.packed Rattle.character.specs.Character.holds Rattle.character.specs.Character.blank Rattle.character.specs.Character.period Rattle.character.specs.Character.codeOf Rattle.character.specs.Character.leading Rattle.character.specs.Character.allBelow Rattle.character.specs.Character.printed Rattle.character.specs.Character.blanksToZeros Rattle.character.specs.Character.toBinary Rattle.character.specs.Character.fromBinary Rattle.character.specs.Character.zerosToBlanks Rattle.character.specs.Converted.converted Rattle.character.specs.Converted.conversionRefusal Rattle.character.specs.Converted.conversionValue Rattle.character.specs.Converted.packing Rattle.character.specs.Converted.packingRefusal Rattle.character.specs.Converted.packingValue Rattle.block.specs.Blocks.size Rattle.block.specs.Blocks.level Rattle.block.specs.Blocks.joined Rattle.block.specs.Blocks.liveIn Rattle.block.specs.Blocks.freeIn Rattle.block.specs.Blocks.freed Rattle.block.specs.Blocks.delivered Rattle.block.specs.Blocks.gathered Rattle.block.specs.Blocks.changed Rattle.block.specs.Blocks.sizeAt Rattle.block.specs.Blocks.outside Rattle.block.specs.Blocks.runsFrom Rattle.block.specs.Map.freeTag Rattle.block.specs.Map.liveTag Rattle.block.specs.Map.written Rattle.block.specs.Map.told Rattle.block.specs.Map.isFree Rattle.block.specs.Map.canonical Rattle.block.specs.Map.allWritten Rattle.block.specs.Map.allTold Rattle.block.specs.Map.allCanonical Rattle.block.specs.Map.same Rattle.block.specs.Map.trees Rattle.block.specs.Map.mapOf Rattle.block.specs.Map.keeps Rattle.block.specs.Map.live Rattle.block.specs.Map.free Rattle.block.specs.Map.freshMap Rattle.block.specs.Map.freedMap Rattle.block.specs.Map.deliveredMap Rattle.block.specs.SetUp.top Rattle.block.specs.SetUp.words Rattle.block.specs.SetUp.fitting Rattle.block.specs.SetUp.absent Rattle.block.specs.SetUp.runs Rattle.table.specs.Operands.shapes Rattle.table.specs.Reference.digitsBefore Rattle.table.specs.Reference.digitsOf Rattle.table.specs.Reference.names Rattle.table.specs.Reference.namesField Rattle.table.specs.Reference.namesBug Rattle.table.specs.Reference.nameFields Rattle.table.specs.Reference.startsWithBug Rattle.table.specs.Reference.isReference Rattle.table.specs.Reference.named Rattle.table.specs.Reference.referenceOf Rattle.table.specs.Reference.namesOf Rattle.table.specs.Row.lengthFits Rattle.table.specs.Row.rows Rattle.table.specs.Row.pairAt Rattle.table.specs.Row.asRow Rattle.table.specs.Row.rowAt Rattle.table.specs.Table.fitPairs Rattle.table.specs.Table.namesRows Rattle.table.specs.Table.complete Rattle.table.specs.Table.isLine Rattle.table.specs.Table.isTest Rattle.table.specs.Table.shapeOf Rattle.table.specs.Table.isOperation Rattle.table.specs.Table.shaped Rattle.table.specs.Table.wellFormedAs Rattle.table.specs.Table.wellFormed Rattle.table.specs.Table.usable Rattle.table.specs.Table.lowestFrom Rattle.table.specs.Table.checked Rattle.table.specs.Table.checkRefusal Rattle.table.specs.Table.checkRow Rattle.machine.specs.Answer.refusalNumber Rattle.machine.specs.Answer.answerNumber Rattle.machine.specs.Answer.isRunning Rattle.machine.specs.Answer._>>=_ Rattle.machine.specs.Answer._>>_ Rattle.machine.specs.Answer.need Rattle.machine.specs.Bench.operation Rattle.machine.specs.Bench.lit Rattle.machine.specs.Bench.ref Rattle.machine.specs.Bench.chain Rattle.machine.specs.Bench.program Rattle.machine.specs.Bench.lowest Rattle.machine.specs.Bench.benchRun Rattle.machine.specs.Bench.refusalOf Rattle.machine.specs.Bench.bugOf Rattle.machine.specs.Bench.wordOf Rattle.machine.specs.Bench.sizesOf Rattle.machine.specs.Bench.passes Rattle.machine.specs.Bench.W Rattle.machine.specs.Bench.X Rattle.machine.specs.Bench.Y Rattle.machine.specs.Bench.WA Rattle.machine.specs.Bench.getting Rattle.machine.specs.Bench.field Rattle.machine.specs.Bench.with Rattle.machine.specs.Bench.from Rattle.machine.specs.Bench.cases Rattle.machine.specs.Bench.tour Rattle.machine.specs.Bench.tourRun Rattle.machine.specs.Effects.quietly Rattle.machine.specs.Effects.reporting Rattle.machine.specs.Effects.assigned Rattle.machine.specs.Effects.storeTo Rattle.machine.specs.Effects.storing Rattle.machine.specs.Effects.storageAfter Rattle.machine.specs.Effects.engineAfter Rattle.machine.specs.Locate.environmentOf Rattle.machine.specs.Locate.world Rattle.machine.specs.Locate.definitionOf Rattle.machine.specs.Locate.contentsOf Rattle.machine.specs.Locate.widthOf Rattle.machine.specs.Locate.linkBy Rattle.machine.specs.Locate.link Rattle.machine.specs.Locate.follow Rattle.machine.specs.Locate.locate Rattle.machine.specs.Locate.read Rattle.machine.specs.Locate.operand Rattle.machine.specs.Locate.Reached Rattle.machine.specs.Locate.linked Rattle.machine.specs.Locate.linkRefusal Rattle.machine.specs.Operations.orRefuse Rattle.machine.specs.Operations.asked Rattle.machine.specs.Operations.setUp Rattle.machine.specs.Operations.theName Rattle.machine.specs.Operations.define Rattle.machine.specs.Operations.oneOf Rattle.machine.specs.Operations.chosen Rattle.machine.specs.Operations.delivering Rattle.machine.specs.Operations.andStoring Rattle.machine.specs.Operations.getWants Rattle.machine.specs.Operations.get Rattle.machine.specs.Operations.liesIn Rattle.machine.specs.Operations.free Rattle.machine.specs.Operations.duplicateWants Rattle.machine.specs.Operations.duplicate Rattle.machine.specs.Operations.interchange Rattle.machine.specs.Operations.computing Rattle.machine.specs.Operations.making Rattle.machine.specs.Operations.quotient Rattle.machine.specs.Operations.input Rattle.machine.specs.Operations.print Rattle.machine.specs.Operations.saveContents Rattle.machine.specs.Operations.restoreContents Rattle.machine.specs.Operations.saveDefinition Rattle.machine.specs.Operations.restoreDefinition Rattle.machine.specs.Operations.do-line Rattle.machine.specs.Operations.meanings Rattle.machine.specs.Operations.meaning Rattle.machine.specs.Sound.every Rattle.machine.specs.Sound.isRow Rattle.machine.specs.Sound.isPlace Rattle.machine.specs.Sound.inRange Rattle.machine.specs.Sound.isDefinition Rattle.machine.specs.Sound.soundPlace Rattle.machine.specs.Sound.soundStack Rattle.machine.specs.Sound.soundStacks Rattle.machine.specs.Sound.soundStorage Rattle.machine.specs.Sound.soundCore Rattle.machine.specs.Sound.soundEngine Rattle.machine.specs.Sound.sound Rattle.machine.specs.State.testsOf Rattle.machine.specs.State.operationAt Rattle.machine.specs.State.exitOf Rattle.machine.specs.State.theEnd Rattle.machine.specs.State.isFinished Rattle.machine.specs.State.undefined Rattle.machine.specs.State.noSetUp Rattle.machine.specs.State.isSetUp Rattle.machine.specs.State.fresh Rattle.machine.specs.State.movedTo Rattle.machine.specs.State.withBug Rattle.machine.specs.State.withDefinition Rattle.machine.specs.State.withContents Rattle.machine.specs.State.withSaved Rattle.machine.specs.State.withCalls Rattle.machine.specs.State.withSetUp Rattle.machine.specs.State.withTaken Rattle.machine.specs.State.withWritten Rattle.machine.specs.State.onCore Rattle.machine.specs.State.withMap Rattle.machine.specs.Step.nextLine Rattle.machine.specs.Step.operationOrExit Rattle.machine.specs.Step.goingTo Rattle.machine.specs.Step.testsStep Rattle.machine.specs.Step.inTurn Rattle.machine.specs.Step.given Rattle.machine.specs.Step.operationStep Rattle.machine.specs.Step.return Rattle.machine.specs.Step.exitStep Rattle.machine.specs.Step.plan Rattle.machine.specs.Step.unchanged Rattle.machine.specs.Step.carriedOut Rattle.machine.specs.Step.outcome Rattle.machine.specs.Step.step Rattle.machine.specs.Step.engineOf Rattle.machine.specs.Step.setUpAt Rattle.machine.specs.Step.ending Rattle.machine.specs.Step.runFrom Rattle.machine.specs.Step.run Rattle.machine.specs.Storage.noStore Rattle.machine.specs.Storage.noReport Rattle.machine.specs.Storage.placed Rattle.machine.specs.Storage.wordAt Rattle.machine.specs.Storage.withStore Rattle.machine.specs.Storage.withDelivery Rattle.machine.specs.Storage.withCopy Rattle.machine.specs.Storage.afterReport Rattle.machine.specs.Test.comparisons Rattle.machine.specs.Test.compared Rattle.machine.specs.Test.settling Rattle.machine.specs.Test.settledAs Rattle.machine.specs.Test.satisfied
+unfolding fields words characters blocks setups maps references rows operands tables answers states storages soundness locations tests effects operations steps benches
 computing = tt

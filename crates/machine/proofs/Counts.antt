@@ -19,10 +19,10 @@ use Rattle.machine.specs.State.{withBug, withTaken, withWritten, withCon
 use Rattle.machine.specs.Sound.{Lent, Engine}
 use Rattle.machine.specs.Locate.{world, Value, locate, contents}
 use Rattle.machine.specs.Effects.{Effects, quietly, reporting, assigned, storing, engineAfter}
-use Rattle.machine.specs.Operations.{Given, Wanted, setUp, computing, making, interchange, andStoring, delivering, get, free, duplicate, input, print, define, saveContents, restoreContents, saveDefinition, restoreDefinition, do-line, meanings, meaning}
+use Rattle.machine.specs.Operations.{Given, Meaning, operations, operationOf, makes, Wanted, setUp, computing, interchange, andStoring, delivering, get, free, duplicate, input, print, define, saveContents, restoreContents, saveDefinition, restoreDefinition, do-line, meaning}
 use Rattle.machine.specs.Step.{nextLine, goingTo, testsStep, given, operationStep, return, exitStep, plan}
 use Rattle.machine.proofs.Checks.{need-passed, then-passed, bind-passed, passed-same}
-use Rattle.machine.proofs.Codes.{EachFrom, at-code}
+use Rattle.machine.proofs.Codes.{Own, ownFrom, Each, end, _⨾_, at-code}
 
 -- the counts after the effects, with this input and output lent
 pub record Counted (l : Lent) (before : ℕ) (x : Effects) : Type 0 where
@@ -177,115 +177,35 @@ module _ (b : ℕ) (g : Given) (t : g .engine .state .core .taken ≤ length (g 
       subst Right (passed-same k₆)
       (record { taken = t; written = leb-true _ _ there; room = rw length-printed (leb-true _ _ there) })
 
-  -- the operations in the order of their codes
-  counts : (f : ℕ → Value → Value → ℕ) (x : Effects) → making f b g ≡ passed x → Right x
-  unfolding making
-  counts f = computing-counts _
+  -- the operations that have a meaning of their own, in the order of their codes
+  abbrev Has : ℕ → Meaning → Type 0
+  Has i m = (x : Effects) → m b g ≡ passed x → Right x
 
-  each-counts : EachFrom (λ i m. (x : Effects) → m b g ≡ passed x → Right x) 1 meanings
-  unfolding EachFrom meanings
-  each-counts = (
-    setUp-counts,
-    (
-      define-counts,
-      (
-        get-counts,
-        (
-          free-counts,
-          (
-            duplicate-counts,
-            (
-              counts _,
-              (
-                interchange-counts,
-                (
-                  counts _,
-                  (
-                    counts _,
-                    (
-                      counts _,
-                      (
-                        computing-counts _,
-                        (
-                          counts _,
-                          (
-                            counts _,
-                            (
-                              counts _,
-                              (
-                                counts _,
-                                (
-                                  counts _,
-                                  (
-                                    counts _,
-                                    (
-                                      counts _,
-                                      (
-                                        counts _,
-                                        (
-                                          counts _,
-                                          (
-                                            counts _,
-                                            (
-                                              counts _,
-                                              (
-                                                counts _,
-                                                (
-                                                  input-counts,
-                                                  (
-                                                    print-counts,
-                                                    (
-                                                      counts _,
-                                                      (
-                                                        computing-counts _,
-                                                        (
-                                                          computing-counts _,
-                                                          (
-                                                            counts _,
-                                                            (
-                                                              counts _,
-                                                              (
-                                                                counts _,
-                                                                (saveContents-counts, (restoreContents-counts, (saveDefinition-counts, (restoreDefinition-counts, (do-line-counts, tt))))),
-                                                              ),
-                                                            ),
-                                                          ),
-                                                        ),
-                                                      ),
-                                                    ),
-                                                  ),
-                                                ),
-                                              ),
-                                            ),
-                                          ),
-                                        ),
-                                      ),
-                                    ),
-                                  ),
-                                ),
-                              ),
-                            ),
-                          ),
-                        ),
-                      ),
-                    ),
-                  ),
-                ),
-              ),
-            ),
-          ),
-        ),
-      ),
-    ),
-  )
+  each-counts : Each (λ o. Has (o .code) (o .meaning)) (ownFrom 1 operations)
+  unfolding ownFrom operations makes
+  each-counts =
+      setUp-counts
+      ⨾ define-counts
+      ⨾ get-counts
+      ⨾ free-counts
+      ⨾ duplicate-counts
+      ⨾ interchange-counts
+      ⨾ input-counts
+      ⨾ print-counts
+      ⨾ saveContents-counts
+      ⨾ restoreContents-counts
+      ⨾ saveDefinition-counts
+      ⨾ restoreDefinition-counts
+      ⨾ do-line-counts
+      ⨾ end
 
   idle : (x : Effects) → passed (quietly (g .engine .state)) ≡ passed x → Right x
   unfolding quietly
   idle x k = subst Right (passed-same k) (as-before _ refl refl refl)
 
   pub meaning-counts : (code : ℕ) (x : Effects) → meaning code b g ≡ passed x → Right x
-  unfolding meaning
-  meaning-counts code = at-code (λ i m. (x : Effects) → m b g ≡ passed x → Right x) 1 meanings _ (λ n. idle) each-counts (code - 1)
+  unfolding meaning operationOf
+  meaning-counts code = at-code Has (λ i. computing-counts) _ (λ i. idle) 1 operations each-counts (code - 1)
 
 -- a step of any place
 module _ (b : ℕ) (choose : List ℕ → ℕ) (l : Lent) (e : Engine) (t : e .state .core .taken ≤ length (l .input)) (w : e .state .core .written ≤ length (l .output)) where

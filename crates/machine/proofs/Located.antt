@@ -23,7 +23,7 @@ use Rattle.machine.specs.Answer.{passed}
 use Rattle.machine.specs.State.{undefined}
 use Rattle.machine.specs.Storage.{noStore}
 use Rattle.machine.specs.Sound.{Engine, every, isDefinition, inRange}
-use Rattle.machine.specs.Locate.{World, world, environmentOf, liveBlocks, definitionOf, contentsOf, contents, linkBy, link, follow, locate}
+use Rattle.machine.specs.Locate.{World, world, liveBlocks, definitionOf, contentsOf, contents, linkBy, link, follow, locate}
 use Rattle.machine.specs.Effects.{storeTo}
 use Rattle.machine.proofs.Checks.{and-parts, nonzero, need-passed, bind-passed, passed-same}
 use Rattle.machine.proofs.Every.{below, every-getD}
@@ -58,16 +58,16 @@ pub undefined-fits : (b : ℕ) → isDefinition b undefined ≡ true
 unfolding isDefinition undefined
 undefined-fits b = refl
 
-module _ (b : ℕ) (w : World) (h : every (isDefinition b) (w .names .definitions) ≡ true) where
+module _ (b : ℕ) (w : World) (h : every (isDefinition b) (w .definitions) ≡ true) where
   abbrev blocks : List Block
-  blocks = live (w .names .setup) (w .map)
+  blocks = live (w .setup) (w .map)
 
   -- a definition in use has its right bit inside the word
   defined-right : (f : FieldName) → definitionOf f w .defined ≡ true → definitionOf f w .right < b
   unfolding definitionOf
   defined-right f k =
       definition-right b (definitionOf f w)
-      (every-getD (isDefinition b) (f .0) (w .names .definitions) undefined h (undefined-fits b)) k
+      (every-getD (isDefinition b) (f .0) (w .definitions) undefined h (undefined-fits b)) k
 
   -- a link leads into a live block
   pub link-located : (pointer : ℕ) (f : FieldName) (at : Location) → link w pointer f ≡ passed at → Located b blocks at
@@ -100,12 +100,12 @@ module _ (b : ℕ) (w : World) (h : every (isDefinition b) (w .names .definition
 
 module _ (b : ℕ) (e : Engine) (h : CoreFacts b (e .state .core)) where
   pub located : (p : Pair) (at : Location) → locate b (world e) p ≡ passed at → Located b (liveBlocks e) at
-  unfolding world environmentOf
+  unfolding world
   located p at k = located-in b (world e) (h .definitions) p at k
 
   -- what stands there is below 2 ^ b
   pub contents-below : (at : Location) → Located b (liveBlocks e) at → below (2 ^ b) (contents b (world e) at) ≡ true
-  unfolding Located contentsOf world environmentOf
+  unfolding Located contentsOf world
   contents-below (Bug x) l = every-getD (below (2 ^ b)) (x .0) (e .state .core .bugs) 0 (h .bugs) (lt-ltb _ _ (pow-pos b))
   contents-below (Field address left right) l = lt-ltb _ _ (field-word b left right _ (l .0))
 

@@ -14,7 +14,7 @@ use Rattle.machine.specs.Answer.{Checked, passed}
 use Rattle.machine.specs.State.{testsOf, undefined, movedTo, withBug, onCore, withTaken, withWritten, withDefinition, withContents, withSaved, withCalls}
 use Rattle.machine.specs.Storage.{noStore, noReport}
 use Rattle.machine.specs.Sound.{Engine, isDefinition, isPlace, soundPlace}
-use Rattle.machine.specs.Locate.{world, environmentOf, Value, liveBlocks, contents, definitionOf}
+use Rattle.machine.specs.Locate.{world, Value, liveBlocks, contents, definitionOf}
 use Rattle.machine.specs.Effects.{Effects, quietly, reporting, assigned, storing}
 use Rattle.machine.specs.Operations.{Given, computing, interchange, andStoring, input, print, define, theName, saveContents, restoreContents, saveDefinition, restoreDefinition, do-line}
 use Rattle.machine.proofs.Checks.{need-passed, bind-passed, passed-same}
@@ -172,7 +172,7 @@ module _ (b : ℕ) (g : Given) (h : Facts b (g .engine)) where
 
   -- a field's definition is in range
   definition-fits : (f : FieldName) → isDefinition b (definitionOf f (world (g .engine))) ≡ true
-  unfolding definitionOf world environmentOf
+  unfolding definitionOf world
   definition-fits f = every-getD (isDefinition b) (f .0) (g .engine .state .core .definitions) undefined (h .core .definitions) (undefined-fits b)
 
   -- 34 save a definition

@@ -20,13 +20,13 @@ use Rattle.machine.specs.State.{noSetUp, isSetUp, isFinished, theEnd, mo
 use Rattle.machine.specs.Sound.{Lent, Engine, isRow, isPlace, soundPlace}
 use Rattle.machine.specs.Locate.{liveBlocks}
 use Rattle.machine.specs.Effects.{Effects, quietly}
-use Rattle.machine.specs.Operations.{Given, Meaning, asked, meanings, meaning, making, setUp}
+use Rattle.machine.specs.Operations.{Given, Meaning, operations, operationOf, makes, meaningOf, asked, meaning, setUp}
 use Rattle.machine.specs.Step.{Choice, nextLine, operationOrExit, goingTo, testsStep, inTurn, given, operationStep, return, exitStep, plan, setUpAt}
 use Rattle.machine.proofs.Checks.{need-passed, then-passed, need-alone, bind-passed, passed-same}
 use Rattle.machine.proofs.Facts.{CoreFacts, Facts, moved-facts, calls-facts, setup-facts, pop-facts, top-fact}
 use Rattle.machine.proofs.Live.{live-size}
 use Rattle.machine.proofs.Moves.{SetsUp, Done}
-use Rattle.machine.proofs.Codes.{EachFrom, at-code}
+use Rattle.machine.proofs.Codes.{Own, ownFrom, Each, end, _⨾_, at-code}
 use Rattle.machine.proofs.Meanings.{silent, computing-done, interchange-done, input-done, print-done, define-done, saveContents-done, restoreContents-done, saveDefinition-done, restoreDefinition-done, do-line-done}
 use Rattle.machine.proofs.Blocks.{free-done, get-done, duplicate-done}
 use Rattle.machine.proofs.Places.{RowOrNone, place-there, place-line, place-sound, end-sound, next-sound, operation-or-exit, tests-place, stack-sound, next-row, do-row, has-code, line-operation, line-goes}
@@ -47,121 +47,24 @@ module _ (b : ℕ) (g : Given) (h : Facts b (g .engine)) (choice : Choice (g .ch
   abbrev Right : ℕ → Meaning → Type 0
   Right i m = g .row .code ≡ i → (x : Effects) → m b g ≡ passed x → Done b (g .engine) x
 
-  made : (f : ℕ → Rattle.machine.specs.Locate.Value → Rattle.machine.specs.Locate.Value → ℕ) (i : ℕ) → Right i (making f)
-  unfolding making
-  made f i c = computing-done b g h _
-
-  each-right : EachFrom Right 1 meanings
-  unfolding EachFrom meanings
-  each-right = (
-    λ c. absurd (other c),
-    (
-      λ c. define-done b g h,
-      (
-        λ c. get-done b g h choice,
-        (
-          λ c. free-done b g h,
-          (
-            λ c. duplicate-done b g h choice sizes,
-            (
-              made _ 6,
-              (
-                λ c. interchange-done b g h,
-                (
-                  made _ 8,
-                  (
-                    made _ 9,
-                    (
-                      made _ 10,
-                      (
-                        λ c. computing-done b g h _,
-                        (
-                          made _ 12,
-                          (
-                            made _ 13,
-                            (
-                              made _ 14,
-                              (
-                                made _ 15,
-                                (
-                                  made _ 16,
-                                  (
-                                    made _ 17,
-                                    (
-                                      made _ 18,
-                                      (
-                                        made _ 19,
-                                        (
-                                          made _ 20,
-                                          (
-                                            made _ 21,
-                                            (
-                                              made _ 22,
-                                              (
-                                                made _ 23,
-                                                (
-                                                  λ c. input-done b g h,
-                                                  (
-                                                    λ c. print-done b g h,
-                                                    (
-                                                      made _ 26,
-                                                      (
-                                                        λ c. computing-done b g h _,
-                                                        (
-                                                          λ c. computing-done b g h _,
-                                                          (
-                                                            made _ 29,
-                                                            (
-                                                              made _ 30,
-                                                              (
-                                                                made _ 31,
-                                                                (
-                                                                  λ c. saveContents-done b g h,
-                                                                  (
-                                                                    λ c. restoreContents-done b g h,
-                                                                    (
-                                                                      λ c. saveDefinition-done b g h,
-                                                                      (
-                                                                        λ c. restoreDefinition-done b g h,
-                                                                        (
-                                                                          λ c. do-line-done b g h p (q c),
-                                                                          tt,
-                                                                        ),
-                                                                      ),
-                                                                    ),
-                                                                  ),
-                                                                ),
-                                                              ),
-                                                            ),
-                                                          ),
-                                                        ),
-                                                      ),
-                                                    ),
-                                                  ),
-                                                ),
-                                              ),
-                                            ),
-                                          ),
-                                        ),
-                                      ),
-                                    ),
-                                  ),
-                                ),
-                              ),
-                            ),
-                          ),
-                        ),
-                      ),
-                    ),
-                  ),
-                ),
-              ),
-            ),
-          ),
-        ),
-      ),
-    ),
-  )
+  -- the operations that have a meaning of their own, in the order of their codes
+  each-right : Each (λ o. Right (o .code) (o .meaning)) (ownFrom 1 operations)
+  unfolding ownFrom operations makes
+  each-right =
+      (λ c. absurd (other c))
+      ⨾ (λ c. define-done b g h)
+      ⨾ (λ c. get-done b g h choice)
+      ⨾ (λ c. free-done b g h)
+      ⨾ (λ c. duplicate-done b g h choice sizes)
+      ⨾ (λ c. interchange-done b g h)
+      ⨾ (λ c. input-done b g h)
+      ⨾ (λ c. print-done b g h)
+      ⨾ (λ c. saveContents-done b g h)
+      ⨾ (λ c. restoreContents-done b g h)
+      ⨾ (λ c. saveDefinition-done b g h)
+      ⨾ (λ c. restoreDefinition-done b g h)
+      ⨾ (λ c. do-line-done b g h p (q c))
+      ⨾ end
 
   idle : (i : ℕ) → Right i (λ b g. passed (quietly (g .engine .state)))
   unfolding quietly
@@ -169,8 +72,8 @@ module _ (b : ℕ) (g : Given) (h : Facts b (g .engine)) (choice : Choice (g .ch
 
   -- the operation's own meaning
   pub meaning-done : 1 ≤ g .row .code → (x : Effects) → meaning (g .row .code) b g ≡ passed x → Done b (g .engine) x
-  unfolding meaning
-  meaning-done low = at-code Right 1 meanings _ idle each-right (g .row .code - 1) (omega arith)
+  unfolding meaning operationOf
+  meaning-done low = at-code Right (λ i f c. computing-done b g h f) _ idle 1 operations each-right (g .row .code - 1) (omega arith)
 
 -- 1 set up
 module _ (b : ℕ) (g : Given) (h : Facts b (g .engine)) where
@@ -274,7 +177,7 @@ module _ (b : ℕ) (l : Lent) (e : Engine) (h : Facts b e) (t : lengthFits (l .t
       -- a set-up, and any other operation
       set-up-planned : rowAt (l .table) (e .state .core .place .row) .code ≡ 1 → isSetUp (e .state .core) ≡ false
           → (x : Effects) → meaning 1 b (given choose l e) ≡ passed x → Planned b l e x
-      unfolding meaning meanings given onCore
+      unfolding meaning meaningOf operationOf operations given onCore
       set-up-planned c s x k =
           let (core, up) = setUp-done b (given choose l e) given-facts x k in
           settingUp s core (subst (λ u. SetsUp (e .storage) (e .state .map) u x) (sym (is-asked c)) up)

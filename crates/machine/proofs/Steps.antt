@@ -6,7 +6,7 @@ use native.Mathlib.Omega.{arith}
 use mathlib.Core.Bool.{Bool, true, false, _&&_, cond}
 use lib.Dec.{leb}
 use lib.ListN.{length}
-use mathlib.Core.List.{List, List·Memᴰ}
+use mathlib.Core.List.{List, List·Memᴰ, List·Memᴰ·head}
 use mathlib.Core.Path.{_≡_, refl, subst, sym, ap, _∙_}
 use Rattle.block.specs.SetUp.{runs}
 use Rattle.machine.specs.declared.Answer.{Answer}
@@ -20,7 +20,7 @@ use Rattle.machine.specs.Storage.{noReport}
 use Rattle.machine.specs.Sound.{Lent, Engine, sound, soundEngine}
 use Rattle.machine.specs.Locate.{liveBlocks}
 use Rattle.machine.specs.Effects.{Effects}
-use Rattle.machine.specs.Step.{Choice, Outcome, plan, unchanged, carriedOut, outcome, step}
+use Rattle.machine.specs.Step.{Choice, lowest, Outcome, plan, unchanged, carriedOut, outcome, step}
 use Rattle.machine.proofs.Checks.{and-parts}
 use Rattle.machine.proofs.Facts.{Facts, sound-facts}
 use Rattle.machine.proofs.Moves.{Moves, still, frees, delivers}
@@ -117,3 +117,8 @@ delivered-run b choose l e choice = go (stepping b choose l e)
     go (staying f o) = subst (λ (o : Outcome). DeliversRun e (o .stepped .report)) (sym o) (λ some. absurd (some refl))
     go (forward x h f p o) =
         subst (λ (o : Outcome). DeliversRun e (o .stepped .report)) (sym o) (planned-run b l e x (planned b choose l e h choice f x p))
+
+-- the lowest of the admissible addresses is one of them
+pub lowest-choice : Choice lowest
+unfolding lowest
+lowest-choice r rs = List·Memᴰ·head refl

@@ -1,30 +1,25 @@
 -- References: from a bug along the fields, link by link, to the location of the last one.
 -- Document 01: "Fields and references". Assumes nothing.
-use Prim.Native.Nat.{ℕ, _+_, _%_, _≤_, _<_}
-use mathlib.Core.Path.{_≡_}
-use mathlib.Core.Bool.{true, not, cond}
+use Prim.Native.Nat.{ℕ, _+_}
+use mathlib.Core.Bool.{not, cond}
 use mathlib.Core.List.{List, [], _∷_}
 use lib.Dec.{eqb, ltb}
-use lib.ListN.{length, getD}
+use lib.ListN.{getD}
 use Rattle.word.specs.Field.{width, fieldOf}
-use Rattle.block.specs.Blocks.{Block, size, sizeAt}
-use Rattle.block.specs.SetUp.{top, words}
-use Rattle.block.specs.Map.{keeps, live}
+use Rattle.block.specs.declared.SetUp.{SetUp}
+use Rattle.block.specs.Blocks.{Block, sizeAt}
+use Rattle.block.specs.Map.{live}
 use Rattle.table.specs.declared.FieldName.{FieldName}
 use Rattle.table.specs.declared.Pair.{Pair}
 use Rattle.table.specs.Reference.{referenceOf}
 use Rattle.machine.specs.declared.Definition.{Definition}
-use Rattle.machine.specs.declared.Environment.{Environment}
-use Rattle.machine.specs.declared.Core.{Core}
 use Rattle.machine.specs.declared.Location.{Location}
 use Rattle.machine.specs.declared.Location.the-variants.{Bug, Field}
-use Rattle.machine.specs.declared.Linked.{Linked}
-use Rattle.machine.specs.declared.Linked.the-variants.{At, Stopped}
 use Rattle.machine.specs.declared.Refusal.the-variants.{UndefinedField, NotABlock, OutsideBlock}
-use Rattle.machine.specs.Answer.{Checked, refused, passed, _>>=_, _>>_, need, refusalNumber}
+use Rattle.machine.specs.Answer.{Checked, passed, _>>=_, _>>_, need}
 use Rattle.machine.specs.State.{undefined}
 use Rattle.machine.specs.Storage.{wordAt}
-use Rattle.machine.specs.Sound.{Engine, every, isDefinition}
+use Rattle.machine.specs.Sound.{Engine}
 
 -- the live blocks of an engine
 abbrev pub liveBlocks : Engine → List Block
@@ -32,27 +27,33 @@ liveBlocks e = live (e .state .core .setup) (e .state .map)
 
 -- what references read: bugs, definitions and set-up numbers, the block map and the storage
 pub record World : Type 0 where
-  pub names : Environment
+  pub bugs : List ℕ
+  pub definitions : List Definition
+  pub setup : SetUp
   pub map : List ℕ
   pub storage : List ℕ
 
-unfoldable pub environmentOf : Core → Environment
-environmentOf c = record { bugs = c .bugs; definitions = c .definitions; setup = c .setup }
-
 unfoldable pub world : Engine → World
-world e = record { names = environmentOf (e .state .core); map = e .state .map; storage = e .storage }
+world e =
+    record {
+      bugs = e .state .core .bugs;
+      definitions = e .state .core .definitions;
+      setup = e .state .core .setup;
+      map = e .state .map;
+      storage = e .storage;
+    }
 
 -- the definition of a field
 unfoldable pub definitionOf : FieldName → World → Definition
-definitionOf f w = getD (w .names .definitions) (f .0) undefined
+definitionOf f w = getD (w .definitions) (f .0) undefined
 
 -- what stands at a location: a bug's word, or a field's bits
-unfoldable pub contentsOf : ℕ → Environment → List ℕ → Location → ℕ
-contentsOf b names storage (Bug x) = getD (names .bugs) (x .0) 0
-contentsOf b names storage (Field address left right) = fieldOf b left right (wordAt (names .setup .s1) address storage)
+unfoldable pub contentsOf : ℕ → List ℕ → ℕ → List ℕ → Location → ℕ
+contentsOf b bugs s1 storage (Bug x) = getD bugs (x .0) 0
+contentsOf b bugs s1 storage (Field address left right) = fieldOf b left right (wordAt s1 address storage)
 
 abbrev pub contents : ℕ → World → Location → ℕ
-contents b w at = contentsOf b (w .names) (w .storage) at
+contents b w at = contentsOf b (w .bugs) (w .setup .s1) (w .storage) at
 
 -- the bits of a location: a bug is a whole word
 unfoldable pub widthOf : ℕ → Location → ℕ
@@ -69,7 +70,7 @@ linkBy x n pointer = do
   passed (Field (pointer + x .word) (x .left) (x .right))
 
 unfoldable pub link : World → ℕ → FieldName → Checked Location
-link w pointer f = linkBy (definitionOf f w) (sizeAt pointer (live (w .names .setup) (w .map))) pointer
+link w pointer f = linkBy (definitionOf f w) (sizeAt pointer (live (w .setup) (w .map))) pointer
 
 -- the links one after the other: what one holds is the next one's pointer
 unfoldable pub follow : ℕ → World → Location → List FieldName → Checked Location
@@ -91,30 +92,3 @@ read b w at = record { value = contents b w at; width = widthOf b at }
 -- an operand that is used: a literal (form 1), or what stands where a reference leads
 unfoldable pub operand : ℕ → World → Pair → Checked Value
 operand b w p = cond (eqb (p .form) 1) (passed (record { value = p .value; width = b })) (locate b w p >>= λ at. passed (read b w at))
-
--- what code that follows references relies on, and a sound engine has: set-up numbers in range, a map that keeps its section, a
--- storage that has the set-up words, definitions in range
-pub record Readable (b : ℕ) (w : World) : Type 0 where
-  pub width : b ≤ 48
-  pub first : w .names .setup .s1 ≤ 32767
-  pub last : w .names .setup .s2 ≤ 32767
-  pub whole : words (w .names .setup) % size (top (w .names .setup .d)) ≡ 0
-  pub kept : keeps (w .names .setup) (w .map) ≡ true
-  pub room : words (w .names .setup) ≤ length (w .storage)
-  pub definitions : every (isDefinition b) (w .names .definitions) ≡ true
-
--- a location that can be read: one of the bugs, or bits inside a word of the storage
-unfoldable pub Reached : ℕ → Environment → List ℕ → Location → Type 0
-Reached b names storage (Bug x) = x .0 < 26
-Reached b names storage (Field address left right) =
-    (right < b) × (names .setup .s1 ≤ address) × (address < names .setup .s1 + length storage)
-
--- an answer that is a location or a refusal, as the code gives it
-unfoldable pub linked : Checked Location → Linked
-linked (refused r) = Stopped r
-linked (passed at) = At at
-
--- document 01's number of its refusal, 0 where it is none
-unfoldable pub linkRefusal : Linked → ℕ
-linkRefusal (At at) = 0
-linkRefusal (Stopped r) = refusalNumber r

@@ -193,10 +193,6 @@ computing f b g = do
   v ← f b (read b (world (g .engine)) a) x
   passed (storing b a v (g .engine .state))
 
--- the same, where f refuses nothing
-unfoldable pub making : (ℕ → Value → Value → ℕ) → Meaning
-making f = computing (λ b a x. passed (f b a x))
-
 -- 11 divide rounding down: 9
 unfoldable pub quotient : ℕ → Value → Value → Checked ℕ
 quotient b a x = do
@@ -289,47 +285,64 @@ do-line b g = do
       (withCalls (record { entries = set (stack .entries) (stack .count) (c .place); count = suc (stack .count) }) c))
       (g .engine .state)))
 
+-- an operation has a meaning of its own, or stores in a what a function makes of a's old contents and of x
+pub data Operation : Type 0 where
+  own : Meaning → Operation
+  computes : (ℕ → Value → Value → Checked ℕ) → Operation
+
+-- the same, where the function refuses nothing
+unfoldable pub makes : (ℕ → Value → Value → ℕ) → Operation
+makes f = computes (λ b a x. passed (f b a x))
+
 -- the operations in the order of their codes
-unfoldable pub meanings : List Meaning
-meanings =
-    setUp  -- 1
-    ∷ define  -- 2
-    ∷ get  -- 3
-    ∷ free  -- 4
-    ∷ duplicate  -- 5
-    ∷ making (λ b a x. x .value)  -- 6 copy
-    ∷ interchange  -- 7
-    ∷ making (λ b a x. sum b (a .value) (x .value))  -- 8 add
-    ∷ making (λ b a x. difference b (a .value) (x .value))  -- 9 subtract
-    ∷ making (λ b a x. product b (a .value) (x .value))  -- 10 multiply
-    ∷ computing quotient  -- 11 divide
-    ∷ making (λ b a x. either b (a .value) (x .value))  -- 12 or
-    ∷ making (λ b a x. both b (a .value) (x .value))  -- 13 and
-    ∷ making (λ b a x. differing b (a .value) (x .value))  -- 14 exclusive or
-    ∷ making (λ b a x. complement b (x .value))  -- 15 complement
-    ∷ making (λ b a x. ones (x .width) (x .value))  -- 16 count ones
-    ∷ making (λ b a x. zeros (x .width) (x .value))  -- 17 count zeros
-    ∷ making (λ b a x. leftmost 1 (x .width) (x .value))  -- 18 leftmost one
-    ∷ making (λ b a x. rightmost 1 (x .width) (x .value))  -- 19 rightmost one
-    ∷ making (λ b a x. leftmost 0 (x .width) (x .value))  -- 20 leftmost zero
-    ∷ making (λ b a x. rightmost 0 (x .width) (x .value))  -- 21 rightmost zero
-    ∷ making (λ b a x. leftShift (a .width) (a .value) (x .value))  -- 22 left shift
-    ∷ making (λ b a x. rightShift (a .width) (a .value) (x .value))  -- 23 right shift
-    ∷ input  -- 24
-    ∷ print  -- 25
-    ∷ making (λ b a x. blanksToZeros (b / 6) (x .width) (x .value))  -- 26 blanks to zeros
-    ∷ computing (λ b a x. orRefuse (toBinary 10 (b / 6) (x .value)) NotADigit)  -- 27 decimal to binary: 6
-    ∷ computing (λ b a x. orRefuse (toBinary 8 (b / 6) (x .value)) NotADigit)  -- 28 octal to binary: 6
-    ∷ making (λ b a x. fromBinary 10 (b / 6) (x .value))  -- 29 binary to decimal
-    ∷ making (λ b a x. fromBinary 8 (b / 6) (x .value))  -- 30 binary to octal
-    ∷ making (λ b a x. zerosToBlanks (b / 6) (x .value))  -- 31 zeros to blanks
-    ∷ saveContents  -- 32
-    ∷ restoreContents  -- 33
-    ∷ saveDefinition  -- 34
-    ∷ restoreDefinition  -- 35
-    ∷ do-line  -- 36
+unfoldable pub operations : List Operation
+operations =
+    own setUp  -- 1
+    ∷ own define  -- 2
+    ∷ own get  -- 3
+    ∷ own free  -- 4
+    ∷ own duplicate  -- 5
+    ∷ makes (λ b a x. x .value)  -- 6 copy
+    ∷ own interchange  -- 7
+    ∷ makes (λ b a x. sum b (a .value) (x .value))  -- 8 add
+    ∷ makes (λ b a x. difference b (a .value) (x .value))  -- 9 subtract
+    ∷ makes (λ b a x. product b (a .value) (x .value))  -- 10 multiply
+    ∷ computes quotient  -- 11 divide
+    ∷ makes (λ b a x. either b (a .value) (x .value))  -- 12 or
+    ∷ makes (λ b a x. both b (a .value) (x .value))  -- 13 and
+    ∷ makes (λ b a x. differing b (a .value) (x .value))  -- 14 exclusive or
+    ∷ makes (λ b a x. complement b (x .value))  -- 15 complement
+    ∷ makes (λ b a x. ones (x .width) (x .value))  -- 16 count ones
+    ∷ makes (λ b a x. zeros (x .width) (x .value))  -- 17 count zeros
+    ∷ makes (λ b a x. leftmost 1 (x .width) (x .value))  -- 18 leftmost one
+    ∷ makes (λ b a x. rightmost 1 (x .width) (x .value))  -- 19 rightmost one
+    ∷ makes (λ b a x. leftmost 0 (x .width) (x .value))  -- 20 leftmost zero
+    ∷ makes (λ b a x. rightmost 0 (x .width) (x .value))  -- 21 rightmost zero
+    ∷ makes (λ b a x. leftShift (a .width) (a .value) (x .value))  -- 22 left shift
+    ∷ makes (λ b a x. rightShift (a .width) (a .value) (x .value))  -- 23 right shift
+    ∷ own input  -- 24
+    ∷ own print  -- 25
+    ∷ makes (λ b a x. blanksToZeros (b / 6) (x .width) (x .value))  -- 26 blanks to zeros
+    ∷ computes (λ b a x. orRefuse (toBinary 10 (b / 6) (x .value)) NotADigit)  -- 27 decimal to binary: 6
+    ∷ computes (λ b a x. orRefuse (toBinary 8 (b / 6) (x .value)) NotADigit)  -- 28 octal to binary: 6
+    ∷ makes (λ b a x. fromBinary 10 (b / 6) (x .value))  -- 29 binary to decimal
+    ∷ makes (λ b a x. fromBinary 8 (b / 6) (x .value))  -- 30 binary to octal
+    ∷ makes (λ b a x. zerosToBlanks (b / 6) (x .value))  -- 31 zeros to blanks
+    ∷ own saveContents  -- 32
+    ∷ own restoreContents  -- 33
+    ∷ own saveDefinition  -- 34
+    ∷ own restoreDefinition  -- 35
+    ∷ own do-line  -- 36
     ∷ []
+
+-- no operation has any other code
+unfoldable pub operationOf : ℕ → Operation
+operationOf code = getD operations (code - 1) (own (λ b g. passed (quietly (g .engine .state))))
+
+unfoldable pub meaningOf : Operation → Meaning
+meaningOf (own m) = m
+meaningOf (computes f) = computing f
 
 -- the meaning of a code
 unfoldable pub meaning : ℕ → Meaning
-meaning code = getD meanings (code - 1) (λ b g. passed (quietly (g .engine .state)))
+meaning code = meaningOf (operationOf code)

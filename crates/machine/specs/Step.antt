@@ -19,6 +19,7 @@ use Rattle.machine.specs.Answer.{Checked, refused, passed, _>>=_, _>>_, 
 use Rattle.machine.specs.State.{testsOf, operationAt, exitOf, theEnd, noSetUp, isFinished, isSetUp, movedTo, withCalls, onCore}
 use Rattle.machine.specs.Storage.{noReport, placed}
 use Rattle.machine.specs.Sound.{Lent, Engine, sound}
+use Rattle.machine.specs.Locate.{world}
 use Rattle.machine.specs.Test.{satisfied}
 use Rattle.machine.specs.Effects.{Effects, quietly, storageAfter}
 use Rattle.machine.specs.Operations.{Given, asked, meaning}
@@ -41,7 +42,7 @@ testsStep b l e = do
   let line = e .state .core .place .line
   let row = rowAt (l .table) line
   need (usable 1 b (l .table) line) BadRow
-  holds ← satisfied b (l .table) e (row .code) (rows (l .table)) (firstTest row)
+  holds ← satisfied b (l .table) (world e) (row .code) (rows (l .table)) (firstTest row)
   passed (goingTo (cond holds (operationOrExit (firstOperation row) line) (nextLine (row .next))) e)
 
 -- set-up happens once (13) and precedes every other operation (12)
@@ -142,6 +143,10 @@ step b choose l e =
 -- a choice of an admissible address: of each list of runs that is not empty, one of them
 abbrev pub Choice : (List ℕ → ℕ) → Type 0
 Choice choose = (r : ℕ) (rs : List ℕ) → List·Memᴰ (choose (r ∷ rs)) (r ∷ rs)
+
+-- the lowest of the admissible addresses
+unfoldable pub lowest : List ℕ → ℕ
+lowest runs = getD runs 0 0
 
 -- this step answers as demand 2 has it: as some admissible address gives
 pub record Answers (b : ℕ) (l : Lent) (e : Engine) (o : Outcome) : Type 0 where

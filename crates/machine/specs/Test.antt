@@ -10,8 +10,7 @@ use Rattle.table.specs.Row.{rowAt}
 use Rattle.table.specs.Table.{usable}
 use Rattle.machine.specs.declared.Refusal.the-variants.{BadRow}
 use Rattle.machine.specs.Answer.{Checked, passed, _>>=_, _>>_, need}
-use Rattle.machine.specs.Sound.{Engine}
-use Rattle.machine.specs.Locate.{world, operand}
+use Rattle.machine.specs.Locate.{World, operand}
 
 -- the seven tests, in the order of their codes, on c and cd
 unfoldable pub comparisons : ℕ → List (ℕ → ℕ → Bool)
@@ -36,16 +35,25 @@ settling mode = cond (eqb mode 2) true (eqb mode 3)
 unfoldable pub settledAs : ℕ → Bool
 settledAs mode = cond (eqb mode 2) true (eqb mode 4)
 
--- whether a line of this mode is satisfied, by its tests from row r on; each test its 2, then its operands.
--- A chain's rows ascend, so the row count bounds its tests
-unfoldable pub satisfied : ℕ → List ℕ → Engine → ℕ → ℕ → ℕ → Checked Bool
-satisfied b table e mode zero r = passed (not (settledAs mode))
-satisfied b table e mode (suc count) r =
+-- a test that is made: whether it holds, and the row of the next one
+pub record Made : Type 0 where
+  pub holds : Bool
+  pub next : ℕ
+
+-- the test in row r: its 2, then its operands
+unfoldable pub testing : ℕ → List ℕ → World → ℕ → Checked Made
+testing b table w r = do
+  let row = rowAt table r
+  need (usable 2 b table r) BadRow
+  c ← operand b w (row .first)
+  cd ← operand b w (row .second)
+  passed (record { holds = compared b (row .code) (c .value) (cd .value); next = row .next })
+
+-- whether a line of this mode is satisfied, by its tests from row r on. A chain's rows ascend, so the row count bounds its tests
+unfoldable pub satisfied : ℕ → List ℕ → World → ℕ → ℕ → ℕ → Checked Bool
+satisfied b table w mode zero r = passed (not (settledAs mode))
+satisfied b table w mode (suc count) r =
     cond (eqb r 0) (passed (not (settledAs mode)))
     (do
-      need (usable 2 b table r) BadRow
-      c ← operand b (world e) (rowAt table r .first)
-      cd ← operand b (world e) (rowAt table r .second)
-      cond (Bool·beq (compared b (rowAt table r .code) (c .value) (cd .value)) (settling mode))
-          (passed (settledAs mode))
-          (satisfied b table e mode count (rowAt table r .next)))
+      t ← testing b table w r
+      cond (Bool·beq (t .holds) (settling mode)) (passed (settledAs mode)) (satisfied b table w mode count (t .next)))

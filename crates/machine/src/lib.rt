@@ -80,23 +80,10 @@ pub struct State {
     pub map: [u8; 4096],
 }
 
-// What references read of the core: bugs, field definitions and the set-up's numbers.
-pub struct Environment {
-    pub bugs: [u64; 26],
-    pub definitions: [Definition; 36],
-    pub setup: block::SetUp,
-}
-
 // Where a reference leads: a bug, or bits left to right of the word at an address.
 pub enum Location {
     Bug(table::BugLetter),
     Field(u64, u8, u8),
-}
-
-// Where the links of a reference lead, or why one of them is refused.
-pub enum Linked {
-    At(Location),
-    Stopped(Refusal),
 }
 
 // A store into storage, all zero where there is none.

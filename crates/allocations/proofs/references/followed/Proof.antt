@@ -1,25 +1,52 @@
--- `allocations::references::followed` meets its contract. Where a reference leads can be read. Assumes nothing.
+-- `allocations::references::followed` meets its contract. What references rely on: the tests just made. Assumes nothing.
+use native.Mathlib.Omega.{arith}
 use mathlib.Core.Path.{_≡_, sym, _∙_}
-use mathlib.Core.Bool.{true}
-use Rattle.table.specs.declared.Pair.{Pair}
-use Rattle.table.specs.Reference.{isReference}
-use Rattle.machine.specs.declared.Location.{Location}
-use Rattle.machine.specs.declared.Linked.{Linked}
-use Rattle.machine.specs.declared.Linked.the-variants.{At}
-use Rattle.machine.specs.Locate.{World, locate, linked, Readable, Reached}
-use Rattle.engine.proofs.Follows.{at-passed}
-use Rattle.engine.proofs.Readable.{locate-reached}
+use mathlib.Core.Bool.{true, _||_}
+use mathlib.Core.Logic.{inl}
+use borrow.Author.Tests.{not-false}
+use Rattle.operands.proofs.Readable.{numbers, locate-reached}
+use Rattle.operands.proofs.Operands.{at-is}
+use Rattle.allocations.proofs.Readable.{tested-readable}
 use borrow.Author.Needs.{needs}
 use Rattle.allocations.proofs.references.followed.Statement.{statement}
 use Rattle.allocations.proofs.references.followed.Tie as tie
 
--- a location that is answered can be read
-leads-reached : (w : World) (p : Pair) (answer : Linked) (at : Location) → Readable 36 w → isReference (p .value) ≡ true
-    → answer ≡ linked (locate 36 w p) → answer ≡ At at → Reached 36 (w .names) (w .storage) at
-leads-reached w p answer at h is leads to = locate-reached 36 w h p is at (at-passed (locate 36 w p) at (sym to ∙ leads))
+cast-fits : tie.Need-cast-fits
+cast-fits c = search needs
+
+cast-fits-2 : tie.Need-cast-fits-2
+cast-fits-2 c = search needs
+
+cast-fits-3 : tie.Need-cast-fits-3
+cast-fits-3 c = search needs
+
+fits-requires : tie.Need-fits-requires
+fits-requires c κs = search needs
+
+returns : tie.Need-returns
+returns c = search needs
+
+keeps-section-requires : tie.Need-keeps-section-requires
+keeps-section-requires c κs = search needs
+
+returns-2 : tie.Need-returns-2
+returns-2 c = search needs
+
+are-words-requires : tie.Need-are-words-requires
+are-words-requires c κs = search needs
+
+returns-3 : tie.Need-returns-3
+returns-3 c = search needs
+
+is-reference-requires : tie.Need-is-reference-requires
+is-reference-requires c κs = search needs
+
+returns-4 : tie.Need-returns-4
+returns-4 c = search needs
 
 locate-requires : tie.Need-locate-requires
-locate-requires c κs = search needs
+locate-requires c κs =
+    (tested-readable _ _ _ _ _ (sym (c .before .before .before .before .before .before .before .before .fits2 .ensures) ∙ not-false _ (c .before .before .before .before .before .before .before .if1 .left)) (sym (c .before .before .before .before .before .before .keeps-section .ensures) ∙ not-false _ (c .before .before .before .before .before .if2 .left)) (c .before .before .before .before .before .before .before .before .before .before .before .before .before .before .pre) (sym (c .before .before .before .are-words .ensures) ∙ not-false _ (c .before .before .if3 .left)), sym (c .before .is-reference .ensures) ∙ not-false _ (c .if4 .left))
 
 enum-known-why : tie.Need-enum-known-why
 enum-known-why c = search needs
@@ -35,23 +62,32 @@ folded-requires c κs = search needs
 
 contents-requires : tie.Need-contents-requires
 contents-requires c κs =
-    let located = c .before .before .before .before in
-    let start = located .before .before .before in
-    (search needs, leads-reached _ _ _ _ (start .pre .0) (start .pre .1) (located .locate .ensures) (c .before .before .at .given .1))
+    (omega arith, locate-reached _ _ (tested-readable _ _ _ _ _ (sym (c .before .before .before .before .before .before .before .before .before .before .before .before .before .fits2 .ensures) ∙ not-false _ (c .before .before .before .before .before .before .before .before .before .before .before .before .if1 .left)) (sym (c .before .before .before .before .before .before .before .before .before .before .before .keeps-section .ensures) ∙ not-false _ (c .before .before .before .before .before .before .before .before .before .before .if2 .left)) (c .before .before .before .before .before .before .before .before .before .before .before .before .before .before .before .before .before .before .before .pre) (sym (c .before .before .before .before .before .before .before .before .are-words .ensures) ∙ not-false _ (c .before .before .before .before .before .before .before .if3 .left))) _ (sym (c .before .before .before .before .before .before .is-reference .ensures) ∙ not-false _ (c .before .before .before .before .before .if4 .left)) _ (at-is _ (c .before .before .before .before .locate .ensures) (c .before .before .at .given .1)))
 
 fold-requires : tie.Need-fold-requires
 fold-requires c κs = search needs
 
-returns : tie.Need-returns
-returns c = search needs
+returns-5 : tie.Need-returns-5
+returns-5 c = search needs
 
-returns-2 : tie.Need-returns-2
-returns-2 c = search needs
+returns-6 : tie.Need-returns-6
+returns-6 c = search needs
 
 pub followed-spec : {M : Type 1} → statement M
 followed-spec =
     tie.close
     (tie.spec
+    cast-fits
+    cast-fits-2
+    cast-fits-3
+    fits-requires
+    returns
+    keeps-section-requires
+    returns-2
+    are-words-requires
+    returns-3
+    is-reference-requires
+    returns-4
     locate-requires
     enum-known-why
     refused-requires
@@ -59,5 +95,5 @@ followed-spec =
     folded-requires
     contents-requires
     fold-requires
-    returns
-    returns-2)
+    returns-5
+    returns-6)

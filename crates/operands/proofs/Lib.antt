@@ -1,0 +1,8 @@
+-- What code on references and stores rests on.
+pub mod Follows
+pub mod Links
+pub mod Operands
+pub mod Readable
+pub mod Storing
+pub mod Through
+pub mod Reported

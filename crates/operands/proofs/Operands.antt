@@ -1,0 +1,111 @@
+-- Operands and answers taken apart. Assumes nothing.
+use Prim.Native.Nat.{ℕ, _^_, _≤_, _<_}
+use Rattle.word.specs.Field.{width}
+use Rattle.table.specs.declared.BugLetter.{BugLetter}
+use native.Mathlib.Omega.{arith}
+use mathlib.Core.Bool.{true, false}
+use mathlib.Core.List.{List}
+use mathlib.Core.Path.{_≡_, refl, sym, ap, subst, _∙_}
+use borrow.Author.Tests.{eq-eqb, ne-eqb, eqb-true, eqb-false, lt-ltb, ltb-true}
+use lib.Dec.{eqb, ltb}
+use lib.Pow.{pow-pos}
+use Rattle.word.proofs.Field.{field-word, width-le}
+use Rattle.table.specs.declared.Pair.{Pair}
+use Rattle.machine.specs.declared.Location.{Location}
+use Rattle.machine.specs.declared.Location.the-variants.{Bug, Field}
+use Rattle.operands.specs.declared.Linked.{Linked}
+use Rattle.operands.specs.declared.Linked.the-variants as link
+use Rattle.machine.specs.declared.Refusal.{Refusal}
+use Rattle.machine.specs.Answer.{Checked, refused, passed, _>>=_}
+use Rattle.machine.specs.Locate.{World, Value, contents, widthOf, contentsOf, read, locate, operand}
+use Rattle.machine.specs.Sound.{every}
+use Rattle.machine.proofs.Checks.{bind-passed, passed-same}
+use Rattle.machine.proofs.Every.{every-getD}
+use Rattle.operands.proofs.Readable.{locate-reached}
+use Rattle.operands.proofs.Follows.{at-passed}
+use Rattle.operands.specs.declared.Got.{Got}
+use Rattle.operands.specs.declared.Got.the-variants as taken
+use Rattle.operands.specs.Reading.{linked, got, Readable, Reached, Narrow, Taken, valued}
+
+-- an answer of locate, by its case
+pub at-is : (k : Checked Location) {answer : Linked} {x : Location} → answer ≡ linked k → answer ≡ link.At x → k ≡ passed x
+at-is k {answer} {x} is to = at-passed k x (sym to ∙ is)
+
+pub stopped-is : (k : Checked Location) {answer : Linked} {r : Refusal} → answer ≡ linked k → answer ≡ link.Stopped r → k ≡ refused r
+unfolding linked
+stopped-is (passed y) is to = let never : _≡_ {A = ℕ} 0 1 = cc in absurd (omega arith)
+stopped-is (refused q) {r = r} is to = let same : r ≡ q = cc in ap refused (sym same)
+
+-- an answer of operand, by its case
+pub value-is : (k : Checked Value) {answer : Got} {v n : ℕ} → answer ≡ got k → answer ≡ taken.Value v n → k ≡ passed (valued v n)
+unfolding got
+value-is (passed y) {v = v} {n = n} is to =
+    let same : v ≡ y .value = cc in
+    let wide : n ≡ y .width = cc in
+    rw (same, wide)
+value-is (refused q) is to = let never : _≡_ {A = ℕ} 0 1 = cc in absurd (omega arith)
+
+pub no-value-is : (k : Checked Value) {answer : Got} {r : Refusal} → answer ≡ got k → answer ≡ taken.Stopped r → k ≡ refused r
+unfolding got
+no-value-is (passed y) is to = let never : _≡_ {A = ℕ} 0 1 = cc in absurd (omega arith)
+no-value-is (refused q) {r = r} is to = let same : r ≡ q = cc in ap refused (sym same)
+
+-- a location that can be read is narrow
+pub reached-narrow : (b s1 : ℕ) (storage : List ℕ) (at : Location) → b ≤ 48 → Reached b s1 storage at → Narrow at
+unfolding Narrow Reached
+reached-narrow b s1 storage (Bug x) h r = tt
+reached-narrow b s1 storage (Field address left right) h r = omega (arith, r .0)
+
+-- the bits of a location, by its case
+pub bug-width : {b : ℕ} {at : Location} {x : BugLetter} → at ≡ Bug x → b ≡ widthOf b at
+unfolding widthOf
+bug-width e = rw e
+
+pub field-width : (b : ℕ) {address left right : ℕ} {at : Location} → at ≡ Field address left right → width left right ≡ widthOf b at
+unfolding widthOf
+field-width b e = rw e
+
+pub field-narrow : {address left right : ℕ} {at : Location} → at ≡ Field address left right → Narrow at → right < 64
+unfolding Narrow
+field-narrow e h = subst Narrow e h
+
+-- an operand by its form
+module _ (b : ℕ) (w : World) (p : Pair) where
+  pub literal : p .form ≡ 1 → taken.Value (p .value) b ≡ got (operand b w p)
+  unfolding operand got
+  literal f = rw (eq-eqb _ _ f)
+
+  pub found : (p .form ≡ 1 → ⊥) → (at : Location) → locate b w p ≡ passed at → {v n : ℕ} → v ≡ contents b w at → n ≡ widthOf b at
+      → taken.Value v n ≡ got (operand b w p)
+  unfolding operand got read _>>=_
+  found f at k {v} {n} same wide = rw (ne-eqb _ _ f, k, same, wide)
+
+  pub not-found : (p .form ≡ 1 → ⊥) → (r : Refusal) → locate b w p ≡ refused r → taken.Stopped r ≡ got (operand b w p)
+  unfolding operand got _>>=_
+  not-found f r k = rw (ne-eqb _ _ f, k)
+
+-- what stands at a location is below 2 ^ b, and no wider than b bits
+module _ (b : ℕ) (w : World) (h : Readable b w) where
+  pub contents-small : (at : Location) → Reached b (w .setup .s1) (w .storage) at → contents b w at < 2 ^ b
+  unfolding contentsOf Reached
+  contents-small (Bug x) r = ltb-true _ _ (every-getD (λ n. ltb n (2 ^ b)) (x .0) (w .bugs) 0 (h .bugs) (lt-ltb 0 (2 ^ b) (pow-pos b)))
+  contents-small (Field address left right) r = field-word b left right _ (r .0)
+
+  pub width-small : (at : Location) → Reached b (w .setup .s1) (w .storage) at → widthOf b at ≤ b
+  unfolding widthOf Reached
+  width-small (Bug x) r = omega arith
+  width-small (Field address left right) r = width-le b left right (r .0)
+
+  pub operand-small : (p : Pair) → Taken b p → (x : Value) → operand b w p ≡ passed x → (x .value < 2 ^ b) × (x .width ≤ b)
+  unfolding operand read
+  operand-small p t x k =
+      elim (eqb (p .form) 1) as (λ s. eqb (p .form) 1 ≡ s → (x .value < 2 ^ b) × (x .width ≤ b)) [
+        | true ↦ λ e.
+            let same : passed (valued (p .value) b) ≡ passed x = rw e at k in
+            subst (λ (v : Value). (v .value < 2 ^ b) × (v .width ≤ b)) (passed-same same) (t .literal (eqb-true _ _ e), omega arith)
+        | false ↦ λ e.
+            let leads : (locate b w p >>= λ at. passed (read b w at)) ≡ passed x = rw e at k in
+            let (at, k₁, k₂) = bind-passed _ _ leads in
+            let r = locate-reached b w h p (t .reference (eqb-false _ _ e)) at k₁ in
+            subst (λ (v : Value). (v .value < 2 ^ b) × (v .width ≤ b)) (passed-same k₂) (contents-small at r, width-small at r)
+      ] refl

@@ -1,0 +1,36 @@
+-- `operands::references::word_delivered` meets its contract: before the block, in it, or after it. Assumes nothing.
+use native.Mathlib.Omega.{arith}
+use mathlib.Core.Logic.{inl, inr}
+use mathlib.Core.Path.{_∙_}
+use Rattle.operands.proofs.Through.{word-inside, word-outside}
+use borrow.Author.Needs.{needs}
+use Rattle.operands.proofs.references.word_delivered.Statement.{statement}
+use Rattle.operands.proofs.references.word_delivered.Tie as tie
+
+word-at-requires : tie.Need-word-at-requires
+word-at-requires c κs = search needs
+
+returns : tie.Need-returns
+returns c = c .word-at .ensures ∙ word-outside _ _ _ _ (c .before .before .before .pre .0) (c .before .before .before .pre .1) _ (inl (c .before .if1 .taken)) (c .before .before .before .pre .2)
+
+returns-2 : tie.Need-returns-2
+returns-2 c = word-inside _ _ _ _ (c .before .before .before .pre .0) (c .before .before .before .pre .1) _ (c .before .if1 .left) (c .if2 .taken)
+
+word-at-requires-2 : tie.Need-word-at-requires-2
+word-at-requires-2 c κs = search needs
+
+returns-3 : tie.Need-returns-3
+returns-3 c =
+    let past = c .before .if2 .left in
+    let above = c .before .before .if1 .left in
+    c .word-at2 .ensures ∙ word-outside _ _ _ _ (c .before .before .before .before .pre .0) (c .before .before .before .before .pre .1) _ (inr (omega arith)) (c .before .before .before .before .pre .2)
+
+pub word-delivered-spec : {M : Type 1} → statement M
+word-delivered-spec =
+    tie.close
+    (tie.spec
+    word-at-requires
+    returns
+    returns-2
+    word-at-requires-2
+    returns-3)

@@ -1,0 +1,4 @@
+-- What lent slices show of an engine, what code that reads and stores there relies on, and answers as it gives them.
+pub mod Reading
+pub mod Storing
+pub mod Through

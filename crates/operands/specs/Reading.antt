@@ -1,0 +1,74 @@
+-- What code that follows references is lent, relies on and answers. Assumes nothing.
+use Prim.Native.Nat.{ℕ, _+_, _%_, _^_, _≤_, _<_}
+use mathlib.Core.Path.{_≡_}
+use mathlib.Core.Bool.{true, _||_}
+use mathlib.Core.List.{List}
+use lib.Dec.{ltb}
+use lib.ListN.{length}
+use Rattle.block.specs.declared.SetUp.{SetUp}
+use Rattle.block.specs.Blocks.{size}
+use Rattle.block.specs.SetUp.{top, words, fitting, absent}
+use Rattle.block.specs.Map.{keeps}
+use Rattle.table.specs.declared.Pair.{Pair}
+use Rattle.table.specs.Reference.{isReference}
+use Rattle.machine.specs.declared.Definition.{Definition}
+use Rattle.machine.specs.declared.Location.{Location}
+use Rattle.machine.specs.declared.Location.the-variants.{Bug, Field}
+use Rattle.machine.specs.Answer.{Checked, refused, passed}
+use Rattle.machine.specs.Sound.{every, isDefinition}
+use Rattle.machine.specs.Locate.{World, Value}
+use Rattle.operands.specs.declared.Linked.{Linked}
+use Rattle.operands.specs.declared.Linked.the-variants as links
+use Rattle.operands.specs.declared.Got.{Got}
+use Rattle.operands.specs.declared.Got.the-variants as gets
+
+-- what lent slices show
+abbrev pub seen : List ℕ → List Definition → SetUp → List ℕ → List ℕ → World
+seen bugs definitions setup map storage =
+    record { bugs = bugs; definitions = definitions; setup = setup; map = map; storage = storage }
+
+-- what is relied on, and a sound engine has: set-up numbers that fit or are absent, and so in range, a map that keeps its section, a storage that has the set-up
+-- words, definitions in range, bugs below 2 ^ b
+pub record Readable (b : ℕ) (w : World) : Type 0 where
+  pub width : b ≤ 48
+  pub numbers : (fitting (length (w .storage)) (w .setup) || absent (w .setup)) ≡ true
+  pub first : w .setup .s1 ≤ 32767
+  pub last : w .setup .s2 ≤ 32767
+  pub whole : words (w .setup) % size (top (w .setup .d)) ≡ 0
+  pub kept : keeps (w .setup) (w .map) ≡ true
+  pub room : words (w .setup) ≤ length (w .storage)
+  pub definitions : every (isDefinition b) (w .definitions) ≡ true
+  pub bugs : every (λ x. ltb x (2 ^ b)) (w .bugs) ≡ true
+
+-- a location that can be read: one of the bugs, or bits inside a word of the storage, whose first word is at address s1
+unfoldable pub Reached : ℕ → ℕ → List ℕ → Location → Type 0
+Reached b s1 storage (Bug x) = x .0 < 26
+Reached b s1 storage (Field address left right) = (right < b) × (s1 ≤ address) × (address < s1 + length storage)
+
+-- a location that is one of the bugs, or none
+unfoldable pub Bugs : Location → Type 0
+Bugs (Bug x) = x .0 < 26
+Bugs (Field address left right) = Unit {0}
+
+-- a location whose bits have places below 64
+unfoldable pub Narrow : Location → Type 0
+Narrow (Bug x) = Unit {0}
+Narrow (Field address left right) = right < 64
+
+-- an operand that is used: a literal below 2 ^ b, or a reference
+pub record Taken (b : ℕ) (p : Pair) : Type 0 where
+  pub literal : p .form ≡ 1 → p .value < 2 ^ b
+  pub reference : (p .form ≡ 1 → ⊥) → isReference (p .value) ≡ true
+
+-- a value that code has in hand
+abbrev pub valued : ℕ → ℕ → Value
+valued v n = record { value = v; width = n }
+
+-- answers as the code gives them
+unfoldable pub linked : Checked Location → Linked
+linked (refused r) = links.Stopped r
+linked (passed at) = links.At at
+
+unfoldable pub got : Checked Value → Got
+got (refused r) = gets.Stopped r
+got (passed x) = gets.Value (x .value) (x .width)

@@ -1,0 +1,41 @@
+-- What references read once something pending is carried out. Assumes nothing.
+use Prim.Native.Nat.{ℕ, _-_, _≤_}
+use mathlib.Core.Path.{_≡_}
+use mathlib.Core.Bool.{true}
+use mathlib.Core.List.{List, List·Memᴰ}
+use lib.ListN.{length, replicate}
+use Rattle.block.specs.Blocks.{size, level}
+use Rattle.block.specs.SetUp.{top, fitting, runs}
+use Rattle.block.specs.Map.{live, deliveredMap}
+use Rattle.machine.specs.declared.Location.{Location}
+use Rattle.machine.specs.Storage.{placed}
+use Rattle.machine.specs.Locate.{World}
+use Rattle.operands.specs.declared.Pending.{Pending}
+use Rattle.operands.specs.declared.Pending.the-variants.{Nothing, Delivery}
+use Rattle.operands.specs.Reading.{Reached}
+use Rattle.operands.specs.Storing.{wordsStored}
+
+-- a block's words are zero and the block is live, and its address is stored at a location; the bugs are lent as they then are
+unfoldable pub through : ℕ → Pending → World → World
+through b Nothing w = w
+through b (Delivery address n at) w =
+    record {
+      bugs = w .bugs;
+      definitions = w .definitions;
+      setup = w .setup;
+      map = deliveredMap (level (top (w .setup .d)) n) address (w .setup) (w .map);
+      storage = wordsStored b (w .setup .s1) at address (placed (address - w .setup .s1) (replicate n 0) (w .storage));
+    }
+
+-- a delivery that can be carried out: an aligned run of one of the sizes outside the live blocks, and a location that can be reached
+pub record Deliverable (b : ℕ) (w : World) (address n : ℕ) (at : Location) : Type 0 where
+  pub fits : fitting (length (w .storage)) (w .setup) ≡ true
+  pub place : ℕ
+  pub low : place ≤ top (w .setup .d)
+  pub isSize : n ≡ size place
+  pub isRun : List·Memᴰ address (runs n (w .setup) (live (w .setup) (w .map)))
+  pub reached : Reached b (w .setup .s1) (w .storage) at
+
+unfoldable pub Ahead : ℕ → World → Pending → Type 0
+Ahead b w Nothing = Unit {0}
+Ahead b w (Delivery address n at) = Deliverable b w address n at
