@@ -1,0 +1,5 @@
+-- The laws that the proofs of the functions cite.
+pub mod Answers
+pub mod Doing
+pub mod Made
+pub mod Stacks

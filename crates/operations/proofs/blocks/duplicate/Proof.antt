@@ -1,0 +1,49 @@
+-- `operations::blocks::duplicate` meets its contract: 15, 17. Assumes nothing.
+use native.Mathlib.Omega.{arith}
+use Rattle.block.proofs.Size.{top-le}
+use Rattle.operations.proofs.Answers.{does, stops}
+use Rattle.operations.proofs.Doing.{level-fits, copy-none, copy-run, copy-no-run}
+use borrow.Author.Needs.{needs}
+use Rattle.operations.proofs.blocks.duplicate.Statement.{statement}
+use Rattle.operations.proofs.blocks.duplicate.Tie as tie
+
+live-size-requires : tie.Need-live-size-requires
+live-size-requires c κs = (c .before .pre .0, c .before .pre .1)
+
+returns : tie.Need-returns
+returns c = stops _ (copy-none _ _ _ _ (c .before .live-size .ensures) (c .if1 .taken))
+
+top-of-requires : tie.Need-top-of-requires
+top-of-requires c κs = search needs
+
+level-of-requires : tie.Need-level-of-requires
+level-of-requires c κs = omega (arith, c .top-of .ensures, top-le (c .before .before .before .before .args .setup .d))
+
+fetch-requires : tie.Need-fetch-requires
+fetch-requires c κs = (c .before .before .before .before .before .pre .0, c .before .before .before .before .before .pre .1, level-fits _ _ (c .before .top-of .ensures) (c .level-of .ensures))
+
+enum-known-run : tie.Need-enum-known-run
+enum-known-run c = search needs
+
+enum-known-run-2 : tie.Need-enum-known-run-2
+enum-known-run-2 c = search needs
+
+returns-2 : tie.Need-returns-2
+returns-2 c = does _ (copy-run _ _ _ _ (c .before .before .before .before .before .before .before .live-size .ensures) (c .before .before .before .before .before .before .if1 .left) (c .before .before .before .before .before .top-of .ensures) (c .before .before .before .before .level-of .ensures) (c .before .before .before .fetch .ensures) (c .before .run .given .1))
+
+returns-3 : tie.Need-returns-3
+returns-3 c = stops _ (copy-no-run _ _ _ _ (c .before .before .before .before .before .before .before .live-size .ensures) (c .before .before .before .before .before .before .if1 .left) (c .before .before .before .before .before .top-of .ensures) (c .before .before .before .before .level-of .ensures) (c .before .before .before .fetch .ensures) (c .before .run2 .given .1))
+
+pub duplicate-spec : {M : Type 1} → statement M
+duplicate-spec =
+    tie.close
+    (tie.spec
+    live-size-requires
+    returns
+    top-of-requires
+    level-of-requires
+    fetch-requires
+    enum-known-run
+    enum-known-run-2
+    returns-2
+    returns-3)

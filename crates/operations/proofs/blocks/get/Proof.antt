@@ -1,0 +1,57 @@
+-- `operations::blocks::get` meets its contract: 8, 17, and then the delivery. Assumes nothing.
+use native.Mathlib.Omega.{arith}
+use Rattle.block.proofs.Size.{top-le}
+use Rattle.operations.proofs.Answers.{stops, follows}
+use Rattle.operations.proofs.Doing.{level-fits, get-none, get-large, get-run, get-no-run, run-deliverable}
+use borrow.Author.Needs.{needs}
+use Rattle.operations.proofs.blocks.get.Statement.{statement}
+use Rattle.operations.proofs.blocks.get.Tie as tie
+
+returns : tie.Need-returns
+returns c = stops _ (get-none _ _ _ _ _ (c .if1 .taken))
+
+cast-if2 : tie.Need-cast-if2
+cast-if2 c = search needs
+
+returns-2 : tie.Need-returns-2
+returns-2 c = stops _ (get-large _ _ _ _ _ (c .before .before .if1 .left) (c .if2 .taken))
+
+top-of-requires : tie.Need-top-of-requires
+top-of-requires c κs = search needs
+
+level-of-requires : tie.Need-level-of-requires
+level-of-requires c κs = omega (arith, c .top-of .ensures, top-le (c .before .before .before .before .before .before .args .setup .d))
+
+fetch-requires : tie.Need-fetch-requires
+fetch-requires c κs = (c .before .before .before .before .before .before .before .pre .0 .whole, c .before .before .before .before .before .before .before .pre .0 .kept, level-fits _ _ (c .before .top-of .ensures) (c .level-of .ensures))
+
+enum-known-run : tie.Need-enum-known-run
+enum-known-run c = search needs
+
+deliver-requires : tie.Need-deliver-requires
+deliver-requires c κs = (c .before .before .before .before .before .before .before .before .before .before .before .pre .0, run-deliverable _ _ _ (c .before .before .before .before .before .before .before .before .before .before .before .pre .0) (c .before .before .before .before .before .before .before .before .before .before .before .pre .1) _ (level-fits _ _ (c .before .before .before .before .before .top-of .ensures) (c .before .before .before .before .level-of .ensures)) (c .before .before .before .fetch .ensures) (c .before .run .given .1), c .before .before .before .before .before .before .before .before .before .before .before .pre .2)
+
+enum-known-run-2 : tie.Need-enum-known-run-2
+enum-known-run-2 c = search needs
+
+returns-3 : tie.Need-returns-3
+returns-3 c = follows _ (get-run _ _ _ _ _ (c .before .before .before .before .before .before .before .before .before .if1 .left) (c .before .before .before .before .before .before .before .if2 .left) (c .before .before .before .before .before .before .top-of .ensures) (c .before .before .before .before .before .level-of .ensures) (c .before .before .before .before .fetch .ensures) (c .before .before .run .given .1)) (c .deliver .ensures)
+
+returns-4 : tie.Need-returns-4
+returns-4 c = stops _ (get-no-run _ _ _ _ _ (c .before .before .before .before .before .before .before .before .if1 .left) (c .before .before .before .before .before .before .if2 .left) (c .before .before .before .before .before .top-of .ensures) (c .before .before .before .before .level-of .ensures) (c .before .before .before .fetch .ensures) (c .before .run2 .given .1))
+
+pub get-spec : {M : Type 1} → statement M
+get-spec =
+    tie.close
+    (tie.spec
+    returns
+    cast-if2
+    returns-2
+    top-of-requires
+    level-of-requires
+    fetch-requires
+    enum-known-run
+    deliver-requires
+    enum-known-run-2
+    returns-3
+    returns-4)

@@ -1,0 +1,55 @@
+-- `operations::values::arithmetic` meets its contract: each arm by what its leaf ensures. Assumes nothing.
+use native.Mathlib.Omega.{arith}
+use mathlib.Core.Path.{_≡_, refl}
+use Rattle.machine.specs.Operations.{operations, operationOf, makes, quotient}
+use Rattle.operations.specs.Plans.{valueOf, valueBy}
+use Rattle.operations.proofs.Made.{made, answered}
+use borrow.Author.Needs.{needs}
+use Rattle.operations.proofs.values.arithmetic.Statement.{statement}
+use Rattle.operations.proofs.values.arithmetic.Tie as tie
+
+add-requires : tie.Need-add-requires
+add-requires c κs = search needs
+
+subtract-requires : tie.Need-subtract-requires
+subtract-requires c κs = search needs
+
+multiply-requires : tie.Need-multiply-requires
+multiply-requires c κs = search needs
+
+divided-requires : tie.Need-divided-requires
+divided-requires c κs = search needs
+
+returns : tie.Need-returns
+unfolding valueBy valueOf operationOf operations makes
+returns c = made _ _ _ (c .match .keys1) refl refl
+
+returns-2 : tie.Need-returns-2
+unfolding valueBy valueOf operationOf operations makes
+returns-2 c = made _ _ _ (c .before .match .keys2) (c .add .ensures) refl
+
+returns-3 : tie.Need-returns-3
+unfolding valueBy valueOf operationOf operations makes
+returns-3 c = made _ _ _ (c .before .match .keys3) (c .subtract .ensures) refl
+
+returns-4 : tie.Need-returns-4
+unfolding valueBy valueOf operationOf operations makes
+returns-4 c = made _ _ _ (c .before .match .keys4) (c .multiply .ensures) refl
+
+returns-5 : tie.Need-returns-5
+unfolding valueBy valueOf operationOf operations makes quotient
+returns-5 c = let last : c .before .before .args .code ≡ 11 = omega (arith, c .before .before .pre .1, c .before .before .pre .2, c .before .before .pre .3, c .before .match .rest) in answered _ _ _ last (c .divided .ensures)
+
+pub arithmetic-spec : {M : Type 1} → statement M
+arithmetic-spec =
+    tie.close
+    (tie.spec
+    add-requires
+    subtract-requires
+    multiply-requires
+    divided-requires
+    returns
+    returns-2
+    returns-3
+    returns-4
+    returns-5)

@@ -1,0 +1,5 @@
+-- What an operation sees, what each plans, and the effects that an action stands for.
+pub mod Seen
+pub mod Plans
+pub mod Effects
+pub mod Answers

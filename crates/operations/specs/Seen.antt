@@ -1,0 +1,52 @@
+-- What a plan sees of an engine and of what is lent. Assumes nothing.
+use Prim.Native.Nat.{ℕ, _+_, _≤_}
+use mathlib.Core.List.{List}
+use lib.ListN.{length}
+use Rattle.block.specs.declared.SetUp.{SetUp}
+use Rattle.machine.specs.declared.Definition.{Definition}
+use Rattle.machine.specs.declared.Core.{Core}
+use Rattle.machine.specs.Sound.{Lent, Engine}
+use Rattle.machine.specs.Locate.{World, world}
+use Rattle.operands.specs.Reading.{seen, Readable}
+use Rattle.operations.specs.declared.Counts.{Counts}
+
+-- what references read, how far stacks, input and output are used, the entries of the contents stack, the input, and the output's length
+pub record Sight : Type 0 where
+  pub world : World
+  pub counts : Counts
+  pub entries : List ℕ
+  pub input : List ℕ
+  pub room : ℕ
+
+-- of lent slices
+abbrev pub sees : List ℕ → List Definition → SetUp → List ℕ → List ℕ → Counts → List ℕ → List ℕ → ℕ → Sight
+sees bugs definitions setup map storage counts entries input room =
+    record { world = seen bugs definitions setup map storage; counts = counts; entries = entries; input = input; room = room }
+
+-- of an engine
+abbrev pub countsOf : Core → Counts
+countsOf c =
+    record {
+      contents = c .contents .count;
+      saved = c .saved .count;
+      calls = c .calls .count;
+      taken = c .taken;
+      written = c .written;
+    }
+
+abbrev pub sight : Lent → Engine → Sight
+sight l e =
+    record {
+      world = world e;
+      counts = countsOf (e .state .core);
+      entries = e .state .core .contents .entries;
+      input = l .input;
+      room = length (l .output);
+    }
+
+-- what a plan relies on, and a sound engine has
+pub record Ready (b : ℕ) (s : Sight) : Type 0 where
+  pub readable : Readable b (s .world)
+  pub contents : s .counts .contents ≤ 128
+  pub taken : s .counts .taken ≤ length (s .input)
+  pub written : s .counts .written ≤ s .room

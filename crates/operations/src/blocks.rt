@@ -1,0 +1,162 @@
+// Get, free and duplicate, once their operands are taken.
+ghost use mathlib.Core.Bool.{true};
+ghost use mathlib.Core.Path.{_≡_};
+ghost use Prim.Native.Nat.{_%_, _≤_, _<_};
+ghost use Rattle.block.specs.Blocks.{size, sizeAt};
+ghost use Rattle.block.specs.SetUp.{top, words};
+ghost use Rattle.block.specs.Map.{keeps, live};
+ghost use Rattle.table.specs.Reference.{isReference};
+ghost use Rattle.machine.specs.Operations.{liesIn};
+ghost use Rattle.operands.specs.Reading.{seen, Readable, Reached};
+ghost use Rattle.operands.specs.Through.{Deliverable};
+ghost use Rattle.operations.specs.Plans.{lowestRun, delivering, getting, freeing, duplicating};
+ghost use Rattle.operations.specs.Answers.{planned, fetched};
+use crate::Action;
+use crate::Fetched;
+use crate::Planned;
+use block::SetUp;
+use buddy::Found;
+use buddy::section::live_size;
+use buddy::section::lowest_run;
+use buddy::sizes::level_of;
+use buddy::sizes::size_of;
+use buddy::sizes::top_of;
+use machine::Definition;
+use machine::Location;
+use machine::Place;
+use machine::Refusal;
+use operands::Linked;
+use operands::Pending;
+use operands::references::contents;
+use operands::references::locate_through;
+use operands::stores::bugs_after;
+use table::Pair;
+
+// The lowest aligned run of the j-th size: 17.
+fn fetch(setup: SetUp, map: &[u8], j: u8) -> Fetched
+    requires { ⌜ (words setup % size (top (setup .d)) ≡ 0) × (keeps setup (now map) ≡ true) × (j ≤ top (setup .d)) ⌝ }
+    ensures { λ r. ⌜ r ≡ fetched (size j) (lowestRun setup (now (map .entry)) (size j)) ⌝ }
+{
+    let run = lowest_run(setup, map, j);
+    match run {
+        Found::At(address) => Fetched::Run(address as u64, size_of(j) as u64),
+        Found::Nothing => Fetched::Stopped(Refusal::NoRun),
+    }
+}
+
+// 3 get, once a run is found: a2 is located after the delivery.
+fn deliver(
+    b: u64,
+    to: Place,
+    bugs: &[u64; 26],
+    definitions: [Definition; 36],
+    setup: SetUp,
+    map: &[u8],
+    storage: &[u64],
+    third: Pair,
+    at: Location,
+    address: u64,
+    n: u64,
+) -> Planned
+    requires { ⌜ Readable b (seen (now bugs) definitions setup (now map) (now storage)) × Deliverable b (seen (now bugs) definitions setup (now map) (now storage)) address n at × ((third .form ≡ 0 → ⊥) → isReference (third .value) ≡ true) ⌝ }
+    ensures { λ r. ⌜ r ≡ planned to (delivering b (seen (now (bugs .entry)) definitions setup (now (map .entry)) (now (storage .entry))) third at address n) ⌝ }
+{
+    if third.form == 0 {
+        return Planned::Does(to, Action::Deliver(address, n, 0, at));
+    }
+    let old = contents(b, bugs, setup.s1, storage, at);
+    let after = bugs_after(b, bugs, at, address);
+    let pending = Pending::Delivery(address, n, at);
+    let found = locate_through(b, &after, definitions, setup, map, storage, pending, third);
+    match found {
+        Linked::At(a2) => Planned::Does(to, Action::DeliverTwo(address, n, at, a2, old)),
+        Linked::Stopped(r) => Planned::Stopped(r),
+    }
+}
+
+// 3 get, once a is located and the size taken: 8, 17, a2.
+pub fn get(
+    b: u64,
+    to: Place,
+    bugs: &[u64; 26],
+    definitions: [Definition; 36],
+    setup: SetUp,
+    map: &[u8],
+    storage: &[u64],
+    third: Pair,
+    at: Location,
+    wanted: u64,
+) -> Planned
+    requires { ⌜ Readable b (seen (now bugs) definitions setup (now map) (now storage)) × Reached b (setup .s1) (now storage) at × ((third .form ≡ 0 → ⊥) → isReference (third .value) ≡ true) ⌝ }
+    ensures { λ r. ⌜ r ≡ planned to (getting b (seen (now (bugs .entry)) definitions setup (now (map .entry)) (now (storage .entry))) third at wanted) ⌝ }
+{
+    if wanted == 0 {
+        return Planned::Stopped(Refusal::BlockSize);
+    }
+    if (setup.d as u64) < wanted {
+        return Planned::Stopped(Refusal::BlockSize);
+    }
+    let run = fetch(setup, map, level_of(top_of(setup.d), wanted));
+    match run {
+        Fetched::Run(address, n) => deliver(
+            b,
+            to,
+            bugs,
+            definitions,
+            setup,
+            map,
+            storage,
+            third,
+            at,
+            address,
+            n,
+        ),
+        Fetched::Stopped(r) => Planned::Stopped(r),
+    }
+}
+
+// The field to change lies in the block of n words at an address.
+fn lies_in(address: u64, n: u64, at: Location) -> bool
+    ensures { λ r. ⌜ r ≡ liesIn address n at ⌝ }
+{
+    match at {
+        Location::Bug(_) => false,
+        Location::Field(word, _, _) => {
+            if word < address {
+                return false;
+            }
+            word - address < n
+        }
+    }
+}
+
+// 4 free: 15, 18.
+pub fn free(to: Place, setup: SetUp, map: &[u8], at: Location, address: u64, v: u64) -> Planned
+    requires { ⌜ (words setup % size (top (setup .d)) ≡ 0) × (keeps setup (now map) ≡ true) ⌝ }
+    ensures { λ r. ⌜ r ≡ planned to (freeing address (sizeAt address (live setup (now (map .entry)))) at v) ⌝ }
+{
+    let n = live_size(setup, map, address);
+    if n == 0 {
+        return Planned::Stopped(Refusal::NotABlock);
+    }
+    if lies_in(address, n, at) {
+        return Planned::Stopped(Refusal::FieldFreed);
+    }
+    Planned::Does(to, Action::Free(address, at, v))
+}
+
+// 5 duplicate: 15, 17.
+pub fn duplicate(to: Place, setup: SetUp, map: &[u8], at: Location, from: u64) -> Planned
+    requires { ⌜ (words setup % size (top (setup .d)) ≡ 0) × (keeps setup (now map) ≡ true) ⌝ }
+    ensures { λ r. ⌜ r ≡ planned to (duplicating setup (now (map .entry)) at from (sizeAt from (live setup (now (map .entry))))) ⌝ }
+{
+    let n = live_size(setup, map, from);
+    if n == 0 {
+        return Planned::Stopped(Refusal::NotABlock);
+    }
+    let run = fetch(setup, map, level_of(top_of(setup.d), n));
+    match run {
+        Fetched::Run(address, m) => Planned::Does(to, Action::Deliver(address, m, from, at)),
+        Fetched::Stopped(r) => Planned::Stopped(r),
+    }
+}

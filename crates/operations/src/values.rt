@@ -1,0 +1,123 @@
+// What the operations (a, x) that compute make of a's old contents and of x, by their codes.
+ghost use mathlib.Core.Path.{_≡_};
+ghost use Prim.Native.Nat.{_^_, _≤_, _<_};
+ghost use Rattle.character.specs.Character.{toBinary};
+ghost use Rattle.machine.specs.declared.Refusal.the-variants.{NotADigit};
+ghost use Rattle.machine.specs.Operations.{quotient, orRefuse};
+ghost use Rattle.operands.specs.Reading.{valued};
+ghost use Rattle.operations.specs.Plans.{valueBy, Computes};
+ghost use Rattle.operations.specs.Answers.{computed};
+use crate::Computed;
+use character::Converted;
+use machine::Refusal;
+
+// 11 divide: 9.
+fn divided(x: u64, y: u64) -> Computed
+    ensures { λ r. ⌜ r ≡ computed (quotient 0 (valued x 0) (valued y 0)) ⌝ }
+{
+    if y == 0 {
+        return Computed::Stopped(Refusal::ZeroDivisor);
+    }
+    Computed::Made(word::arithmetic::divide(x, y))
+}
+
+// 27 decimal, 28 octal to binary: 6.
+fn binary(base: u64, n: usize, v: u64) -> Computed
+    requires { ⌜ (base ≤ 64) × (n ≤ 10) ⌝ }
+    ensures { λ r. ⌜ r ≡ computed (orRefuse (toBinary base n v) NotADigit) ⌝ }
+{
+    let c = character::to_binary(base, n, v);
+    match c {
+        Converted::Value(x) => Computed::Made(x),
+        Converted::NotADigit => Computed::Stopped(Refusal::NotADigit),
+    }
+}
+
+// 6 copy, and 8 to 11.
+fn arithmetic(b: u64, code: u64, a: u64, aw: u64, x: u64, xw: u64) -> Computed
+    requires { ⌜ (b ≤ 48) × (6 ≤ code) × (code ≤ 11) × (code ≡ 7 → ⊥) × (x < 2 ^ b) ⌝ }
+    ensures { λ r. ⌜ r ≡ computed (valueBy code b (valued a aw) (valued x xw)) ⌝ }
+{
+    match code {
+        6 => Computed::Made(x),
+        8 => Computed::Made(word::arithmetic::add(b, a, x)),
+        9 => Computed::Made(word::arithmetic::subtract(b, a, x)),
+        10 => Computed::Made(word::arithmetic::multiply(b, a, x)),
+        _ => divided(a, x),
+    }
+}
+
+// 12 to 15.
+fn logic(b: u64, code: u64, a: u64, aw: u64, x: u64, xw: u64) -> Computed
+    requires { ⌜ (b ≤ 48) × (12 ≤ code) × (code ≤ 15) × (x < 2 ^ b) ⌝ }
+    ensures { λ r. ⌜ r ≡ computed (valueBy code b (valued a aw) (valued x xw)) ⌝ }
+{
+    match code {
+        12 => Computed::Made(word::logic::or(b, a, x)),
+        13 => Computed::Made(word::logic::and(b, a, x)),
+        14 => Computed::Made(word::logic::exclusive_or(b, a, x)),
+        _ => Computed::Made(word::logic::complement(b, x)),
+    }
+}
+
+// 16 to 21.
+fn bits(b: u64, code: u64, a: u64, aw: u64, x: u64, xw: u64) -> Computed
+    requires { ⌜ (16 ≤ code) × (code ≤ 21) × (xw ≤ 48) ⌝ }
+    ensures { λ r. ⌜ r ≡ computed (valueBy code b (valued a aw) (valued x xw)) ⌝ }
+{
+    match code {
+        16 => Computed::Made(word::count::count_ones(xw, x)),
+        17 => Computed::Made(word::count::count_zeros(xw, x)),
+        18 => Computed::Made(word::count::leftmost_one(xw, x)),
+        19 => Computed::Made(word::count::rightmost_one(xw, x)),
+        20 => Computed::Made(word::count::leftmost_zero(xw, x)),
+        _ => Computed::Made(word::count::rightmost_zero(xw, x)),
+    }
+}
+
+// 22 and 23.
+fn shifts(b: u64, code: u64, a: u64, aw: u64, x: u64, xw: u64) -> Computed
+    requires { ⌜ (22 ≤ code) × (code ≤ 23) × (aw ≤ 48) ⌝ }
+    ensures { λ r. ⌜ r ≡ computed (valueBy code b (valued a aw) (valued x xw)) ⌝ }
+{
+    match code {
+        22 => Computed::Made(word::shifts::left_shift(aw, a, x)),
+        _ => Computed::Made(word::shifts::right_shift(aw, a, x)),
+    }
+}
+
+// 26 to 31.
+fn conversions(b: u64, code: u64, a: u64, aw: u64, x: u64, xw: u64) -> Computed
+    requires { ⌜ (b ≤ 48) × (26 ≤ code) × (code ≤ 31) × (x < 2 ^ b) × (xw ≤ b) ⌝ }
+    ensures { λ r. ⌜ r ≡ computed (valueBy code b (valued a aw) (valued x xw)) ⌝ }
+{
+    let n = (b / 6) as usize;
+    match code {
+        26 => Computed::Made(character::blanks_to_zeros(n, xw as usize, x)),
+        27 => binary(10, n, x),
+        28 => binary(8, n, x),
+        29 => Computed::Made(character::from_binary_decimal(n, x)),
+        30 => Computed::Made(character::from_binary_octal(n, x)),
+        _ => Computed::Made(character::zeros_to_blanks(n, x)),
+    }
+}
+
+// The value, by the code.
+pub fn compute(b: u64, code: u64, a: u64, aw: u64, x: u64, xw: u64) -> Computed
+    requires { ⌜ (b ≤ 48) × (x < 2 ^ b) × (aw ≤ b) × (xw ≤ b) × Computes code ⌝ }
+    ensures { λ r. ⌜ r ≡ computed (valueBy code b (valued a aw) (valued x xw)) ⌝ }
+{
+    if code < 12 {
+        return arithmetic(b, code, a, aw, x, xw);
+    }
+    if code < 16 {
+        return logic(b, code, a, aw, x, xw);
+    }
+    if code < 22 {
+        return bits(b, code, a, aw, x, xw);
+    }
+    if code < 24 {
+        return shifts(b, code, a, aw, x, xw);
+    }
+    conversions(b, code, a, aw, x, xw)
+}
