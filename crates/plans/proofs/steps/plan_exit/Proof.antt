@@ -1,0 +1,58 @@
+-- `plans::steps::plan_exit` meets its contract: 2, then DONE, the go-to, or the next line. Assumes nothing.
+use mathlib.Core.Path.{_∙_, sym}
+use borrow.Author.Tests.{not-true, not-false}
+use Rattle.machine.proofs.Checks.{need-no}
+use Rattle.plans.specs.Steps.{exitPlan}
+use Rattle.plans.proofs.Answers.{goes, halts}
+use Rattle.plans.proofs.Going.{next-few, goes-few}
+use Rattle.plans.proofs.Rows.{used}
+use Rattle.plans.proofs.Stepping.{exit-empty, exit-returns, exit-next, exit-goes}
+use borrow.Author.Needs.{needs}
+use Rattle.plans.proofs.steps.plan_exit.Statement.{statement}
+use Rattle.plans.proofs.steps.plan_exit.Tie as tie
+
+can-use-requires : tie.Need-can-use-requires
+can-use-requires c κs = c .before .pre .1
+
+returns : tie.Need-returns
+unfolding exitPlan
+returns c = halts (need-no _ _ _ (sym (c .before .can-use .ensures) ∙ not-true _ (c .if1 .taken)))
+
+row-at-requires : tie.Need-row-at-requires
+row-at-requires c κs = used 1 _ _ _ (sym (c .before .can-use .ensures) ∙ not-false _ (c .if1 .left)) .room
+
+returns-2 : tie.Need-returns-2
+returns-2 c = halts (exit-empty _ _ _ _ (sym (c .before .before .before .before .before .can-use .ensures) ∙ not-false _ (c .before .before .before .before .if1 .left)) (c .before .before .before .row-at .ensures) (c .before .if2 .taken) (c .if3 .taken))
+
+next-line-requires : tie.Need-next-line-requires
+next-line-requires c κs = search needs
+
+returns-3 : tie.Need-returns-3
+returns-3 c = goes (exit-returns _ _ _ _ (sym (c .before .before .before .before .before .before .can-use .ensures) ∙ not-false _ (c .before .before .before .before .before .if1 .left)) (c .before .before .before .before .row-at .ensures) (c .before .before .if2 .taken) (c .before .if3 .left) (c .next-line .ensures))
+
+next-line-requires-2 : tie.Need-next-line-requires-2
+next-line-requires-2 c κs = next-few _ _ _ (c .before .before .before .before .before .before .before .pre .0) (c .before .before .before .row-at .ensures) 1 (sym (c .before .before .before .before .before .can-use .ensures) ∙ not-false _ (c .before .before .before .before .if1 .left))
+
+returns-4 : tie.Need-returns-4
+returns-4 c = goes (exit-next _ _ _ _ (sym (c .before .before .before .before .before .before .can-use .ensures) ∙ not-false _ (c .before .before .before .before .before .if1 .left)) (c .before .before .before .before .row-at .ensures) (c .before .before .if2 .left) (c .before .if4 .taken) (c .next-line2 .ensures))
+
+tests-of-requires : tie.Need-tests-of-requires
+tests-of-requires c κs = goes-few _ _ _ (c .before .before .before .before .before .before .before .pre .0) (c .before .before .before .row-at .ensures) (sym (c .before .before .before .before .before .can-use .ensures) ∙ not-false _ (c .before .before .before .before .if1 .left)) (c .before .if2 .left)
+
+returns-5 : tie.Need-returns-5
+returns-5 c = goes (exit-goes _ _ _ _ (sym (c .before .before .before .before .before .before .can-use .ensures) ∙ not-false _ (c .before .before .before .before .before .if1 .left)) (c .before .before .before .before .row-at .ensures) (c .before .before .if2 .left) (c .before .if4 .left) (c .tests-of .ensures))
+
+pub plan-exit-spec : {M : Type 1} → statement M
+plan-exit-spec =
+    tie.close
+    (tie.spec
+    can-use-requires
+    returns
+    row-at-requires
+    returns-2
+    next-line-requires
+    returns-3
+    next-line-requires-2
+    returns-4
+    tests-of-requires
+    returns-5)

@@ -1,0 +1,37 @@
+-- `plans::tests::can_use` meets its contract: a row is judged, or its kind tells. Assumes nothing.
+use native.Mathlib.Omega.{arith}
+use borrow.Author.Tests.{not-false}
+use Rattle.table.proofs.Formed.{missing-low, missing-high}
+use Rattle.plans.proofs.Judged.{kind-tells}
+use borrow.Author.Needs.{needs}
+use Rattle.plans.proofs.tests.can_use.Statement.{statement}
+use Rattle.plans.proofs.tests.can_use.Tie as tie
+
+is-usable-requires : tie.Need-is-usable-requires
+is-usable-requires c κs = search needs
+
+returns : tie.Need-returns
+returns c = c .is-usable .ensures
+
+returns-2 : tie.Need-returns-2
+returns-2 c = missing-low _ _ _ _ (c .if2 .taken)
+
+returns-3 : tie.Need-returns-3
+returns-3 c = missing-high _ _ _ _ (c .before .if2 .left) (c .if3 .taken)
+
+row-at-requires : tie.Need-row-at-requires
+row-at-requires c κs = search needs
+
+returns-4 : tie.Need-returns-4
+returns-4 c = kind-tells _ _ _ _ (c .before .before .before .before .before .before .pre (not-false _ (c .before .before .before .before .if1 .left))) (c .before .before .before .if2 .left) (c .before .before .if3 .left) (c .before .row-at .ensures)
+
+pub can-use-spec : {M : Type 1} → statement M
+can-use-spec =
+    tie.close
+    (tie.spec
+    is-usable-requires
+    returns
+    returns-2
+    returns-3
+    row-at-requires
+    returns-4)

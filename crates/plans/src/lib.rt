@@ -1,0 +1,18 @@
+// The plan of a step at its place: what it does, or why it is refused.
+mod places;
+pub mod steps;
+mod tests;
+
+use machine::Refusal;
+
+// Whether a test holds and the row of the next one, or why it is refused.
+pub enum Tested {
+    Outcome(bool, u64),
+    Stopped(Refusal),
+}
+
+// Whether a line is satisfied, or why that is not told.
+pub enum Settled {
+    Holds(bool),
+    Stopped(Refusal),
+}

@@ -1,0 +1,136 @@
+// The tests of a line, one after the other, up to the first that settles it.
+ghost use mathlib.Core.Bool.{true};
+ghost use mathlib.Core.Path.{_≡_};
+ghost use Prim.Native.Nat.{_≤_, _<_};
+ghost use Rattle.table.specs.declared.TableCheck.the-variants.{Lowest};
+ghost use Rattle.table.specs.Row.{rows};
+ghost use Rattle.table.specs.Table.{usable, checked};
+ghost use Rattle.machine.specs.Test.{compared as comparedBy, settling as settlingOf, settledAs, testing, satisfied as satisfiedBy};
+ghost use Rattle.operands.specs.Reading.{seen, Readable};
+ghost use Rattle.plans.specs.Answers.{tested, settled};
+use crate::Settled;
+use crate::Tested;
+use block::SetUp;
+use machine::Definition;
+use machine::Refusal;
+use operands::Got;
+use operands::references::operand;
+use table::check::is_usable;
+use table::rows::row_at;
+
+// Row r can be used as this kind. Where the whole table is judged well-formed, its kind alone tells.
+pub fn can_use(kind: u64, b: u64, table: &[u64], r: usize, judged: bool) -> bool
+    requires { ⌜ (judged ≡ true → checked b (now table) ≡ Lowest 0) ⌝ }
+    ensures { λ x. ⌜ x ≡ usable kind b (now (table .entry)) r ⌝ }
+{
+    if !judged {
+        return is_usable(kind, b, table, r);
+    }
+    if r < 1 {
+        return false;
+    }
+    if table.len() / 10 <= r {
+        return false;
+    }
+    let row = row_at(table, r);
+    row.kind == kind
+}
+
+// The outcome of a test that settles a line of this mode.
+fn settling(mode: u64) -> bool
+    ensures { λ r. ⌜ r ≡ settlingOf mode ⌝ }
+{
+    (mode == 2) | (mode == 3)
+}
+
+// Whether a line that is settled so is satisfied.
+fn settled_as(mode: u64) -> bool
+    ensures { λ r. ⌜ r ≡ settledAs mode ⌝ }
+{
+    (mode == 2) | (mode == 4)
+}
+
+// The seven tests.
+fn compared(b: u64, code: u64, c: u64, cd: u64) -> bool
+    requires { ⌜ (b < 64) × (1 ≤ code) × (code ≤ 7) ⌝ }
+    ensures { λ r. ⌜ r ≡ comparedBy b code c cd ⌝ }
+{
+    match code {
+        1 => c == cd,
+        2 => c != cd,
+        3 => cd < c,
+        4 => c < cd,
+        5 => c == cd,
+        6 => word::logic::and(b, c, cd) == cd,
+        _ => word::logic::and(b, c, cd) == 0,
+    }
+}
+
+// The test in a row: its 2, then its operands.
+fn test_at(
+    b: u64,
+    bugs: &[u64; 26],
+    definitions: [Definition; 36],
+    setup: SetUp,
+    map: &[u8],
+    storage: &[u64],
+    table: &[u64],
+    judged: bool,
+    r: u64,
+) -> Tested
+    requires { ⌜ Readable b (seen (now bugs) definitions setup (now map) (now storage)) × (judged ≡ true → checked b (now table) ≡ Lowest 0) ⌝ }
+    ensures { λ x. ⌜ x ≡ tested (testing b (now (table .entry)) (seen (now (bugs .entry)) definitions setup (now (map .entry)) (now (storage .entry))) r) ⌝ }
+{
+    let i = r as usize;
+    if !can_use(2, b, table, i, judged) {
+        return Tested::Stopped(Refusal::BadRow);
+    }
+    let row = row_at(table, i);
+    let first = row.first;
+    let second = row.second;
+    let x = operand(b, bugs, definitions, setup, map, storage, first);
+    let c = match x {
+        Got::Value(v, _) => v,
+        Got::Stopped(q) => return Tested::Stopped(q),
+    };
+    let y = operand(b, bugs, definitions, setup, map, storage, second);
+    match y {
+        Got::Value(cd, _) => Tested::Outcome(compared(b, row.code, c, cd), row.next),
+        Got::Stopped(q) => Tested::Stopped(q),
+    }
+}
+
+// Whether a line is satisfied: its tests from a row on, left at the first that settles it.
+pub fn satisfied(
+    b: u64,
+    bugs: &[u64; 26],
+    definitions: [Definition; 36],
+    setup: SetUp,
+    map: &[u8],
+    storage: &[u64],
+    table: &[u64],
+    judged: bool,
+    mode: u64,
+    first: u64,
+) -> Settled
+    requires { ⌜ Readable b (seen (now bugs) definitions setup (now map) (now storage)) × (judged ≡ true → checked b (now table) ≡ Lowest 0) × (1 ≤ rows (now table)) ⌝ }
+    ensures { λ x. ⌜ x ≡ settled (satisfiedBy b (now (table .entry)) (seen (now (bugs .entry)) definitions setup (now (map .entry)) (now (storage .entry))) mode (rows (now (table .entry))) first) ⌝ }
+{
+    let mut r = first;
+    let outcome = loop {
+        if r == 0 {
+            break Settled::Holds(!settled_as(mode));
+        }
+        let answer = test_at(b, bugs, definitions, setup, map, storage, table, judged, r);
+        match answer {
+            Tested::Outcome(holds, next) => {
+                if holds == settling(mode) {
+                    break Settled::Holds(settled_as(mode));
+                }
+                r = next;
+            }
+            Tested::Stopped(q) => break Settled::Stopped(q),
+        }
+    };
+    outcome
+}
