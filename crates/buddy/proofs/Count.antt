@@ -2,7 +2,8 @@
 use mathlib.Core.Path.{_≡_, refl, sym}
 use mathlib.Core.Bool.{true, false, _&&_}
 use mathlib.Core.List.{List}
-use Prim.Native.Nat.{ℕ, _+_, _-_, _*_, _/_}
+use Prim.Native.Nat.{ℕ, _+_, _-_, _*_, _/_, _%_}
+use native.Mathlib.Nat.{div-add-mod'}
 use native.Mathlib.Omega.{arith}
 use lib.ListN.{length, drop, replicate}
 use Rattle.block.specs.declared.SetUp.{SetUp}
@@ -29,3 +30,7 @@ module _ (u : SetUp) (k n w : ℕ) (ek : k ≡ top (u .d)) (en : n ≡ size k) (
   count-keeps m long =
       let rest : length m - w / n * n ≡ length m - w = omega arith in
       rw rest (rw (en, ew, ek) (sym (keeps-whole u m)))
+
+  -- where the largest size divides the words, they fill them
+  pub count-fill : words u % size (top (u .d)) ≡ 0 → w / n * size k ≡ words u
+  count-fill whole = rw (en, ew, ek) (omega (arith, div-add-mod' (words u) (size (top (u .d)))))

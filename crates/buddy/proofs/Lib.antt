@@ -15,3 +15,4 @@ pub mod Address
 pub mod Count
 pub mod Delivered
 pub mod Judged
+pub mod FreeTrees

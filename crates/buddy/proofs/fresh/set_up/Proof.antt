@@ -1,0 +1,51 @@
+-- `buddy::fresh::set_up` meets its contract: zeros, and then free blocks of the largest size. Assumes nothing.
+use native.Mathlib.Omega.{arith}
+use Rattle.block.proofs.Size.{size-pos}
+use Rattle.block.proofs.Size.{top-le}
+use Rattle.buddy.proofs.Count.{count-fill}
+use Rattle.buddy.proofs.FreeTrees.{zeros-long, zeros-again, trees-fresh}
+use borrow.Author.Needs.{needs}
+use Rattle.buddy.proofs.fresh.set_up.Statement.{statement}
+use Rattle.buddy.proofs.fresh.set_up.Tie as tie
+
+top-of-requires : tie.Need-top-of-requires
+top-of-requires c κs = search needs
+
+words-of-requires : tie.Need-words-of-requires
+words-of-requires c κs = search needs
+
+size-of-requires : tie.Need-size-of-requires
+size-of-requires c κs = omega (arith, c .before .top-of .ensures, top-le (c .before .before .before .args .setup .d))
+
+div-count : tie.Need-div-count
+div-count c = omega (arith, c .size-of .ensures, size-pos (c .before .before .top-of .result))
+
+zero-all-requires : tie.Need-zero-all-requires
+zero-all-requires c κs = search needs
+
+free-trees-requires : tie.Need-free-trees-requires
+free-trees-requires c κs =
+    let u = c .before .before .before .before .before .before .before .before .before .args .setup in
+    let m = c .before .before .before .before .before .before .before .before .before .args .map .now in
+    let fill = count-fill u (c .before .before .before .before .before .before .before .top-of .result) (c .before .before .before .before .before .size-of .result) (c .before .before .before .before .before .before .words-of .result) (c .before .before .before .before .before .before .before .top-of .ensures) (c .before .before .before .before .before .size-of .ensures) (c .before .before .before .before .before .before .words-of .ensures) (c .before .before .before .before .before .before .before .before .before .pre .0) in
+    (omega (arith, c .before .before .before .before .before .before .before .top-of .ensures, top-le (u .d)), omega (arith, fill, zeros-long m (c .before .before .before .zero-all .ensures)), zeros-again m (c .before .before .before .zero-all .ensures))
+
+same-length : tie.Need-same-length
+same-length c = search needs
+
+returns : tie.Need-returns
+returns c =
+    trees-fresh (c .before .before .before .before .before .before .before .before .before .before .before .before .args .map .now) (c .before .before .before .before .before .before .zero-all .ensures) (c .before .before .before .before .before .before .before .before .before .before .before .before .args .setup) (c .before .before .before .before .before .before .before .before .before .before .top-of .result) (c .before .before .before .before .before .before .before .before .size-of .result) (c .before .before .before .before .before .before .before .before .before .words-of .result) (c .before .before .before .before .before .before .before .before .before .before .top-of .ensures) (c .before .before .before .before .before .before .before .before .size-of .ensures) (c .before .before .before .before .before .before .before .before .before .words-of .ensures) (c .before .before .before .before .before .before .before .before .before .before .before .before .pre .0) (c .before .before .free-trees .ensures)
+
+pub set-up-spec : {M : Type 1} → statement M
+set-up-spec =
+    tie.close
+    (tie.spec
+    top-of-requires
+    words-of-requires
+    size-of-requires
+    div-count
+    zero-all-requires
+    free-trees-requires
+    same-length
+    returns)

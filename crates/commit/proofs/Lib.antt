@@ -1,0 +1,6 @@
+-- The laws that the proofs of the functions cite.
+pub mod Engines
+pub mod Pasted
+pub mod Delivering
+pub mod Carrying
+pub mod Turning

@@ -1,0 +1,20 @@
+-- `commit::core::tests_of` meets its contract. Assumes nothing.
+use mathlib.Core.Path.{refl}
+use Rattle.machine.specs.State.{testsOf}
+use borrow.Author.Needs.{needs}
+use Rattle.commit.proofs.core.tests_of.Statement.{statement}
+use Rattle.commit.proofs.core.tests_of.Tie as tie
+
+cast-t2 : tie.Need-cast-t2
+cast-t2 c = search needs
+
+returns : tie.Need-returns
+unfolding testsOf
+returns c = refl
+
+pub tests-of-spec : {M : Type 1} → statement M
+tests-of-spec =
+    tie.close
+    (tie.spec
+    cast-t2
+    returns)

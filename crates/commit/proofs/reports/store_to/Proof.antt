@@ -1,0 +1,63 @@
+-- `commit::reports::store_to` meets its contract: by the location and the field's width. Assumes nothing.
+use native.Mathlib.Omega.{arith}
+use Rattle.commit.proofs.Turning.{to-bug, to-null, to-field, field-short}
+use borrow.Author.Needs.{needs}
+use Rattle.commit.proofs.reports.store_to.Statement.{statement}
+use Rattle.commit.proofs.reports.store_to.Tie as tie
+
+enum-told : tie.Need-enum-told
+enum-told c = search needs
+
+no-store-requires : tie.Need-no-store-requires
+no-store-requires c κs = search needs
+
+enum-known-at : tie.Need-enum-known-at
+enum-known-at c = search needs
+
+cast-width : tie.Need-cast-width
+cast-width c = search needs
+
+cast-width-2 : tie.Need-cast-width-2
+cast-width-2 c = search needs
+
+width-requires : tie.Need-width-requires
+width-requires c κs = omega (arith, field-short 0 (c .before .at .given .1) (c .before .before .before .pre))
+
+no-store-requires-2 : tie.Need-no-store-requires-2
+no-store-requires-2 c κs = search needs
+
+returns : tie.Need-returns
+returns c = to-null _ (c .before .before .before .before .at .given .1) (c .before .before .width .ensures) (c .before .if1 .taken) (c .no-store2 .ensures)
+
+cast-kept-bits : tie.Need-cast-kept-bits
+cast-kept-bits c = search needs
+
+cast-kept-bits-2 : tie.Need-cast-kept-bits-2
+cast-kept-bits-2 c = search needs
+
+kept-bits-requires : tie.Need-kept-bits-requires
+kept-bits-requires c κs = field-short 0 (c .before .before .before .at .given .1) (c .before .before .before .before .before .pre)
+
+returns-2 : tie.Need-returns-2
+returns-2 c = to-bug _ (c .before .enum-told .given .1) (c .no-store .ensures)
+
+returns-3 : tie.Need-returns-3
+returns-3 c = to-field _ (c .before .before .before .before .at .given .1) (c .before .before .width .ensures) (c .before .if1 .left) (c .kept-bits .ensures)
+
+pub store-to-spec : {M : Type 1} → statement M
+store-to-spec =
+    tie.close
+    (tie.spec
+    enum-told
+    no-store-requires
+    enum-known-at
+    cast-width
+    cast-width-2
+    width-requires
+    no-store-requires-2
+    returns
+    cast-kept-bits
+    cast-kept-bits-2
+    kept-bits-requires
+    returns-2
+    returns-3)

@@ -1,0 +1,107 @@
+// An action carried out in place on lent slices.
+ghost use mathlib.Core.Bool.{true};
+ghost use mathlib.Core.Logic.{_⊎_};
+ghost use mathlib.Core.Path.{_≡_};
+ghost use Prim.Native.Nat.{ℕ, _+_, _%_, _≤_};
+ghost use lib.ListN.{length};
+ghost use Rattle.block.specs.Blocks.{size, level};
+ghost use Rattle.block.specs.SetUp.{top, words};
+ghost use Rattle.block.specs.Map.{keeps, deliveredMap};
+ghost use Rattle.commit.specs.Carried.{bugsAfter, entriesAfter, mapAfter, wordsAfter, outputAfter, zeroed, copied};
+ghost use Rattle.commit.specs.Feasible.{ground, groundOf, Run, Copy, Feasible};
+use crate::words::copy_words;
+use crate::words::zero_words;
+use block::SetUp;
+use buddy::fresh::set_up;
+use buddy::section::deliver;
+use buddy::section::free_block;
+use buddy::section::words_of;
+use buddy::sizes::level_of;
+use buddy::sizes::top_of;
+use character::print_into;
+use operands::stores::store;
+use operations::Action;
+use operations::Counts;
+
+// The words of a delivered block: zero, and then those of the block that it copies, if there is one.
+fn fill(s1: u16, storage: &mut [u64], address: u64, n: u64, from: u64)
+    requires { ⌜ (s1 ≤ address) × (address + n ≤ s1 + length (now storage)) × ((from ≡ 0 → ⊥) → (s1 ≤ from) × (from + n ≤ s1 + length (now storage)) × ((from + n ≤ address) ⊎ (address + n ≤ from))) ⌝ }
+    ensures { λ _. ⌜ now (storage .exit) ≡ copied s1 address n from (zeroed s1 address n (now (storage .entry))) ⌝ }
+{
+    let first = s1 as u64;
+    let to = (address - first) as usize;
+    zero_words(&mut *storage, to, n as usize);
+    if from != 0 {
+        copy_words(storage, to, (from - first) as usize, n as usize);
+    }
+}
+
+// A delivery: the run is live, and its words are filled.
+fn take_run(setup: SetUp, map: &mut [u8], storage: &mut [u64], address: u64, n: u64, from: u64)
+    requires { ⌜ (words setup % size (top (setup .d)) ≡ 0) × (keeps setup (now map) ≡ true) × Run (groundOf setup (now map) (now storage)) address n × ((from ≡ 0 → ⊥) → Copy (groundOf setup (now map) (now storage)) address n from) ⌝ }
+    ensures { λ _. ⌜ (now (map .exit) ≡ deliveredMap (level (top (setup .d)) n) address setup (now (map .entry))) × (now (storage .exit) ≡ copied (setup .s1) address n from (zeroed (setup .s1) address n (now (storage .entry)))) ⌝ }
+{
+    let j = level_of(top_of(setup.d), n);
+    deliver(setup, map, j, address as usize);
+    fill(setup.s1, storage, address, n, from);
+}
+
+// An action: what becomes of the bugs, the entries of the contents stack, the map, the storage and the output.
+pub fn carry_out(
+    b: u64,
+    setup: SetUp,
+    counts: Counts,
+    bugs: &mut [u64; 26],
+    entries: &mut [u64; 128],
+    map: &mut [u8],
+    storage: &mut [u64],
+    output: &mut [u8],
+    action: Action,
+)
+    requires { ⌜ (b ≤ 48) × (words setup % size (top (setup .d)) ≡ 0) × (keeps setup (now map) ≡ true) × ((given : ℕ) × Feasible b (ground setup (now map) (now storage) counts given (length (now output))) action) ⌝ }
+    ensures { λ _. ⌜ (now (bugs .exit) ≡ bugsAfter b action (now (bugs .entry))) × (now (entries .exit) ≡ entriesAfter (counts .contents) action (now (entries .entry))) × (now (map .exit) ≡ mapAfter setup action (now (map .entry))) × (now (storage .exit) ≡ wordsAfter b (setup .s1) action (now (storage .entry))) × (now (output .exit) ≡ outputAfter (counts .written) action (now (output .entry))) ⌝ }
+{
+    match action {
+        Action::Nothing => {}
+        Action::Store(at, v) => store(b, bugs, setup.s1, storage, at, v),
+        Action::StoreTwo(a, v, c, x) => {
+            store(b, &mut *bugs, setup.s1, &mut *storage, a, v);
+            store(b, bugs, setup.s1, storage, c, x);
+        }
+        Action::SetUpWords(u) => {
+            set_up(u, map);
+            zero_words(storage, 0, words_of(u));
+        }
+        Action::Define(_, _) => {}
+        Action::Deliver(address, n, from, a) => {
+            take_run(setup, map, &mut *storage, address, n, from);
+            store(b, bugs, setup.s1, storage, a, address);
+        }
+        Action::DeliverTwo(address, n, a, a2, v) => {
+            take_run(setup, map, &mut *storage, address, n, 0);
+            store(b, &mut *bugs, setup.s1, &mut *storage, a, address);
+            store(b, bugs, setup.s1, storage, a2, v);
+        }
+        Action::Free(address, at, v) => {
+            free_block(setup, map, address as usize);
+            store(b, bugs, setup.s1, storage, at, v);
+        }
+        Action::Input(at, v, _) => store(b, bugs, setup.s1, storage, at, v),
+        Action::Print(n, width, v) => print_into(
+            output,
+            counts.written,
+            n as usize,
+            width as usize,
+            v,
+        ),
+        Action::Save(v) => {
+            let top = counts.contents;
+            entries[top] = v;
+        }
+        Action::Restore(at, v) => store(b, bugs, setup.s1, storage, at, v),
+        Action::SaveDefinition(_) => {}
+        Action::RestoreDefinition(_) => {}
+        Action::Call(_) => {}
+        Action::Return => {}
+    }
+}

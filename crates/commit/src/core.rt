@@ -1,0 +1,216 @@
+// What a commit makes of set-up numbers, counts, place and records.
+ghost use mathlib.Core.Path.{_≡_};
+ghost use Prim.Native.Nat.{_+_, _-_, _≤_, _<_};
+ghost use lib.ListN.{getD, set};
+ghost use Rattle.machine.specs.State.{undefined, testsOf, theEnd};
+ghost use Rattle.commit.specs.Carried.{recording, setupAfter, countsAfter, placeAfter, recordsAfter, isRecorded};
+ghost use Rattle.commit.specs.Feasible.{Countable};
+use crate::Records;
+use crate::Turned;
+use block::SetUp;
+use machine::Definition;
+use machine::Place;
+use operations::Action;
+use operations::Counts;
+use table::FieldName;
+
+// The set-up numbers after an action.
+pub fn setup_after(action: Action, setup: SetUp) -> SetUp
+    ensures { λ r. ⌜ r ≡ setupAfter action setup ⌝ }
+{
+    match action {
+        Action::Nothing => setup,
+        Action::Store(_, _) => setup,
+        Action::StoreTwo(_, _, _, _) => setup,
+        Action::SetUpWords(u) => u,
+        Action::Define(_, _) => setup,
+        Action::Deliver(_, _, _, _) => setup,
+        Action::DeliverTwo(_, _, _, _, _) => setup,
+        Action::Free(_, _, _) => setup,
+        Action::Input(_, _, _) => setup,
+        Action::Print(_, _, _) => setup,
+        Action::Save(_) => setup,
+        Action::Restore(_, _) => setup,
+        Action::SaveDefinition(_) => setup,
+        Action::RestoreDefinition(_) => setup,
+        Action::Call(_) => setup,
+        Action::Return => setup,
+    }
+}
+
+// The counts after an action.
+pub fn counts_after(action: Action, counts: Counts) -> Counts
+    requires { ⌜ Countable counts action ⌝ }
+    ensures { λ r. ⌜ r ≡ countsAfter action counts ⌝ }
+{
+    let mut after = counts;
+    match action {
+        Action::Nothing => {}
+        Action::Store(_, _) => {}
+        Action::StoreTwo(_, _, _, _) => {}
+        Action::SetUpWords(_) => {}
+        Action::Define(_, _) => {}
+        Action::Deliver(_, _, _, _) => {}
+        Action::DeliverTwo(_, _, _, _, _) => {}
+        Action::Free(_, _, _) => {}
+        Action::Input(_, _, n) => after.taken = counts.taken + n as usize,
+        Action::Print(n, _, _) => after.written = counts.written + n as usize,
+        Action::Save(_) => after.contents = counts.contents + 1,
+        Action::Restore(_, _) => after.contents = counts.contents - 1,
+        Action::SaveDefinition(_) => after.saved = counts.saved + 1,
+        Action::RestoreDefinition(_) => after.saved = counts.saved - 1,
+        Action::Call(_) => after.calls = counts.calls + 1,
+        Action::Return => after.calls = counts.calls - 1,
+    }
+    after
+}
+
+// Whether an action changes the records, or goes to a place by the calls.
+pub fn is_recorded(action: Action) -> bool
+    ensures { λ r. ⌜ r ≡ isRecorded action ⌝ }
+{
+    match action {
+        Action::Nothing => false,
+        Action::Store(_, _) => false,
+        Action::StoreTwo(_, _, _, _) => false,
+        Action::SetUpWords(_) => false,
+        Action::Define(_, _) => true,
+        Action::Deliver(_, _, _, _) => false,
+        Action::DeliverTwo(_, _, _, _, _) => false,
+        Action::Free(_, _, _) => false,
+        Action::Input(_, _, _) => false,
+        Action::Print(_, _, _) => false,
+        Action::Save(_) => false,
+        Action::Restore(_, _) => false,
+        Action::SaveDefinition(_) => true,
+        Action::RestoreDefinition(_) => true,
+        Action::Call(_) => true,
+        Action::Return => true,
+    }
+}
+
+// A definition made.
+fn defined(records: Records, f: FieldName, x: Definition) -> Records
+    requires { ⌜ f .0 < 36 ⌝ }
+    ensures { λ r. ⌜ r ≡ recording (set (records .definitions) (f .0) x) (records .saved) (records .calls) ⌝ }
+{
+    let i = f.0 as usize;
+    let saved = records.saved;
+    let calls = records.calls;
+    let mut definitions = records.definitions;
+    definitions[i] = x;
+    Records {
+        definitions: definitions,
+        saved: saved,
+        calls: calls,
+    }
+}
+
+// A definition saved.
+fn saved(records: Records, count: usize, f: FieldName) -> Records
+    requires { ⌜ (f .0 < 36) × (count < 128) ⌝ }
+    ensures { λ r. ⌜ r ≡ recording (records .definitions) (set (records .saved) count (getD (records .definitions) (f .0) undefined)) (records .calls) ⌝ }
+{
+    let i = f.0 as usize;
+    let definitions = records.definitions;
+    let calls = records.calls;
+    let mut saved = records.saved;
+    saved[count] = definitions[i];
+    Records {
+        definitions: definitions,
+        saved: saved,
+        calls: calls,
+    }
+}
+
+// The newest saved definition restored.
+fn restored(records: Records, count: usize, f: FieldName) -> Records
+    requires { ⌜ (f .0 < 36) × (0 < count) × (count ≤ 128) ⌝ }
+    ensures { λ r. ⌜ r ≡ recording (set (records .definitions) (f .0) (getD (records .saved) (count - 1) undefined)) (records .saved) (records .calls) ⌝ }
+{
+    let i = f.0 as usize;
+    let last = count - 1;
+    let saved = records.saved;
+    let calls = records.calls;
+    let mut definitions = records.definitions;
+    definitions[i] = saved[last];
+    Records {
+        definitions: definitions,
+        saved: saved,
+        calls: calls,
+    }
+}
+
+// A place saved by a call.
+fn called(records: Records, count: usize, to: Place) -> Records
+    requires { ⌜ count < 128 ⌝ }
+    ensures { λ r. ⌜ r ≡ recording (records .definitions) (records .saved) (set (records .calls) count to) ⌝ }
+{
+    let definitions = records.definitions;
+    let saved = records.saved;
+    let mut calls = records.calls;
+    calls[count] = to;
+    Records {
+        definitions: definitions,
+        saved: saved,
+        calls: calls,
+    }
+}
+
+// The place that the newest call saved.
+fn returned(calls: [Place; 128], count: usize) -> Place
+    requires { ⌜ (0 < count) × (count ≤ 128) ⌝ }
+    ensures { λ r. ⌜ r ≡ getD calls (count - 1) theEnd ⌝ }
+{
+    let last = count - 1;
+    calls[last]
+}
+
+// The tests of a line.
+fn tests_of(line: u64) -> Place
+    requires { ⌜ line < 65536 ⌝ }
+    ensures { λ r. ⌜ r ≡ testsOf line ⌝ }
+{
+    Place {
+        kind: 0,
+        row: 0,
+        line: line as u16,
+    }
+}
+
+fn turn(place: Place, records: Records) -> Turned
+    ensures { λ r. ⌜ (r .place ≡ place) × (r .records ≡ records) ⌝ }
+{
+    Turned {
+        place: place,
+        records: records,
+    }
+}
+
+// The place and the records after an action that goes to a place.
+pub fn turned(action: Action, to: Place, counts: Counts, records: Records) -> Turned
+    requires { ⌜ Countable counts action ⌝ }
+    ensures { λ r. ⌜ (r .place ≡ placeAfter action to (records .calls) (counts .calls)) × (r .records ≡ recordsAfter action to counts records) ⌝ }
+{
+    match action {
+        Action::Nothing => turn(to, records),
+        Action::Store(_, _) => turn(to, records),
+        Action::StoreTwo(_, _, _, _) => turn(to, records),
+        Action::SetUpWords(_) => turn(to, records),
+        Action::Define(f, x) => turn(to, defined(records, f, x)),
+        Action::Deliver(_, _, _, _) => turn(to, records),
+        Action::DeliverTwo(_, _, _, _, _) => turn(to, records),
+        Action::Free(_, _, _) => turn(to, records),
+        Action::Input(_, _, _) => turn(to, records),
+        Action::Print(_, _, _) => turn(to, records),
+        Action::Save(_) => turn(to, records),
+        Action::Restore(_, _) => turn(to, records),
+        Action::SaveDefinition(f) => turn(to, saved(records, counts.saved, f)),
+        Action::RestoreDefinition(f) => turn(to, restored(records, counts.saved, f)),
+        Action::Call(row) => turn(tests_of(row), called(records, counts.calls, to)),
+        Action::Return => {
+            let calls = records.calls;
+            turn(returned(calls, counts.calls), records)
+        }
+    }
+}

@@ -1,0 +1,21 @@
+// The commit of a step: an action carried out on lent slices. It cannot fail.
+pub mod carry;
+pub mod core;
+pub mod reports;
+pub mod words;
+
+use machine::Definition;
+use machine::Place;
+
+// The arrays of the core that no slice can lend: the definitions, and the entries of the stacks of definitions and of calls.
+pub struct Records {
+    pub definitions: [Definition; 36],
+    pub saved: [Definition; 128],
+    pub calls: [Place; 128],
+}
+
+// The place and the records after an action that changes them.
+pub struct Turned {
+    pub place: Place,
+    pub records: Records,
+}
