@@ -23,7 +23,7 @@ use Rattle.operations.specs.declared.Action.{Action}
 use Rattle.operations.specs.declared.Action.the-variants.{Nothing, Store, StoreTwo, SetUpWords, Define, Deliver, DeliverTwo, Free, Input, Print, Save, Restore, SaveDefinition, RestoreDefinition, Call, Return}
 use Rattle.commit.specs.declared.Records.{Records}
 use Rattle.commit.specs.Carried.{recording, placeAfter, recordsAfter, isRecorded}
-use Rattle.commit.specs.Feasible.{Ground, Feasible, Countable}
+use Rattle.commit.specs.Feasible.{Ground, Feasible, Countable, Counted}
 use Rattle.commit.specs.Reported.{Short, Reportable}
 use Rattle.operands.proofs.Reported.{NotNull}
 use Rattle.commit.proofs.Engines.{Sure, not-recorded}
@@ -35,18 +35,20 @@ any-place [] i d f h = absurd (omega arith)
 any-place (x ∷ xs) zero d f h = refl
 any-place (x ∷ xs) (suc i) d f h = any-place xs i d f (omega arith)
 
+-- what is taken and written stays inside input and output
+module _ {counts : Counts} {given room : ℕ} {x : Action} (k : Counted counts given room x) where
+  pub input-fits : {at : Location} {v n : ℕ} → x ≡ Input at v n → counts .taken + n ≤ given
+  input-fits e =
+      let same = ap (λ (c : Counts). c .taken) (k .countable .same) in
+      omega (arith, k .input, input-asks (k .countable .width) (k .countable .on) (k .countable .feasible) e .1)
+
+  pub print-fits : {n width v : ℕ} → x ≡ Print n width v → counts .written + n ≤ room
+  print-fits e =
+      let same = ap (λ (c : Counts). c .written) (k .countable .same) in
+      omega (arith, k .output, print-asks (k .countable .width) (k .countable .on) (k .countable .feasible) e .1)
+
 -- what the counts leave room for
 module _ {counts : Counts} {x : Action} (k : Countable counts x) where
-  pub input-fits : {at : Location} {v n : ℕ} → x ≡ Input at v n → counts .taken + n < 18446744073709551616
-  input-fits e =
-      let same = ap (λ (c : Counts). c .taken) (k .same) in
-      omega (arith, k .given, input-asks (k .width) (k .on) (k .feasible) e .1)
-
-  pub print-fits : {n width v : ℕ} → x ≡ Print n width v → counts .written + n < 18446744073709551616
-  print-fits e =
-      let same = ap (λ (c : Counts). c .written) (k .same) in
-      omega (arith, k .room, print-asks (k .width) (k .on) (k .feasible) e .1)
-
   pub save-room : {v : ℕ} → x ≡ Save v → counts .contents < 128
   save-room e = subst (λ (c : Counts). c .contents < 128) (k .same) (save-asks (k .width) (k .on) (k .feasible) e)
 

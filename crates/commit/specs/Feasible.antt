@@ -71,11 +71,15 @@ Feasible b g (RestoreDefinition f) = (f .0 < 36) × (0 < g .counts .saved) × (g
 Feasible b g (Call row) = (row < 65536) × (g .counts .calls < 128)
 Feasible b g Return = (0 < g .counts .calls) × (g .counts .calls ≤ 128)
 
--- an action that can be carried out with these counts, where the lengths of input and output fit a word of 64 bits
+-- an action that can be carried out with these counts
 pub record Countable (counts : Counts) (x : Action) : Type 0 where
   pub width : ℕ
   pub on : Ground
   pub same : on .counts ≡ counts
-  pub given : on .given < 18446744073709551616
-  pub room : on .room < 18446744073709551616
   pub feasible : Feasible width on x
+
+-- and with an input and an output of these lengths
+pub record Counted (counts : Counts) (given room : ℕ) (x : Action) : Type 0 where
+  pub countable : Countable counts x
+  pub input : countable .on .given ≡ given
+  pub output : countable .on .room ≡ room

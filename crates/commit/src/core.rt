@@ -4,7 +4,7 @@ ghost use Prim.Native.Nat.{_+_, _-_, _≤_, _<_};
 ghost use lib.ListN.{getD, set};
 ghost use Rattle.machine.specs.State.{undefined, testsOf, theEnd};
 ghost use Rattle.commit.specs.Carried.{recording, setupAfter, countsAfter, placeAfter, recordsAfter, isRecorded};
-ghost use Rattle.commit.specs.Feasible.{Countable};
+ghost use Rattle.commit.specs.Feasible.{Countable, Counted};
 use crate::Records;
 use crate::Turned;
 use block::SetUp;
@@ -38,9 +38,9 @@ pub fn setup_after(action: Action, setup: SetUp) -> SetUp
     }
 }
 
-// The counts after an action.
-pub fn counts_after(action: Action, counts: Counts) -> Counts
-    requires { ⌜ Countable counts action ⌝ }
+// The counts after an action, with an input and an output of these lengths.
+pub fn counts_after(action: Action, counts: Counts, given: usize, room: usize) -> Counts
+    requires { ⌜ Counted counts given room action ⌝ }
     ensures { λ r. ⌜ r ≡ countsAfter action counts ⌝ }
 {
     let mut after = counts;

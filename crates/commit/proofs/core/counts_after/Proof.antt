@@ -35,49 +35,49 @@ enum-known-action : tie.Need-enum-known-action
 enum-known-action c = search needs
 
 add-after : tie.Need-add-after
-add-after c = record { fits = input-fits (c .before .before .before .before .pre) (c .before .before .action .given .1) }
+add-after c = record { fits = omega (arith, input-fits (c .before .before .before .before .pre) (c .before .before .action .given .1)) }
 
 enum-known-action-2 : tie.Need-enum-known-action-2
 enum-known-action-2 c = search needs
 
 add-after-2 : tie.Need-add-after-2
-add-after-2 c = record { fits = print-fits (c .before .before .before .before .pre) (c .before .before .action2 .given .1) }
+add-after-2 c = record { fits = omega (arith, print-fits (c .before .before .before .before .pre) (c .before .before .action2 .given .1)) }
 
 enum-told-9 : tie.Need-enum-told-9
 enum-told-9 c = search needs
 
 add-after-3 : tie.Need-add-after-3
-add-after-3 c = record { fits = omega (arith, save-room (c .before .before .before .pre) (c .before .enum-told9 .given .1)) }
+add-after-3 c = record { fits = omega (arith, save-room (c .before .before .before .pre .countable) (c .before .enum-told9 .given .1)) }
 
 enum-told-10 : tie.Need-enum-told-10
 enum-told-10 c = search needs
 
 sub-after : tie.Need-sub-after
-sub-after c = omega (arith, restore-room (c .before .before .before .pre) (c .before .enum-told10 .given .1))
+sub-after c = omega (arith, restore-room (c .before .before .before .pre .countable) (c .before .enum-told10 .given .1))
 
 enum-told-11 : tie.Need-enum-told-11
 enum-told-11 c = search needs
 
 add-after-4 : tie.Need-add-after-4
-add-after-4 c = record { fits = omega (arith, save-definition-room (c .before .before .before .pre) (c .before .enum-told11 .given .1) .1) }
+add-after-4 c = record { fits = omega (arith, save-definition-room (c .before .before .before .pre .countable) (c .before .enum-told11 .given .1) .1) }
 
 enum-told-12 : tie.Need-enum-told-12
 enum-told-12 c = search needs
 
 sub-after-2 : tie.Need-sub-after-2
-sub-after-2 c = omega (arith, restore-definition-room (c .before .before .before .pre) (c .before .enum-told12 .given .1) .1)
+sub-after-2 c = omega (arith, restore-definition-room (c .before .before .before .pre .countable) (c .before .enum-told12 .given .1) .1)
 
 enum-told-13 : tie.Need-enum-told-13
 enum-told-13 c = search needs
 
 add-after-5 : tie.Need-add-after-5
-add-after-5 c = record { fits = omega (arith, call-room (c .before .before .before .pre) (c .before .enum-told13 .given .1) .1) }
+add-after-5 c = record { fits = omega (arith, call-room (c .before .before .before .pre .countable) (c .before .enum-told13 .given .1) .1) }
 
 enum-told-14 : tie.Need-enum-told-14
 enum-told-14 c = search needs
 
 sub-after-3 : tie.Need-sub-after-3
-sub-after-3 c = omega (arith, return-room (c .before .before .before .pre) (c .before .enum-told14 .given .1) .0)
+sub-after-3 c = omega (arith, return-room (c .before .before .before .pre .countable) (c .before .enum-told14 .given .1) .0)
 
 returns : tie.Need-returns
 unfolding countsAfter

@@ -1,0 +1,87 @@
+-- A walk that stops at its first step: 11, finished, 1. Assumes nothing.
+use Prim.Native.Nat.{ℕ, zero, suc, _-_, _≤_}
+use native.Mathlib.Omega.{arith}
+use mathlib.Core.Bool.{Bool, true, false}
+use mathlib.Core.List.{List, []}
+use mathlib.Core.Path.{_≡_, refl, sym, ap, _∙_}
+use borrow.Author.Tests.{eq-eqb, ne-eqb, eqb-true}
+use lib.Dec.{eqb}
+use Rattle.table.specs.declared.TableCheck.{TableCheck}
+use Rattle.table.specs.declared.TableCheck.the-variants.{Lowest, BadLength}
+use Rattle.table.specs.Row.{lengthFits}
+use Rattle.machine.specs.declared.Place.{Place}
+use Rattle.machine.specs.declared.State.{State}
+use Rattle.machine.specs.declared.Ran.{Ran}
+use Rattle.machine.specs.declared.Stepped.{Stepped}
+use Rattle.machine.specs.declared.Answer.{Answer}
+use Rattle.machine.specs.declared.Answer.the-variants.{Running, Finished, Refused}
+use Rattle.machine.specs.declared.Refusal.the-variants.{Unsound, TableLength}
+use Rattle.machine.specs.Answer.{isRunning, need, _>>_}
+use Rattle.machine.specs.State.{isFinished}
+use Rattle.machine.specs.Storage.{noReport}
+use Rattle.machine.specs.Sound.{Lent, Engine, sound}
+use Rattle.machine.specs.Step.{Outcome, RunOutcome, unchanged, outcome, plan, step, lowest, ending as ends, runFrom, run}
+use Rattle.machine.proofs.Checks.{need-no}
+use Rattle.engine.specs.declared.Walked.{Walked}
+use Rattle.engine.specs.Walking.{Walk, walks, ending, walkFrom}
+use Rattle.engine.proofs.Turns.{lends, walk-stops}
+use Rattle.engine.proofs.Now.{returning}
+use Rattle.engine.proofs.Relations.{ranOf, steppedOf, walk-run, walk-step}
+
+-- soundness bears on no table
+pub any-table : (b : ℕ) (table input output : List ℕ) (e : Engine) {t : Bool} → t ≡ sound b (lends [] input output) e → t ≡ sound b (lends table input output) e
+unfolding sound
+any-table b table input output e is = is
+
+pub finished-is : (p : Place) → p .kind ≡ 3 → isFinished p ≡ true
+unfolding isFinished
+finished-is p z = eq-eqb (p .kind) 3 z
+
+pub unfinished-is : (p : Place) → (p .kind ≡ 3 → ⊥) → isFinished p ≡ false
+unfolding isFinished
+unfinished-is p z = ne-eqb (p .kind) 3 z
+
+-- a first step that leaves all as it was
+module _ (b more : ℕ) (l : Lent) (e : Engine) where
+  stays : (answer : Answer) → isRunning answer ≡ false → step b lowest l e ≡ unchanged answer l e → {r : Walked}
+      → r ≡ record { state = e .state; answer = answer; report = noReport; count = 1 } → returning r (e .storage) (l .output) ≡ walkFrom 0 b more l e
+  unfolding unchanged ending
+  stays answer over is same = rw same (sym (walk-stops 0 b l e is over more))
+
+  pub first-unsound : sound b l e ≡ false → {r : Walked} → r ≡ record { state = e .state; answer = Refused Unsound; report = noReport; count = 1 }
+      → returning r (e .storage) (l .output) ≡ walkFrom 0 b more l e
+  unfolding step isRunning
+  first-unsound k = stays (Refused Unsound) refl (rw k)
+
+  module _ (fine : sound b l e ≡ true) where
+    pub first-finished : isFinished (e .state .core .place) ≡ true → {r : Walked} → r ≡ record { state = e .state; answer = Finished; report = noReport; count = 1 }
+        → returning r (e .storage) (l .output) ≡ walkFrom 0 b more l e
+    unfolding step isRunning
+    first-finished k = stays Finished refl (rw (fine, k))
+
+    pub first-length : isFinished (e .state .core .place) ≡ false → lengthFits (l .table) ≡ false → {r : Walked}
+        → r ≡ record { state = e .state; answer = Refused TableLength; report = noReport; count = 1 } → returning r (e .storage) (l .output) ≡ walkFrom 0 b more l e
+    unfolding step outcome plan need _>>_ isRunning
+    first-length on short = stays (Refused TableLength) refl (rw (fine, on, short))
+
+-- a table that is checked, and has no ill-formed row
+module _ {answer : TableCheck} {found : TableCheck} (is : answer ≡ found) where
+  pub judged-fine : {row : ℕ} → answer ≡ Lowest row → eqb row 0 ≡ true → found ≡ Lowest 0
+  judged-fine {row} at none = sym is ∙ at ∙ ap Lowest (let same : row ≡ 0 = eqb-true row 0 none in same)
+
+-- the public calls, by the walk
+pub steps-once : (b : ℕ) (l : Lent) (e : Engine) (storage output : List ℕ) {r : Walked} → returning r storage output ≡ walkFrom 0 b (1 - 1) l e
+    → _≡_ {A = Outcome} (record { stepped = record { state = r .state; answer = r .answer; report = r .report }; storage = storage; output = output }) (step b lowest l e)
+steps-once b l e storage output is = ap steppedOf is ∙ walk-step b l e
+
+module _ (b limit : ℕ) (l : Lent) (e : Engine) where
+  pub runs-none : limit ≡ 0 → _≡_ {A = RunOutcome} (record { ran = record { state = e .state; answer = Running; count = 0 }; storage = e .storage; output = l .output }) (run b (λ i. lowest) limit l e)
+  unfolding run runFrom ends
+  runs-none z = rw z
+
+  pub runs-some : (limit ≡ 0 → ⊥) → {storage output : List ℕ} {r : Walked} → returning r storage output ≡ walkFrom 0 b (limit - 1) l e
+      → _≡_ {A = RunOutcome} (record { ran = record { state = r .state; answer = r .answer; count = r .count }; storage = storage; output = output }) (run b (λ i. lowest) limit l e)
+  unfolding run
+  runs-some some is =
+      let more : suc (limit - 1) ≡ limit = omega arith in
+      ap ranOf is ∙ sym (walk-run 0 b (limit - 1) l e) ∙ ap (λ (n : ℕ). runFrom 0 b (λ i. lowest) n l e) more

@@ -1,0 +1,176 @@
+-- A turn of a walk by the walk's locals. Assumes nothing.
+use Prim.Native.Nat.{ℕ, _+_, _-_, _%_, _≤_, _<_}
+use native.Mathlib.Omega.{arith}
+use mathlib.Core.Bool.{Bool, true, false}
+use mathlib.Core.List.{List}
+use mathlib.Core.Path.{_≡_, refl, sym, ap, subst, _∙_}
+use borrow.Author.Tests.{eq-eqb, ne-eqb}
+use lib.Dec.{eqb}
+use lib.ListN.{length}
+use Rattle.block.specs.declared.SetUp.{SetUp}
+use Rattle.block.specs.Blocks.{size}
+use Rattle.block.specs.SetUp.{top, words}
+use Rattle.block.specs.Map.{keeps}
+use Rattle.table.specs.Row.{lengthFits}
+use Rattle.machine.specs.declared.Place.{Place}
+use Rattle.machine.specs.declared.Core.{Core}
+use Rattle.machine.specs.declared.State.{State}
+use Rattle.machine.specs.declared.Report.{Report}
+use Rattle.machine.specs.declared.Refusal.{Refusal}
+use Rattle.machine.specs.declared.Answer.{Answer}
+use Rattle.machine.specs.declared.Answer.the-variants.{Running, Finished, Refused}
+use Rattle.machine.specs.Answer.{Checked, refused, passed}
+use Rattle.machine.specs.State.{isFinished}
+use Rattle.machine.specs.Storage.{noReport}
+use Rattle.machine.specs.Sound.{Engine, sound}
+use Rattle.machine.specs.Locate.{world}
+use Rattle.operations.specs.declared.Action.{Action}
+use Rattle.operations.specs.declared.Counts.{Counts}
+use Rattle.operations.specs.declared.Planned.{Planned}
+use Rattle.operations.specs.declared.Planned.the-variants.{Does, Stopped}
+use Rattle.operations.specs.Seen.{sees, countsOf, Ready}
+use Rattle.operations.proofs.Answers.{clash}
+use Rattle.plans.specs.Steps.{Plan, stepPlan}
+use Rattle.plans.specs.Answers.{answered}
+use Rattle.plans.proofs.Ready.{ready-is}
+use Rattle.commit.specs.declared.Records.{Records}
+use Rattle.commit.specs.Carried.{bugsAfter, entriesAfter, mapAfter, wordsAfter, outputAfter, setupAfter, countsAfter, placeAfter, recordsAfter, isRecorded}
+use Rattle.commit.specs.Feasible.{ground, Feasible, Countable, Counted}
+use Rattle.commit.specs.Reported.{reportOf, Reportable}
+use Rattle.commit.specs.Then.{coreWith, engineWith, engineThen, recordsOf}
+use Rattle.commit.proofs.Engines.{not-recorded}
+use Rattle.commit.proofs.Turning.{feasible-reportable}
+use Rattle.engine.specs.declared.Walked.{Walked}
+use Rattle.engine.specs.Walking.{Walk, walks, walkFrom}
+use Rattle.engine.proofs.Able.{Able, plan-able}
+use Rattle.engine.proofs.Turns.{lends, Going, going-refused, going-finished, going-last, going-next, going-first}
+
+-- an answer taken apart
+plan-is : (k : Checked Plan) {answer : Planned} {to : Place} {x : Action} → answer ≡ answered k → answer ≡ Does to x → k ≡ passed (record { to = to; action = x })
+unfolding answered
+plan-is (passed y) {to = to} {x = x} is made =
+    let same : to ≡ y .to = cc in
+    let also : x ≡ y .action = cc in
+    rw (same, also)
+plan-is (refused q) is made = clash cc
+
+no-plan-is : (k : Checked Plan) {answer : Planned} {r : Refusal} → answer ≡ answered k → answer ≡ Stopped r → k ≡ refused r
+unfolding answered
+no-plan-is (passed y) is made = clash cc
+no-plan-is (refused q) {r = r} is made = let same : r ≡ q = cc in ap refused (sym same)
+
+-- where an action is not recorded, place and records are as they were planned
+pub kept-turn : (x : Action) (to : Place) (c : Counts) (r : Records) {t : Bool} → t ≡ isRecorded x → t ≡ false → {place : Place} {records : Records} → place ≡ to → records ≡ r
+    → (place ≡ placeAfter x to (r .calls) (c .calls)) × (records ≡ recordsAfter x to c r)
+kept-turn x to c r is other same also =
+    let (stays, same-records) = not-recorded x to (r .calls) (c .calls) c r (sym is ∙ other) in
+    (same ∙ sym stays, also ∙ sym same-records)
+
+-- what a walk returns
+abbrev pub returning : Walked → List ℕ → List ℕ → Walk
+returning r storage output = record { walked = r; storage = storage; output = output }
+
+module _ (b : ℕ) (table input : List ℕ) (start : Walk) (limit count : ℕ) (output : List ℕ) (place : Place) (bugs : List ℕ) (records : Records)
+    (entries : List ℕ) (counts : Counts) (setup : SetUp) (map storage : List ℕ)
+    (g : Going b table input start limit count output (engineWith place bugs records entries counts setup map storage)) (fits : lengthFits table ≡ true)
+    (narrow : b ≤ 48) where
+  abbrev e : Engine
+  e = engineWith place bugs records entries counts setup map storage
+
+  pub ready-now : Ready b (sees bugs (records .definitions) setup map storage counts entries input (length output))
+  unfolding world
+  ready-now = ready-is b (lends table input output) e (g .fine) narrow
+
+  module _ {answer : Planned} (is : answer ≡ answered (stepPlan b (sees bugs (records .definitions) setup map storage counts entries input (length output)) table place)) where
+    pub refused-now : {q : Refusal} → answer ≡ Stopped q → {report : Report} → report ≡ noReport → {r : Walked}
+        → r ≡ record { state = record { core = coreWith place bugs records entries counts setup; map = map }; answer = Refused q; report = report; count = count + 1 }
+        → returning r storage output ≡ start
+    unfolding world
+    refused-now to none same = rw (same, none) (going-refused b table input start limit count output e g fits (no-plan-is _ is to))
+
+    module _ {to : Place} {x : Action} (made : answer ≡ Does to x) (long : length map ≡ 4096) where
+      able : Able b (lends table input output) e x
+      unfolding world
+      able = plan-able b (lends table input output) e (g .fine) narrow fits (rw long (omega arith)) _ (plan-is _ is made)
+
+      pub feasible-now : Feasible b (ground setup map storage counts (length input) (length output)) x
+      feasible-now = able .feasible
+
+      pub countable-now : Countable counts x
+      countable-now = record { width = b; on = ground setup map storage counts (length input) (length output); same = refl; feasible = able .feasible }
+
+      pub counted-now : Counted counts (length input) (length output) x
+      unfolding countable-now
+      counted-now = record { countable = countable-now; input = refl; output = refl }
+
+      pub reportable-now : Reportable x
+      reportable-now = feasible-reportable b _ x narrow (able .feasible)
+
+      module _ {place′ : Place} {bugs′ : List ℕ} {records′ : Records} {entries′ : List ℕ} {counts′ : Counts} {setup′ : SetUp} {map′ storage′ output′ : List ℕ}
+          (turn : (place′ ≡ placeAfter x to (records .calls) (counts .calls)) × (records′ ≡ recordsAfter x to counts records))
+          (carried : (bugs′ ≡ bugsAfter b x bugs) × (entries′ ≡ entriesAfter (counts .contents) x entries) × (map′ ≡ mapAfter setup x map)
+          × (storage′ ≡ wordsAfter b (setup .s1) x storage) × (output′ ≡ outputAfter (counts .written) x output))
+          (counted : counts′ ≡ countsAfter x counts) (set-up : setup′ ≡ setupAfter x setup) where
+        then-now : engineThen b to x e ≡ engineWith place′ bugs′ records′ entries′ counts′ setup′ map′ storage′
+        then-now = rw (turn .0, turn .1, carried .0, carried .1, carried .2, carried .3, counted, set-up)
+
+        ends : {end : Bool} → eqb (place′ .kind) 3 ≡ end → isFinished (engineThen b to x e .state .core .place) ≡ end
+        unfolding isFinished
+        ends k = ap (λ (f : Engine). eqb (f .state .core .place .kind) 3) then-now ∙ k
+
+        module _ {report : Report} (told : report ≡ reportOf x) {r : Walked} where
+          pub finished-now : place′ .kind ≡ 3
+              → r ≡ record { state = record { core = coreWith place′ bugs′ records′ entries′ counts′ setup′; map = map′ }; answer = Finished; report = report; count = count + 1 }
+              → returning r storage′ output′ ≡ start
+          unfolding world
+          finished-now end same =
+              rw (same, told, carried .4)
+              (ap (λ (f : Engine). walks (f .state) Finished (reportOf x) (count + 1) (f .storage) (outputAfter (counts .written) x output)) (sym then-now)
+              ∙ going-finished b table input start limit count output e g fits _ (plan-is _ is made) (able .sure) (ends (eq-eqb (place′ .kind) 3 end)))
+
+          pub last-now : (place′ .kind ≡ 3 → ⊥) → count + 1 ≡ limit
+              → r ≡ record { state = record { core = coreWith place′ bugs′ records′ entries′ counts′ setup′; map = map′ }; answer = Running; report = report; count = count + 1 }
+              → returning r storage′ output′ ≡ start
+          unfolding world
+          last-now on all same =
+              rw (same, told, carried .4)
+              (ap (λ (f : Engine). walks (f .state) Running (reportOf x) (count + 1) (f .storage) (outputAfter (counts .written) x output)) (sym then-now)
+              ∙ going-last b table input start limit count output e g fits _ (plan-is _ is made) (able .sure) (ends (ne-eqb (place′ .kind) 3 on)) all)
+
+        pub next-now : (place′ .kind ≡ 3 → ⊥) → (count + 1 ≡ limit → ⊥)
+            → Going b table input start limit (count + 1) output′ (engineWith place′ bugs′ records′ entries′ counts′ setup′ map′ storage′)
+        unfolding world
+        next-now on more =
+            subst (λ (out : List ℕ). Going b table input start limit (count + 1) out (engineWith place′ bugs′ records′ entries′ counts′ setup′ map′ storage′)) (sym (carried .4))
+            (subst (Going b table input start limit (count + 1) (outputAfter (counts .written) x output)) then-now
+            (going-next b table input start limit count output e g fits _ (plan-is _ is made) (able .sure) (ends (ne-eqb (place′ .kind) 3 on)) more))
+
+-- what a walk returns, by its core
+pub with-core : {c d : Core} → c ≡ d → {map : List ℕ} {answer : Answer} {report : Report} {count : ℕ}
+    → _≡_ {A = Walked} (record { state = record { core = c; map = map }; answer = answer; report = report; count = count })
+    (record { state = record { core = d; map = map }; answer = answer; report = report; count = count })
+with-core e = rw e
+
+-- where a walk starts, by the core's parts
+pub started : (b : ℕ) (table input : List ℕ) (limit : ℕ) (output : List ℕ) (core : Core) (map storage : List ℕ) {records : Records} {counts : Counts}
+    → records ≡ recordsOf core → counts ≡ countsOf core
+    → walkFrom 0 b (limit - 1) (lends table input output) (engineWith (core .place) (core .bugs) records (core .contents .entries) counts (core .setup) map storage)
+    ≡ walkFrom 0 b (limit - 1) (lends table input output) (record { state = record { core = core; map = map }; storage = storage })
+started b table input limit output core map storage r c = rw (r, c)
+
+pub starts : (b : ℕ) (table input : List ℕ) (limit : ℕ) (output : List ℕ) (core : Core) (map storage : List ℕ) {records : Records} {counts : Counts}
+    → records ≡ recordsOf core → counts ≡ countsOf core → 1 ≤ limit
+    → sound b (lends table input output) (record { state = record { core = core; map = map }; storage = storage }) ≡ true → isFinished (core .place) ≡ false
+    → Going b table input (walkFrom 0 b (limit - 1) (lends table input output) (engineWith (core .place) (core .bugs) records (core .contents .entries) counts (core .setup) map storage))
+    limit 0 output (engineWith (core .place) (core .bugs) records (core .contents .entries) counts (core .setup) map storage)
+starts b table input limit output core map storage r c some fine unfinished =
+    going-first b table input limit output _ some (rw (r, c) fine) unfinished
+
+-- the output is as long after as before
+pub counted-later : {given room later : ℕ} {c : Counts} {x : Action} → later ≡ room → Counted c given room x → Counted c given later x
+counted-later same k = record { countable = k .countable; input = k .input; output = k .output ∙ sym same }
+
+-- and by its report
+pub with-report : {p q : Report} → p ≡ q → {state : State} {answer : Answer} {count : ℕ}
+    → _≡_ {A = Walked} (record { state = state; answer = answer; report = p; count = count }) (record { state = state; answer = answer; report = q; count = count })
+with-report e = rw e

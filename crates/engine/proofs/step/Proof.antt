@@ -1,0 +1,27 @@
+-- `engine::step` meets its contract: it is a walk of one. Assumes nothing.
+use native.Mathlib.Omega.{arith}
+use Rattle.engine.proofs.First.{steps-once}
+use borrow.Author.Needs.{needs}
+use Rattle.engine.proofs.step.Statement.{statement}
+use Rattle.engine.proofs.step.Tie as tie
+
+walk-from-requires : tie.Need-walk-from-requires
+walk-from-requires c κs = (omega arith, omega arith)
+
+same-length : tie.Need-same-length
+same-length c = search needs
+
+same-length-2 : tie.Need-same-length-2
+same-length-2 c = search needs
+
+returns : tie.Need-returns
+returns c = steps-once _ _ _ _ _ (c .before .before .before .before .before .before .walk-from .ensures)
+
+pub step-spec : {M : Type 1} → statement M
+step-spec =
+    tie.close
+    (tie.spec
+    walk-from-requires
+    same-length
+    same-length-2
+    returns)

@@ -1,0 +1,18 @@
+-- `engine::stopped` meets its contract. Assumes nothing.
+use Rattle.engine.proofs.Now.{with-report}
+use borrow.Author.Needs.{needs}
+use Rattle.engine.proofs.stopped.Statement.{statement}
+use Rattle.engine.proofs.stopped.Tie as tie
+
+no-report-requires : tie.Need-no-report-requires
+no-report-requires c κs = search needs
+
+returns : tie.Need-returns
+returns c = with-report (c .no-report .ensures)
+
+pub stopped-spec : {M : Type 1} → statement M
+stopped-spec =
+    tie.close
+    (tie.spec
+    no-report-requires
+    returns)

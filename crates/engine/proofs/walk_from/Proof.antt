@@ -1,0 +1,93 @@
+-- `engine::walk_from` meets its contract: 11, finished, 1, and then the walk. Assumes nothing.
+use mathlib.Core.Path.{sym, _∙_}
+use borrow.Author.Tests.{not-true, not-false}
+use native.Mathlib.Omega.{arith}
+use Rattle.engine.proofs.First.{any-table, finished-is, unfinished-is, first-unsound, first-finished, first-length}
+use borrow.Author.Needs.{needs}
+use Rattle.engine.proofs.walk_from.Statement.{statement}
+use Rattle.engine.proofs.walk_from.Tie as tie
+
+slice-aggregate-is-sound : tie.Need-slice-aggregate-is-sound
+slice-aggregate-is-sound c = search needs
+
+is-sound-requires : tie.Need-is-sound-requires
+is-sound-requires c κs = omega (arith, c .before .before .before .before .before .before .before .before .before .before .pre .0)
+
+stopped-requires : tie.Need-stopped-requires
+stopped-requires c κs = search needs
+
+same-length : tie.Need-same-length
+same-length c = search needs
+
+same-length-2 : tie.Need-same-length-2
+same-length-2 c = search needs
+
+returns : tie.Need-returns
+returns c = first-unsound _ _ _ _ (sym (any-table _ _ _ _ _ (c .before .before .is-sound .ensures)) ∙ not-true _ (c .before .if1 .taken)) (c .stopped .ensures)
+
+stopped-requires-2 : tie.Need-stopped-requires-2
+stopped-requires-2 c κs = search needs
+
+same-length-3 : tie.Need-same-length-3
+same-length-3 c = search needs
+
+same-length-4 : tie.Need-same-length-4
+same-length-4 c = search needs
+
+returns-2 : tie.Need-returns-2
+returns-2 c = first-finished _ _ _ _ (sym (any-table _ _ _ _ _ (c .before .before .before .before .is-sound .ensures)) ∙ not-false _ (c .before .before .before .if1 .left)) (finished-is _ (c .before .if2 .taken)) (c .stopped2 .ensures)
+
+has-length-requires : tie.Need-has-length-requires
+has-length-requires c κs = search needs
+
+stopped-requires-3 : tie.Need-stopped-requires-3
+stopped-requires-3 c κs = search needs
+
+same-length-5 : tie.Need-same-length-5
+same-length-5 c = search needs
+
+same-length-6 : tie.Need-same-length-6
+same-length-6 c = search needs
+
+returns-3 : tie.Need-returns-3
+returns-3 c = first-length _ _ _ _ (sym (any-table _ _ _ _ _ (c .before .before .before .before .before .before .is-sound .ensures)) ∙ not-false _ (c .before .before .before .before .before .if1 .left)) (unfinished-is _ (c .before .before .before .if2 .left)) (sym (c .before .before .has-length .ensures) ∙ not-true _ (c .before .if3 .taken)) (c .stopped3 .ensures)
+
+judge-requires : tie.Need-judge-requires
+judge-requires c κs = search needs
+
+walk-requires : tie.Need-walk-requires
+walk-requires c κs = (c .before .before .before .before .before .before .before .before .before .before .before .before .before .before .before .before .before .before .before .pre .0, c .before .before .before .before .before .before .before .before .before .before .before .before .before .before .before .before .before .before .before .pre .1, sym (c .before .before .before .before .has-length .ensures) ∙ not-false _ (c .before .before .before .if3 .left), c .before .before .judge .ensures, unfinished-is _ (c .before .before .before .before .before .if2 .left), sym (any-table _ _ _ _ _ (c .before .before .before .before .before .before .before .before .is-sound .ensures)) ∙ not-false _ (c .before .before .before .before .before .before .before .if1 .left))
+
+same-length-7 : tie.Need-same-length-7
+same-length-7 c = search needs
+
+same-length-8 : tie.Need-same-length-8
+same-length-8 c = search needs
+
+returns-4 : tie.Need-returns-4
+returns-4 c = c .before .before .before .before .walk .ensures
+
+pub walk-from-spec : {M : Type 1} → statement M
+walk-from-spec =
+    tie.close
+    (tie.spec
+    slice-aggregate-is-sound
+    is-sound-requires
+    stopped-requires
+    same-length
+    same-length-2
+    returns
+    stopped-requires-2
+    same-length-3
+    same-length-4
+    returns-2
+    has-length-requires
+    stopped-requires-3
+    same-length-5
+    same-length-6
+    returns-3
+    judge-requires
+    walk-requires
+    same-length-7
+    same-length-8
+    returns-4)

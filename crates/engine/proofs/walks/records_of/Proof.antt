@@ -1,0 +1,14 @@
+-- `engine::walks::records_of` meets its contract. Assumes nothing.
+use mathlib.Core.Path.{refl}
+use borrow.Author.Needs.{needs}
+use Rattle.engine.proofs.walks.records_of.Statement.{statement}
+use Rattle.engine.proofs.walks.records_of.Tie as tie
+
+returns : tie.Need-returns
+returns c = refl
+
+pub records-of-spec : {M : Type 1} → statement M
+records-of-spec =
+    tie.close
+    (tie.spec
+    returns)

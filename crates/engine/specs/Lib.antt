@@ -1,0 +1,3 @@
+-- Steps one after the other, with the report of the last.
+pub mod Walking
+pub mod Calls

@@ -1,0 +1,263 @@
+// Steps one after the other: each is planned over slices of local arrays and carried out in place.
+ghost use mathlib.Core.Bool.{true, false};
+ghost use mathlib.Core.Path.{_≡_};
+ghost use Prim.Native.Nat.{_-_, _≤_};
+ghost use Rattle.table.specs.declared.TableCheck.the-variants.{Lowest};
+ghost use Rattle.table.specs.Row.{lengthFits};
+ghost use Rattle.table.specs.Table.{checked};
+ghost use Rattle.machine.specs.State.{isFinished};
+ghost use Rattle.machine.specs.Storage.{noReport};
+ghost use Rattle.machine.specs.Sound.{sound};
+ghost use Rattle.commit.specs.Then.{coreWith, recordsOf};
+ghost use Rattle.operations.specs.Seen.{countsOf};
+ghost use Rattle.engine.specs.Walking.{walkFrom};
+use crate::Walked;
+use block::SetUp;
+use commit::Records;
+use commit::carry::carry_out;
+use commit::core::counts_after;
+use commit::core::is_recorded;
+use commit::core::setup_after;
+use commit::core::turned;
+use commit::reports::report_of;
+use machine::Answer;
+use machine::CallStack;
+use machine::ContentsStack;
+use machine::Core;
+use machine::DefinitionStack;
+use machine::Place;
+use machine::Report;
+use machine::State;
+use machine::Store;
+use operations::Counts;
+use operations::Planned;
+use plans::steps::plan_step;
+
+// A report of nothing.
+pub fn no_report() -> Report
+    ensures { λ r. ⌜ r ≡ noReport ⌝ }
+{
+    let none = Store {
+        address: 0,
+        left: 0,
+        right: 0,
+        bits: 0,
+    };
+    Report {
+        freed: 0,
+        delivered: 0,
+        size: 0,
+        copied: 0,
+        first: none,
+        second: none,
+    }
+}
+
+// The core's arrays that no slice can lend.
+fn records_of(core: Core) -> Records
+    ensures { λ r. ⌜ r ≡ recordsOf core ⌝ }
+{
+    let definitions = core.definitions;
+    let saved = core.saved;
+    let kept = saved.entries;
+    let calls = core.calls;
+    let places = calls.entries;
+    Records {
+        definitions: definitions,
+        saved: kept,
+        calls: places,
+    }
+}
+
+// How far stacks, input and output are used.
+fn counts_of(core: Core) -> Counts
+    ensures { λ r. ⌜ r ≡ countsOf core ⌝ }
+{
+    let contents = core.contents;
+    let saved = core.saved;
+    let calls = core.calls;
+    Counts {
+        contents: contents.count,
+        saved: saved.count,
+        calls: calls.count,
+        taken: core.taken,
+        written: core.written,
+    }
+}
+
+// The core put together again from its parts.
+fn core_of(
+    place: Place,
+    bugs: [u64; 26],
+    records: Records,
+    entries: [u64; 128],
+    counts: Counts,
+    setup: SetUp,
+) -> Core
+    ensures { λ r. ⌜ r ≡ coreWith place bugs records entries counts setup ⌝ }
+{
+    let definitions = records.definitions;
+    let kept = records.saved;
+    let places = records.calls;
+    let contents = ContentsStack {
+        entries: entries,
+        count: counts.contents,
+    };
+    let saved = DefinitionStack {
+        entries: kept,
+        count: counts.saved,
+    };
+    let calls = CallStack {
+        entries: places,
+        count: counts.calls,
+    };
+    Core {
+        place: place,
+        bugs: bugs,
+        definitions: definitions,
+        contents: contents,
+        saved: saved,
+        calls: calls,
+        setup: setup,
+        taken: counts.taken,
+        written: counts.written,
+    }
+}
+
+// What a walk returns that ends so.
+fn ended(
+    place: Place,
+    bugs: [u64; 26],
+    records: Records,
+    entries: [u64; 128],
+    counts: Counts,
+    setup: SetUp,
+    map: [u8; 4096],
+    answer: Answer,
+    report: Report,
+    count: u64,
+) -> Walked
+    ensures { λ r. ⌜ r ≡ record { state = record { core = coreWith place bugs records entries counts setup; map = map }; answer = answer; report = report; count = count } ⌝ }
+{
+    let core = core_of(place, bugs, records, entries, counts, setup);
+    let state = State {
+        core: core,
+        map: map,
+    };
+    Walked {
+        state: state,
+        answer: answer,
+        report: report,
+        count: count,
+    }
+}
+
+// A walk of a sound engine that is not finished, with a table of the right length: up to limit steps.
+pub fn walk(
+    b: u64,
+    core: Core,
+    first: [u8; 4096],
+    table: &[u64],
+    storage: &mut [u64],
+    input: &[u8],
+    output: &mut [u8],
+    limit: u64,
+    judged: bool,
+) -> Walked
+    requires { ⌜ (b ≤ 48) × (1 ≤ limit) × (lengthFits (now table) ≡ true) × (judged ≡ true → checked b (now table) ≡ Lowest 0) × (isFinished (core .place) ≡ false) × (sound b (record { table = now table; input = now input; output = now output }) (record { state = record { core = core; map = first }; storage = now storage }) ≡ true) ⌝ }
+    ensures { λ r. ⌜ record { walked = r; storage = now (storage .exit); output = now (output .exit) } ≡ walkFrom 0 b (limit - 1) (record { table = now (table .entry); input = now (input .entry); output = now (output .entry) }) (record { state = record { core = core; map = first }; storage = now (storage .entry) }) ⌝ }
+{
+    let contents = core.contents;
+    let mut place = core.place;
+    let mut bugs = core.bugs;
+    let mut entries = contents.entries;
+    let mut setup = core.setup;
+    let mut records = records_of(core);
+    let mut counts = counts_of(core);
+    let mut map = first;
+    let mut count: u64 = 0;
+    loop {
+        count += 1;
+        let definitions = records.definitions;
+        let planned = plan_step(
+            b,
+            place,
+            &bugs,
+            definitions,
+            setup,
+            &map,
+            &*storage,
+            counts,
+            &entries,
+            input,
+            output.len(),
+            table,
+            judged,
+        );
+        match planned {
+            Planned::Stopped(r) => {
+                return ended(
+                    place,
+                    bugs,
+                    records,
+                    entries,
+                    counts,
+                    setup,
+                    map,
+                    Answer::Refused(r),
+                    no_report(),
+                    count,
+                );
+            }
+            Planned::Does(to, action) => {
+                carry_out(
+                    b,
+                    setup,
+                    counts,
+                    &mut bugs,
+                    &mut entries,
+                    &mut map,
+                    &mut *storage,
+                    &mut *output,
+                    action,
+                );
+                place = to;
+                if is_recorded(action) {
+                    let next = turned(action, to, counts, records);
+                    place = next.place;
+                    records = next.records;
+                }
+                counts = counts_after(action, counts, input.len(), output.len());
+                setup = setup_after(action, setup);
+                if place.kind == 3 {
+                    return ended(
+                        place,
+                        bugs,
+                        records,
+                        entries,
+                        counts,
+                        setup,
+                        map,
+                        Answer::Finished,
+                        report_of(action),
+                        count,
+                    );
+                }
+                if count == limit {
+                    return ended(
+                        place,
+                        bugs,
+                        records,
+                        entries,
+                        counts,
+                        setup,
+                        map,
+                        Answer::Running,
+                        report_of(action),
+                        count,
+                    );
+                }
+            }
+        }
+    }
+}
