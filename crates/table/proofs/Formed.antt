@@ -10,11 +10,12 @@ use lib.Dec.{leb}
 use lib.ListN.{length}
 use Rattle.table.specs.declared.Row.{Row}
 use Rattle.table.specs.declared.Shape.{Shape}
+use Rattle.table.specs.declared.TableCheck.{TableCheck}
 use Rattle.table.specs.declared.TableCheck.the-variants.{Lowest, BadLength}
 use Rattle.table.specs.declared.Operand.{Operand}
 use Rattle.table.specs.declared.Pair.{Pair}
 use Rattle.table.specs.Operands.{testShape, takes}
-use Rattle.table.specs.Table.{fits, isLine, isTest, shapeOf, isOperation, chained, shaped, wellFormedAs, wellFormed, usable, lowestFrom, checked}
+use Rattle.table.specs.Table.{fits, isLine, isTest, shapeOf, isOperation, chained, shaped, wellFormedAs, wellFormed, usable, lowestFrom, checked, checkRefusal, checkRow}
 use Rattle.table.specs.Row.{lengthFits, rows, rowAt}
 
 -- a pair's test is the definition's at the operand that is told
@@ -118,3 +119,20 @@ checked-rows b table f t n = rw (sym f ∙ t, sym n) refl
 pub checked-length : (b : ℕ) (table : List ℕ) {fits : Bool} → fits ≡ lengthFits table → fits ≡ false → BadLength ≡ checked b table
 unfolding checked
 checked-length b table f t = rw (sym f ∙ t)
+
+-- the check's answer in document 01's numbers
+pub check-numbers : (b : ℕ) (table : List ℕ) {x : TableCheck} → x ≡ checked b table
+    → (x ≡ checked b table) × ((checkRefusal x ≡ cond (lengthFits table) 0 1) × (checkRow x ≡ cond (lengthFits table) (lowestFrom b table 1 (rows table - 1)) 0))
+unfolding checked checkRefusal checkRow
+check-numbers b table {x} is = (is, (ap checkRefusal is ∙ refusal (lengthFits table), ap checkRow is ∙ row (lengthFits table)))
+  where
+    n : ℕ
+    n = lowestFrom b table 1 (rows table - 1)
+
+    refusal : (t : Bool) → checkRefusal (cond t (Lowest n) BadLength) ≡ cond t 0 1
+    refusal true = refl
+    refusal false = refl
+
+    row : (t : Bool) → checkRow (cond t (Lowest n) BadLength) ≡ cond t n 0
+    row true = refl
+    row false = refl

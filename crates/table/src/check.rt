@@ -1,11 +1,12 @@
 // Well-formed rows, and the check of a whole table.
+ghost use mathlib.Core.Bool.{cond};
 ghost use mathlib.Core.Path.{_≡_};
 ghost use Prim.Native.Nat.{_-_, _≤_};
 ghost use Rattle.table.specs.Operands.{shape, namedShape};
 ghost use Rattle.table.specs.Table.{shapeOf, rowOrNone, namesRows, hasMode, hasTests};
 ghost use Rattle.table.specs.Table.{goesOn, restUnused, complete, isLine, isTest, isOperation};
 ghost use Rattle.table.specs.Table.{chained, shaped, wellFormedAs, wellFormed};
-ghost use Rattle.table.specs.Table.{usable, lowestFrom, checked};
+ghost use Rattle.table.specs.Table.{usable, lowestFrom, checked, checkRefusal, checkRow};
 ghost use Rattle.table.specs.Row.{lengthFits, rows};
 use crate::Operand;
 use crate::Row;
@@ -276,9 +277,10 @@ fn lowest_ill_formed(b: u64, table: &[u64]) -> u64
     0
 }
 
-// The table check: the lowest ill-formed row, 0 if none; it refuses only by 1.
+// The table check: the lowest ill-formed row, 0 if none; it refuses only by 1. In document 01's numbers: refusal and row.
 pub fn check(b: u64, table: &[u64]) -> TableCheck
     ensures { λ x. ⌜ x ≡ checked b (now (table .entry)) ⌝ }
+    ensures numbered { λ x. ⌜ (checkRefusal x ≡ cond (lengthFits (now (table .entry))) 0 1) × (checkRow x ≡ cond (lengthFits (now (table .entry))) (lowestFrom b (now (table .entry)) 1 (rows (now (table .entry)) - 1)) 0) ⌝ }
 {
     if has_length(table) {
         TableCheck::Lowest(lowest_ill_formed(b, table))

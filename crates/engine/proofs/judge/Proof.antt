@@ -18,7 +18,7 @@ enum-told : tie.Need-enum-told
 enum-told c = search needs
 
 returns-2 : tie.Need-returns-2
-returns-2 c = λ k. judged-fine (c .before .before .before .check .ensures) (c .before .found .given .1) k
+returns-2 c = λ k. judged-fine (c .before .before .before .check .ensures .0) (c .before .found .given .1) k
 
 returns-3 : tie.Need-returns-3
 returns-3 c = λ k. clash k

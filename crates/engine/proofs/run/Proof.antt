@@ -1,12 +1,17 @@
 -- `engine::run` meets its contract: it is no step, or a walk without its report. Assumes nothing.
 use native.Mathlib.Omega.{arith}
+use mathlib.Core.Path.{ap}
+use Rattle.machine.specs.Answer.{answerNumber}
+use Rattle.machine.specs.Step.{RunOutcome}
 use Rattle.engine.proofs.First.{runs-none, runs-some}
 use borrow.Author.Needs.{needs}
 use Rattle.engine.proofs.run.Statement.{statement}
 use Rattle.engine.proofs.run.Tie as tie
 
 returns : tie.Need-returns
-returns c = runs-none _ _ _ _ (c .if1 .taken)
+returns c =
+    let is = runs-none _ _ _ _ (c .if1 .taken) in
+    (is, ap (λ (o : RunOutcome). answerNumber (o .ran .answer)) is)
 
 walk-from-requires : tie.Need-walk-from-requires
 walk-from-requires c κs = (omega arith, omega arith)
@@ -18,7 +23,9 @@ same-length-2 : tie.Need-same-length-2
 same-length-2 c = search needs
 
 returns-2 : tie.Need-returns-2
-returns-2 c = runs-some _ _ _ _ (c .before .before .before .before .before .before .before .before .if1 .left) (c .before .before .before .before .before .walk-from .ensures)
+returns-2 c =
+    let is = runs-some _ _ _ _ (c .before .before .before .before .before .before .before .before .if1 .left) (c .before .before .before .before .before .walk-from .ensures) in
+    (is, ap (λ (o : RunOutcome). answerNumber (o .ran .answer)) is)
 
 pub run-spec : {M : Type 1} → statement M
 run-spec =
