@@ -1,6 +1,6 @@
 // The operations: what each plans, an action or its refusal. A plan is made over lent slices and changes nothing.
+pub mod actions;
 mod blocks;
-pub mod plans;
 mod values;
 
 use block::SetUp;

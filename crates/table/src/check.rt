@@ -12,7 +12,7 @@ use crate::Operand;
 use crate::Row;
 use crate::Shape;
 use crate::TableCheck;
-use crate::operands;
+use crate::forms;
 use crate::rows;
 
 // The shape of an operation, or of a test, that has no name.
@@ -160,7 +160,7 @@ fn goes_on(row: Row) -> bool
 fn rest_unused(row: Row) -> bool
     ensures { λ x. ⌜ x ≡ restUnused row ⌝ }
 {
-    (row.second.value == 0) & operands::is_absent(row.third)
+    (row.second.value == 0) & forms::is_absent(row.third)
 }
 
 // A line's numbers but the rows that it names.
@@ -181,7 +181,7 @@ fn is_line(rows: u64, row: Row) -> bool
 fn is_test(b: u64, rows: u64, row: Row) -> bool
     ensures { λ x. ⌜ x ≡ isTest b rows row ⌝ }
 {
-    (1 <= row.code) & ((row.code <= 7) & operands::has_shape(b, rows, a_and_cd(), row))
+    (1 <= row.code) & ((row.code <= 7) & forms::has_shape(b, rows, a_and_cd(), row))
 }
 
 // Kind 3, an operation: codes 1 to 36.
@@ -194,7 +194,7 @@ fn is_operation(b: u64, rows: u64, row: Row) -> bool
     if 36 < row.code {
         return false;
     }
-    operands::has_shape(b, rows, shape_of(row.code), row)
+    forms::has_shape(b, rows, shape_of(row.code), row)
 }
 
 // Row r is a well-formed row of this kind.

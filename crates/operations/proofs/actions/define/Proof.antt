@@ -1,0 +1,48 @@
+-- `operations::actions::define` meets its contract. Assumes nothing.
+use native.Mathlib.Omega.{arith}
+use borrow.Author.Tests.{not-true, not-false}
+use Rattle.machine.specs.Sound.{inRange}
+use Rattle.machine.proofs.Checks.{need-yes, need-no}
+use Rattle.operations.specs.Plans.{defining}
+use Rattle.operations.proofs.Answers.{does, stops}
+use Rattle.operations.proofs.Doing.{in-range}
+use borrow.Author.Needs.{needs}
+use Rattle.operations.proofs.actions.define.Statement.{statement}
+use Rattle.operations.proofs.actions.define.Tie as tie
+
+returns : tie.Need-returns
+unfolding defining inRange
+returns c = stops _ (need-no _ _ _ (not-true _ (c .if1 .taken)))
+
+cast-t15 : tie.Need-cast-t15
+cast-t15 c = search needs
+
+cast-t15-2 : tie.Need-cast-t15-2
+cast-t15-2 c =
+    let fits = in-range (c .before .args .b) (c .before .args .word) (c .before .args .left) (c .before .args .right) (not-false _ (c .if1 .left)) in
+    omega (arith, fits .0)
+
+cast-t16 : tie.Need-cast-t16
+cast-t16 c =
+    let fits = in-range (c .before .args .b) (c .before .args .word) (c .before .args .left) (c .before .args .right) (not-false _ (c .if1 .left)) in
+    omega (arith, fits .1, c .before .pre .0)
+
+cast-t17 : tie.Need-cast-t17
+cast-t17 c =
+    let fits = in-range (c .before .args .b) (c .before .args .word) (c .before .args .left) (c .before .args .right) (not-false _ (c .if1 .left)) in
+    omega (arith, fits .2, c .before .pre .0)
+
+returns-2 : tie.Need-returns-2
+unfolding defining inRange
+returns-2 c = does _ (need-yes _ _ _ (not-false _ (c .if1 .left)))
+
+pub define-spec : {M : Type 1} → statement M
+define-spec =
+    tie.close
+    (tie.spec
+    returns
+    cast-t15
+    cast-t15-2
+    cast-t16
+    cast-t17
+    returns-2)

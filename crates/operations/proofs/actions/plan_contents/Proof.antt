@@ -1,0 +1,66 @@
+-- `operations::actions::plan_contents` meets its contract: a located, then 19 or 20. Assumes nothing.
+use native.Mathlib.Omega.{arith}
+use mathlib.Core.Path.{_∙_}
+use Rattle.machine.proofs.Checks.{bind-no}
+use Rattle.operands.proofs.Readable.{locate-reached}
+use Rattle.operands.proofs.Operands.{at-is, stopped-is}
+use Rattle.operations.specs.Plans.{contentsPlan}
+use Rattle.operations.proofs.Answers.{does, stops}
+use Rattle.operations.proofs.Stacks.{save-full, save-done, restore-empty, restore-done}
+use borrow.Author.Needs.{needs}
+use Rattle.operations.proofs.actions.plan_contents.Statement.{statement}
+use Rattle.operations.proofs.actions.plan_contents.Tie as tie
+
+locate-requires : tie.Need-locate-requires
+locate-requires c κs = (c .before .before .before .pre .0, c .before .before .before .pre .2)
+
+enum-known-found : tie.Need-enum-known-found
+enum-known-found c = search needs
+
+enum-known-found-2 : tie.Need-enum-known-found-2
+enum-known-found-2 c = search needs
+
+returns : tie.Need-returns
+unfolding contentsPlan
+returns c = stops _ (bind-no _ _ (stopped-is _ (c .before .before .before .locate .ensures) (c .before .found2 .given .1)))
+
+returns-2 : tie.Need-returns-2
+returns-2 c = stops _ (save-full _ _ _ _ _ (at-is _ (c .before .before .before .before .before .before .locate .ensures) (c .before .before .before .before .found .given .1)) (c .before .if1 .taken) (c .if2 .taken))
+
+contents-requires : tie.Need-contents-requires
+contents-requires c κs = (c .before .before .before .before .before .before .before .before .before .before .pre .0 .width, locate-reached _ _ (c .before .before .before .before .before .before .before .before .before .before .pre .0) _ (c .before .before .before .before .before .before .before .before .before .before .pre .2) _ (at-is _ (c .before .before .before .before .before .before .locate .ensures) (c .before .before .before .before .found .given .1)))
+
+returns-3 : tie.Need-returns-3
+returns-3 c = does _ (save-done _ _ _ _ _ (at-is _ (c .before .before .before .before .before .before .before .locate .ensures) (c .before .before .before .before .before .found .given .1)) (c .before .before .if1 .taken) (c .before .if2 .left) (c .contents .ensures))
+
+returns-4 : tie.Need-returns-4
+returns-4 c = stops _ (restore-empty _ _ _ _ _ (at-is _ (c .before .before .before .before .before .before .locate .ensures) (c .before .before .before .before .found .given .1)) (c .before .if1 .left) (c .if3 .taken))
+
+sub-i : tie.Need-sub-i
+sub-i c = search needs
+
+mul-t24 : tie.Need-mul-t24
+mul-t24 c = search needs
+
+element-copy-out-t27 : tie.Need-element-copy-out-t27
+element-copy-out-t27 c = search needs
+
+returns-5 : tie.Need-returns-5
+returns-5 c = does _ (restore-done _ _ _ _ _ (at-is _ (c .before .before .before .before .before .before .before .locate .ensures) (c .before .before .before .before .before .found .given .1)) (c .before .before .if1 .left) (c .before .if3 .left))
+
+pub plan-contents-spec : {M : Type 1} → statement M
+plan-contents-spec =
+    tie.close
+    (tie.spec
+    locate-requires
+    enum-known-found
+    enum-known-found-2
+    returns
+    returns-2
+    contents-requires
+    returns-3
+    returns-4
+    sub-i
+    mul-t24
+    element-copy-out-t27
+    returns-5)

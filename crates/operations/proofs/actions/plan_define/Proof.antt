@@ -1,0 +1,74 @@
+-- `operations::actions::plan_define` meets its contract: its operands as written. Assumes nothing.
+use mathlib.Core.Path.{_∙_}
+use Rattle.machine.proofs.Checks.{bind-yes, bind-no}
+use Rattle.operands.proofs.Operands.{value-is, no-value-is}
+use Rattle.operations.specs.Plans.{definePlan}
+use Rattle.operations.proofs.Answers.{stops, follows}
+use borrow.Author.Needs.{needs}
+use Rattle.operations.proofs.actions.plan_define.Statement.{statement}
+use Rattle.operations.proofs.actions.plan_define.Tie as tie
+
+operand-requires : tie.Need-operand-requires
+operand-requires c κs = (c .before .before .before .before .before .pre .0, c .before .before .before .before .before .pre .1)
+
+enum-known-x : tie.Need-enum-known-x
+enum-known-x c = search needs
+
+enum-known-x-2 : tie.Need-enum-known-x-2
+enum-known-x-2 c = search needs
+
+returns : tie.Need-returns
+unfolding definePlan
+returns c = stops _ (bind-no _ _ (no-value-is _ (c .before .before .before .operand .ensures) (c .before .x2 .given .1)))
+
+operand-requires-2 : tie.Need-operand-requires-2
+operand-requires-2 c κs = (c .before .before .before .before .before .before .before .before .before .pre .0, c .before .before .before .before .before .before .before .before .before .pre .2)
+
+enum-known-y : tie.Need-enum-known-y
+enum-known-y c = search needs
+
+enum-known-y-2 : tie.Need-enum-known-y-2
+enum-known-y-2 c = search needs
+
+returns-2 : tie.Need-returns-2
+unfolding definePlan
+returns-2 c = stops _ (bind-yes _ _ (value-is _ (c .before .before .before .before .before .before .before .operand .ensures) (c .before .before .before .before .before .x .given .1)) ∙ bind-no _ _ (no-value-is _ (c .before .before .before .operand2 .ensures) (c .before .y2 .given .1)))
+
+operand-requires-3 : tie.Need-operand-requires-3
+operand-requires-3 c κs = (c .before .before .before .before .before .before .before .before .before .before .before .before .before .pre .0, c .before .before .before .before .before .before .before .before .before .before .before .before .before .pre .3)
+
+enum-known-z : tie.Need-enum-known-z
+enum-known-z c = search needs
+
+define-requires : tie.Need-define-requires
+define-requires c κs = (c .before .before .before .before .before .before .before .before .before .before .before .before .before .before .before .before .before .pre .0 .width, c .before .before .before .before .before .before .before .before .before .before .before .before .before .before .before .before .before .pre .4)
+
+enum-known-z-2 : tie.Need-enum-known-z-2
+enum-known-z-2 c = search needs
+
+returns-3 : tie.Need-returns-3
+unfolding definePlan
+returns-3 c = follows _ (bind-yes _ _ (value-is _ (c .before .before .before .before .before .before .before .before .before .before .before .before .operand .ensures) (c .before .before .before .before .before .before .before .before .before .before .x .given .1)) ∙ bind-yes _ _ (value-is _ (c .before .before .before .before .before .before .before .before .operand2 .ensures) (c .before .before .before .before .before .before .y .given .1)) ∙ bind-yes _ _ (value-is _ (c .before .before .before .before .operand3 .ensures) (c .before .before .z .given .1))) (c .define .ensures)
+
+returns-4 : tie.Need-returns-4
+unfolding definePlan
+returns-4 c = stops _ (bind-yes _ _ (value-is _ (c .before .before .before .before .before .before .before .before .before .before .before .operand .ensures) (c .before .before .before .before .before .before .before .before .before .x .given .1)) ∙ bind-yes _ _ (value-is _ (c .before .before .before .before .before .before .before .operand2 .ensures) (c .before .before .before .before .before .y .given .1)) ∙ bind-no _ _ (no-value-is _ (c .before .before .before .operand3 .ensures) (c .before .z2 .given .1)))
+
+pub plan-define-spec : {M : Type 1} → statement M
+plan-define-spec =
+    tie.close
+    (tie.spec
+    operand-requires
+    enum-known-x
+    enum-known-x-2
+    returns
+    operand-requires-2
+    enum-known-y
+    enum-known-y-2
+    returns-2
+    operand-requires-3
+    enum-known-z
+    define-requires
+    enum-known-z-2
+    returns-3
+    returns-4)

@@ -1,0 +1,62 @@
+-- `operations::actions::plan_swap` meets its contract: both located, and then each gets what the other held. Assumes nothing.
+use mathlib.Core.Path.{_∙_}
+use Rattle.machine.proofs.Checks.{bind-yes, bind-no}
+use Rattle.operands.proofs.Readable.{locate-reached}
+use Rattle.operands.proofs.Operands.{at-is, stopped-is}
+use Rattle.operations.specs.Plans.{swapPlan}
+use Rattle.operations.proofs.Answers.{does, stops}
+use Rattle.operations.proofs.Doing.{swaps}
+use borrow.Author.Needs.{needs}
+use Rattle.operations.proofs.actions.plan_swap.Statement.{statement}
+use Rattle.operations.proofs.actions.plan_swap.Tie as tie
+
+locate-requires : tie.Need-locate-requires
+locate-requires c κs = (c .before .before .before .before .pre .0, c .before .before .before .before .pre .1)
+
+enum-known-found : tie.Need-enum-known-found
+enum-known-found c = search needs
+
+enum-known-found-2 : tie.Need-enum-known-found-2
+enum-known-found-2 c = search needs
+
+returns : tie.Need-returns
+unfolding swapPlan
+returns c = stops _ (bind-no _ _ (stopped-is _ (c .before .before .before .locate .ensures) (c .before .found2 .given .1)))
+
+locate-requires-2 : tie.Need-locate-requires-2
+locate-requires-2 c κs = (c .before .before .before .before .before .before .before .before .pre .0, c .before .before .before .before .before .before .before .before .pre .2)
+
+enum-known-other : tie.Need-enum-known-other
+enum-known-other c = search needs
+
+enum-known-other-2 : tie.Need-enum-known-other-2
+enum-known-other-2 c = search needs
+
+returns-2 : tie.Need-returns-2
+unfolding swapPlan
+returns-2 c = stops _ (bind-yes _ _ (at-is _ (c .before .before .before .before .before .before .before .locate .ensures) (c .before .before .before .before .before .found .given .1)) ∙ bind-no _ _ (stopped-is _ (c .before .before .before .locate2 .ensures) (c .before .other2 .given .1)))
+
+contents-requires : tie.Need-contents-requires
+contents-requires c κs = (c .before .before .before .before .before .before .before .before .before .before .before .before .pre .0 .width, locate-reached _ _ (c .before .before .before .before .before .before .before .before .before .before .before .before .pre .0) _ (c .before .before .before .before .before .before .before .before .before .before .before .before .pre .2) _ (at-is _ (c .before .before .before .locate2 .ensures) (c .before .other .given .1)))
+
+contents-requires-2 : tie.Need-contents-requires-2
+contents-requires-2 c κs = (c .before .before .before .before .before .before .before .before .before .before .before .before .before .pre .0 .width, locate-reached _ _ (c .before .before .before .before .before .before .before .before .before .before .before .before .before .pre .0) _ (c .before .before .before .before .before .before .before .before .before .before .before .before .before .pre .1) _ (at-is _ (c .before .before .before .before .before .before .before .before .locate .ensures) (c .before .before .before .before .before .before .found .given .1)))
+
+returns-3 : tie.Need-returns-3
+returns-3 c = does _ (swaps _ _ _ (at-is _ (c .before .before .before .before .before .before .before .before .before .locate .ensures) (c .before .before .before .before .before .before .before .found .given .1)) (at-is _ (c .before .before .before .before .before .locate2 .ensures) (c .before .before .before .other .given .1)) (c .before .contents .ensures) (c .contents2 .ensures))
+
+pub plan-swap-spec : {M : Type 1} → statement M
+plan-swap-spec =
+    tie.close
+    (tie.spec
+    locate-requires
+    enum-known-found
+    enum-known-found-2
+    returns
+    locate-requires-2
+    enum-known-other
+    enum-known-other-2
+    returns-2
+    contents-requires
+    contents-requires-2
+    returns-3)
