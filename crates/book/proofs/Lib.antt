@@ -12,3 +12,4 @@ pub mod Reported
 pub mod Entered
 pub mod Demand3
 pub mod Shuts
+pub mod Runs

@@ -1,6 +1,6 @@
 -- Lists of steps from a fresh engine over one storage, what they report, and the book that is fed those reports.
 -- The lists are of events, newest first; each event so far is a step. Document 01: demand 3 and "The book". Assumes nothing.
-use Prim.Native.Nat.{ℕ}
+use Prim.Native.Nat.{ℕ, zero, suc}
 use mathlib.Core.Bool.{Bool, true, false, cond}
 use mathlib.Core.List.{List, [], _∷_}
 use mathlib.Core.Path.{_≡_}
@@ -11,7 +11,8 @@ use Rattle.machine.specs.declared.Report.{Report}
 use Rattle.machine.specs.State.{fresh, noSetUp}
 use Rattle.machine.specs.Storage.{noReport}
 use Rattle.machine.specs.Sound.{Lent, Engine}
-use Rattle.machine.specs.Step.{Outcome, Answers, engineOf, setUpAt}
+use Rattle.machine.specs.Answer.{isRunning}
+use Rattle.machine.specs.Step.{Outcome, Answers, step, engineOf, setUpAt}
 use Rattle.book.specs.Book.{Book, Entry, emptyBook, enter}
 
 -- an event: a step, with what was lent to it, the engine before it and what it left
@@ -24,6 +25,18 @@ pub data Leads (b : ℕ) (ws : List ℕ) : List Event → Engine → Type 0 wher
   begin : Leads b ws [] (record { state = fresh; storage = ws })
   after : {events : List Event} {e : Engine} → Leads b ws events e → (l : Lent) (o : Outcome) → Answers b l e o
       → Leads b ws (stepped l e o ∷ events) (engineOf o)
+
+-- these events and then the steps of a run, as runFrom takes them: step i of it asks choose i, count steps came before
+unfoldable pub withRun : ℕ → ℕ → (ℕ → List ℕ → ℕ) → ℕ → Lent → Engine → List Event → List Event
+withRun count b choose zero l e events = events
+withRun count b choose (suc limit) l e events =
+    let o : Outcome = step b (choose count) l e in
+    elim (isRunning (o .stepped .answer)) [
+      | true ↦
+          withRun (suc count) b choose limit (record { table = l .table; input = l .input; output = o .output }) (engineOf o)
+          (stepped l e o ∷ events)
+      | false ↦ stepped l e o ∷ events
+    ]
 
 unfoldable pub isRefused : Answer → Bool
 isRefused Running = false

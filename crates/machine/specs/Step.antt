@@ -1,4 +1,4 @@
--- One step, the relation "this step answers as demand 2 has it", and the run.
+-- One step, the run, and the relations "this step", "this run answers as demand 2 has it".
 -- Document 01: "Steps" and the order of all refusals. Assumes nothing.
 use Prim.Native.Nat.{ℕ, zero, suc, _-_}
 use mathlib.Core.Bool.{true, false, not, _&&_, cond}
@@ -190,3 +190,13 @@ runFrom count b choose (suc limit) l e =
 
 unfoldable pub run : ℕ → (ℕ → List ℕ → ℕ) → ℕ → Lent → Engine → RunOutcome
 run = runFrom 0
+
+-- the engine that a run leaves
+unfoldable pub engineRan : RunOutcome → Engine
+engineRan r = record { state = r .ran .state; storage = r .storage }
+
+-- this run answers as demand 2 has it: as an admissible address at each of its steps gives
+pub record RunAnswers (b limit : ℕ) (l : Lent) (e : Engine) (r : RunOutcome) : Type 0 where
+  pub choose : ℕ → List ℕ → ℕ
+  pub admissible : (i : ℕ) → Choice (choose i)
+  pub same : r ≡ run b choose limit l e
