@@ -1,9 +1,23 @@
-# make test: the gate. make fmt: lay every .rt and .antt file out.
-.PHONY: test fmt wrong expected
+# make tour: plays the sample museum. make test: the gate. The other targets stand beside what they do.
+SHELL = /bin/bash
+.SHELLFLAGS = -o pipefail -c
+.PHONY: tour tours tourrun test fmt wrong expected
+
+# Proves tourrun and builds it (minutes the first time), then plays the sample museum.
+tour: tourrun
+	tours/play tours/museum.tour
+
+# Plays every sample tour and compares what it prints with what its text says.
+tours: tourrun
+	tours/play --check tours/*.tour
+
+tourrun:
+	rt check tourrun | grep '^rt:'
 
 test:
 	bash .ci/run
 
+# Lays every .rt and .antt file out.
 fmt:
 	rt fmt
 
@@ -11,7 +25,9 @@ fmt:
 wrong:
 	bash .ci/wrong
 
-# Writes again what the programs leaves and allocations must print, computed independently.
+# Writes again what the programs must print, computed independently, and what tourrun reads.
 expected:
 	mkdir -p target && rustc -O -o target/leaves-reference reference/leaves.rs
 	for name in leaves allocations; do target/leaves-reference $$name > crates/$$name/stdout; done
+	tours/play --files tours/example.tour crates/tourrun/data
+	rm crates/tourrun/data/stops.in

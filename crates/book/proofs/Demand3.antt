@@ -2,19 +2,18 @@
 -- Assumes nothing.
 use Prim.Native.Nat.{ℕ, _^_, _<_}
 use native.Mathlib.Omega.{arith}
-use mathlib.Core.Bool.{true, false, cond, or-true}
+use mathlib.Core.Bool.{true, false, cond}
 use mathlib.Core.List.{List, [], _∷_, List·Memᴰ, List·Memᴰ·not-nil}
 use mathlib.Core.Logic.{_⊎_, inl, inr, _↔_}
 use mathlib.Core.Path.{_≡_, refl, ap, sym, subst, _∙_}
 use borrow.Author.Tests.{eqb-true, ne-eqb, lt-ltb, not-false}
 use lib.ListN.{length, take}
-use lib.Pow.{pow-pos}
 use Rattle.block.specs.declared.SetUp.{SetUp}
 use Rattle.block.specs.Blocks.{Block, size, level}
 use Rattle.block.specs.SetUp.{words, fitting, absent}
 use Rattle.block.specs.Map.{live, free, freshMap}
 use Rattle.block.proofs.Size.{size-pos, fitting-facts, absent-facts, words-none}
-use Rattle.block.proofs.Map.{live-none, free-none, keeps-absent}
+use Rattle.block.proofs.Map.{live-none, free-none}
 use Rattle.block.proofs.Each.{each-nil, each-mem}
 use Rattle.block.proofs.Tiling.{map-order}
 use Rattle.machine.specs.declared.Answer.{Answer}
@@ -23,16 +22,15 @@ use Rattle.machine.specs.declared.Refusal.{Refusal}
 use Rattle.machine.specs.declared.Refusal.the-variants.{NoRun}
 use Rattle.machine.specs.declared.State.{State}
 use Rattle.machine.specs.declared.Report.{Report}
-use Rattle.machine.specs.State.{fresh, noSetUp, undefined, testsOf, isSetUp, isFinished}
+use Rattle.machine.specs.State.{fresh, noSetUp, isSetUp, isFinished}
 use Rattle.machine.specs.Storage.{noStore, noReport}
-use Rattle.machine.specs.Sound.{Lent, Engine, isDefinition, soundPlace, isPlace, isRow}
+use Rattle.machine.specs.Sound.{Lent, Engine}
 use Rattle.machine.specs.Locate.{liveBlocks}
 use Rattle.machine.specs.Effects.{Effects, storageAfter, engineAfter}
 use Rattle.machine.specs.Step.{Outcome, Answers, unchanged, carriedOut, step, engineOf, setUpAt}
 use Rattle.machine.proofs.Checks.{or-parts}
-use Rattle.machine.proofs.Every.{below, every-none, every-replicate}
 use Rattle.machine.proofs.Facts.{CoreFacts, StorageFacts, Facts}
-use Rattle.machine.proofs.Located.{undefined-fits}
+use Rattle.machine.proofs.Fresh.{no-words, fresh-facts}
 use Rattle.machine.proofs.Live.{live-fits, live-lies}
 use Rattle.machine.proofs.Moves.{Moves, still, frees, delivers, SetsUp, Done}
 use Rattle.machine.proofs.Plan.{Planned, settingUp, moving, planned}
@@ -64,37 +62,11 @@ moves-setup (still s) = s .setup
 moves-setup (frees s) = s .setup
 moves-setup (delivers s) = s .setup
 
--- a fresh engine is sound
-fresh-core : (b : ℕ) → CoreFacts b (fresh .core)
-unfolding fresh testsOf soundPlace isPlace isRow
-fresh-core b =
-    record {
-      bugs = every-replicate (below (2 ^ b)) 26 0 (lt-ltb _ _ (pow-pos b));
-      definitions = every-replicate (isDefinition b) 36 undefined (undefined-fits b);
-      place = refl;
-      contents = record { few = omega arith; used = every-none (below (2 ^ b)) };
-      saved = record { few = omega arith; used = every-none (isDefinition b) };
-      calls = record { few = omega arith; used = every-none isPlace };
-    }
-
-no-words : words noSetUp ≡ 0
-unfolding words noSetUp
-no-words = refl
-
-fresh-storage : (b : ℕ) (ws : List ℕ) → StorageFacts b fresh ws
-unfolding fresh absent noSetUp
-fresh-storage b ws =
-    record {
-      numbers = or-true (fitting (length ws) noSetUp);
-      blocks = keeps-absent noSetUp 4096 no-words;
-      values = subst (λ n. Rattle.machine.specs.Sound.every (below (2 ^ b)) (take n ws) ≡ true) (sym no-words) (every-none (below (2 ^ b)));
-    }
-
 holds-at-first : (b : ℕ) (ws : List ℕ) → Holds b [] (record { state = fresh; storage = ws })
 unfolding bookAfter emptyBook blocks fresh
 holds-at-first b ws =
     record {
-      facts = record { core = fresh-core b; storage = fresh-storage b ws };
+      facts = fresh-facts b ws;
       matches = record {
         setup = refl;
         live = live-none noSetUp _ no-words;

@@ -10,6 +10,7 @@ ghost use Rattle.machine.specs.Storage.{noReport};
 ghost use Rattle.machine.specs.Step.{step as stepOf, run as runOf, lowest};
 ghost use Rattle.engine.specs.Walking.{walkFrom};
 
+pub mod answers;
 mod walks;
 
 use block::SetUp;

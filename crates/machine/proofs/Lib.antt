@@ -16,4 +16,5 @@ pub mod Plan
 pub mod Steps
 pub mod Keeps
 pub mod Counts
+pub mod Fresh
 pub mod Soundness

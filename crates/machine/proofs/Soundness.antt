@@ -1,16 +1,17 @@
--- A step keeps a sound state sound, with the same table and input lent and the output that the step left.
+-- A step and a run keep a sound state sound, with the same table and input lent and the output that they left.
 -- Assumes nothing.
-use Prim.Native.Nat.{ℕ, _≤_}
-use mathlib.Core.Bool.{true, _&&_}
+use Prim.Native.Nat.{ℕ, zero, suc, _≤_}
+use mathlib.Core.Bool.{true, false, _&&_}
 use mathlib.Core.List.{List}
 use mathlib.Core.Path.{_≡_, subst, sym}
 use borrow.Author.Tests.{leb-true, le-leb}
 use lib.Dec.{leb}
 use lib.ListN.{length}
+use Rattle.machine.specs.Answer.{isRunning}
 use Rattle.machine.specs.Storage.{placed}
 use Rattle.machine.specs.Sound.{Lent, Engine, sound, soundEngine}
 use Rattle.machine.specs.Effects.{engineAfter}
-use Rattle.machine.specs.Step.{Choice, Outcome, unchanged, carriedOut, step, engineOf}
+use Rattle.machine.specs.Step.{Choice, Outcome, RunOutcome, unchanged, carriedOut, step, engineOf, ending, runFrom, engineRan}
 use Rattle.machine.proofs.Checks.{and-parts, and-true}
 use Rattle.machine.proofs.Placed.{length-placed}
 use Rattle.machine.proofs.Facts.{facts-sound}
@@ -24,7 +25,7 @@ unfoldable pub next : Lent → Outcome → Lent
 next l o = record { table = l .table; input = l .input; output = o .output }
 
 -- the counts of a sound state
-counts-fit : (b : ℕ) (l : Lent) (e : Engine) → sound b l e ≡ true
+pub counts-fit : (b : ℕ) (l : Lent) (e : Engine) → sound b l e ≡ true
     → (e .state .core .taken ≤ length (l .input)) × (e .state .core .written ≤ length (l .output))
 unfolding sound
 counts-fit b l e s =
@@ -49,3 +50,25 @@ step-keeps-sound b choose l e choice s = go (stepping b choose l e)
         (and-true
         (and-true (facts-sound b (engineAfter b x e) (planned-facts b e h x l (planned b choose l e h choice f x p))) (le-leb _ _ (counted .taken)))
         (le-leb (x .state .core .written) _ (subst (λ (n : ℕ). x .state .core .written ≤ n) (sym long) (counted .written))))
+
+-- what is lent after a run
+unfoldable pub lentRan : Lent → RunOutcome → Lent
+lentRan l r = record { table = l .table; input = l .input; output = r .output }
+
+pub run-keeps-sound : (b : ℕ) (choose : ℕ → List ℕ → ℕ) → ((i : ℕ) → Choice (choose i)) → (count limit : ℕ) (l : Lent) (e : Engine)
+    → sound b l e ≡ true → sound b (lentRan l (runFrom count b choose limit l e)) (engineRan (runFrom count b choose limit l e)) ≡ true
+unfolding runFrom ending engineRan lentRan next engineOf
+run-keeps-sound b choose choice count zero l e s = s
+run-keeps-sound b choose choice count (suc limit) l e s =
+    let o : Outcome = step b (choose count) l e in
+    let fine = step-keeps-sound b (choose count) l e (choice count) s in
+    let rest : Lent = next l o in
+    elim (isRunning (o .stepped .answer)) as (λ t.
+    let r : RunOutcome = (elim t [
+      | true ↦ runFrom (suc count) b choose limit rest (engineOf o)
+      | false ↦ ending (o .stepped .answer) (suc count) (engineOf o) (o .output)
+    ]) in
+    sound b (lentRan l r) (engineRan r) ≡ true) [
+      | true ↦ run-keeps-sound b choose choice (suc count) limit rest (engineOf o) fine
+      | false ↦ fine
+    ]

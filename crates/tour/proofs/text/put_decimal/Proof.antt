@@ -1,0 +1,39 @@
+-- `tour::text::put_decimal` meets its contract. Assumes nothing.
+use mathlib.Core.Path.{_≡_}
+use native.Mathlib.Omega.{arith}
+use Rattle.tour.specs.Tour.{decimal}
+use Rattle.tour.proofs.Digits.{decimal-none, decimal-some}
+use borrow.Author.Needs.{needs}
+use Rattle.tour.proofs.text.put_decimal.Statement.{statement}
+use Rattle.tour.proofs.text.put_decimal.Tie as tie
+
+put-requires : tie.Need-put-requires
+put-requires c κs =
+    let one = decimal-none (c .before .before .before .args .n) (c .before .if1 .taken) in
+    (rw one at (c .before .before .before .pre .0), c .before .before .before .pre .1)
+
+same-length : tie.Need-same-length
+same-length c = search needs
+
+returns : tie.Need-returns
+returns c = let one = decimal-none (c .before .before .before .before .before .before .args .n) (c .before .before .before .before .if1 .taken) in (rw one (c .before .before .put .ensures .0), rw one (c .before .before .put .ensures .1))
+
+put-digits-requires : tie.Need-put-digits-requires
+put-digits-requires c κs = (rw (decimal-some (c .before .before .before .args .n) (c .before .if1 .left)) at (c .before .before .before .pre .0), c .before .before .before .pre .1)
+
+same-length-2 : tie.Need-same-length-2
+same-length-2 c = search needs
+
+returns-2 : tie.Need-returns-2
+returns-2 c = let some = decimal-some (c .before .before .before .before .before .before .args .n) (c .before .before .before .before .if1 .left) in (rw some (c .before .before .put-digits .ensures .0), rw some (c .before .before .put-digits .ensures .1))
+
+pub put-decimal-spec : {M : Type 1} → statement M
+put-decimal-spec =
+    tie.close
+    (tie.spec
+    put-requires
+    same-length
+    returns
+    put-digits-requires
+    same-length-2
+    returns-2)

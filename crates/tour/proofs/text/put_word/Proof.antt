@@ -1,0 +1,65 @@
+-- `tour::text::put_word` meets its contract. The loop's invariant: the characters from left on are put. Assumes nothing.
+use mathlib.Core.List.{_∷_, []}
+use mathlib.Core.Path.{_≡_}
+use native.Mathlib.Omega.{arith}
+use Prim.Native.Nat.{_≤_}
+use lib.ListN.{length, drop, length-drop}
+use lib.Seq.{drop-length}
+use Rattle.tour.proofs.Putting.{Put, start, more, same-length as kept, one-before}
+use borrow.Author.Needs.{needs}
+use Rattle.tour.proofs.text.put_word.Statement.{statement}
+use Rattle.tour.proofs.text.put_word.Tie as tie
+
+abbrev Inv-loop : tie.InvT-loop
+Inv-loop text₀ at word place₀ left₀ text place left = (left ≤ length word) × Put at (drop left word) text₀ text place
+
+abbrev μ-loop : tie.MeasureT-loop
+μ-loop text₀ at word place₀ left₀ text place left = left
+
+loop-holds : tie.Need-loop-holds Inv-loop μ-loop
+loop-holds c = (omega arith, rw (drop-length (c .before .before .args .word .now)) (start (c .before .before .args .at) (c .before .before .args .text .now) (c .before .before .pre .1)))
+
+sub-left : tie.Need-sub-left Inv-loop μ-loop
+sub-left c = search needs
+
+shared-slice-read-put : tie.Need-shared-slice-read-put Inv-loop μ-loop
+shared-slice-read-put c = search needs
+
+put-requires : tie.Need-put-requires Inv-loop μ-loop
+put-requires c κs =
+    let p = c .before .before .before .loop .inv .1 in
+    let long = length-drop (c .before .before .before .loop .left) (c .before .before .before .before .before .before .args .word .now) in
+    (omega (arith, p .starts, p .inside), omega (arith, p .starts, p .inside, kept p))
+
+loop-less : tie.Need-loop-less Inv-loop μ-loop
+loop-less c = search needs
+
+loop-again : tie.Need-loop-again Inv-loop μ-loop
+loop-again c =
+    let p = c .before .before .before .before .before .before .loop .inv .1 in
+    let long = length-drop (c .before .before .before .before .before .before .loop .left) (c .before .before .before .before .before .before .before .before .before .args .word .now) in
+    (omega arith, rw (one-before (c .before .before .before .before .before .before .before .before .before .args .word .now) (c .before .before .before .before .before .before .loop .left) (omega arith) (c .before .before .before .before .before .before .loop .inv .0)) (more p (_ ∷ []) (c .before .before .put .ensures .0) (c .before .before .put .ensures .1)))
+
+same-length : tie.Need-same-length Inv-loop μ-loop
+same-length c = kept (c .before .loop .inv .1)
+
+returns : tie.Need-returns Inv-loop μ-loop
+returns c =
+    let none : c .before .loop .left ≡ 0 = omega arith in
+    let p = rw none at (c .before .loop .inv .1) in
+    (p .starts, p .buffer)
+
+pub put-word-spec : {M : Type 1} → statement M
+put-word-spec =
+    tie.close
+    (tie.spec
+    Inv-loop
+    μ-loop
+    loop-holds
+    sub-left
+    shared-slice-read-put
+    put-requires
+    loop-less
+    loop-again
+    same-length
+    returns)
