@@ -1,8 +1,9 @@
 -- What an action asks for and what carrying it out leaves, by its case. Assumes nothing.
 use Prim.Native.Nat.{ℕ, _+_, _≤_, _<_}
 use mathlib.Core.Bool.{true}
-use mathlib.Core.List.{List, _++_}
-use mathlib.Core.Path.{_≡_, subst}
+use mathlib.Core.List.{List, [], _∷_, _++_}
+use mathlib.Core.Path.{_≡_, refl, subst}
+use types.Run.{miss}
 use lib.ListN.{length, set, take, drop, replicate}
 use Rattle.character.specs.Character.{printed}
 use Rattle.character.proofs.Digits.{length-printed}
@@ -19,6 +20,7 @@ use Rattle.operations.specs.declared.Action.{Action}
 use Rattle.operations.specs.declared.Action.the-variants.{Nothing, Store, StoreTwo, SetUpWords, Define, Deliver, DeliverTwo, Free, Input, Print, Save, Restore, SaveDefinition, RestoreDefinition, Call, Return}
 use Rattle.commit.specs.Carried.{bugsAfter, entriesAfter, mapAfter, zeroed, copied, wordsAfter, outputAfter}
 use Rattle.commit.specs.Feasible.{Ground, Run, Copy, ReachedIn, Feasible}
+use Rattle.commit.proofs.Others.{Among}
 
 -- what an action asks for
 module _ (b : ℕ) (g : Ground) {x : Action} (h : Feasible b g x) where
@@ -94,31 +96,31 @@ Leaves b u count written bugs entries m ws out x bugs′ entries′ m′ ws′ o
     × (ws′ ≡ wordsAfter b (u .s1) x ws)
     × (out′ ≡ outputAfter written x out)
 
+-- actions that leave them all
+abbrev idle : List ℕ
+idle = 0 ∷ 4 ∷ 12 ∷ 13 ∷ 14 ∷ 15 ∷ []
+
+module _ (b : ℕ) (u : SetUp) (count written : ℕ) (bugs entries m ws out : List ℕ) where
+  pub idles : (x : Action) → Among idle x → Leaves b u count written bugs entries m ws out x bugs entries m ws out
+  unfolding bugsAfter entriesAfter mapAfter wordsAfter outputAfter
+  idles Nothing h = (refl, refl, refl, refl, refl)
+  idles (Store at v) h = absurd (miss idle 1 tt h)
+  idles (StoreTwo a v y w) h = absurd (miss idle 2 tt h)
+  idles (SetUpWords w) h = absurd (miss idle 3 tt h)
+  idles (Define f d) h = (refl, refl, refl, refl, refl)
+  idles (Deliver address n from a) h = absurd (miss idle 5 tt h)
+  idles (DeliverTwo address n a a2 v) h = absurd (miss idle 6 tt h)
+  idles (Free address at v) h = absurd (miss idle 7 tt h)
+  idles (Input at v n) h = absurd (miss idle 8 tt h)
+  idles (Print n width v) h = absurd (miss idle 9 tt h)
+  idles (Save v) h = absurd (miss idle 10 tt h)
+  idles (Restore at v) h = absurd (miss idle 11 tt h)
+  idles (SaveDefinition f) h = (refl, refl, refl, refl, refl)
+  idles (RestoreDefinition f) h = (refl, refl, refl, refl, refl)
+  idles (Call row) h = (refl, refl, refl, refl, refl)
+  idles Return h = (refl, refl, refl, refl, refl)
+
 module _ (b : ℕ) (u : SetUp) (count written : ℕ) (bugs entries m ws out : List ℕ) {x : Action} where
-  pub did-nothing : x ≡ Nothing → Leaves b u count written bugs entries m ws out x bugs entries m ws out
-  unfolding bugsAfter entriesAfter mapAfter wordsAfter outputAfter
-  did-nothing e = (rw e, rw e, rw e, rw e, rw e)
-
-  pub did-define : {f : FieldName} {d : Definition} → x ≡ Define f d → Leaves b u count written bugs entries m ws out x bugs entries m ws out
-  unfolding bugsAfter entriesAfter mapAfter wordsAfter outputAfter
-  did-define e = (rw e, rw e, rw e, rw e, rw e)
-
-  pub did-save-definition : {f : FieldName} → x ≡ SaveDefinition f → Leaves b u count written bugs entries m ws out x bugs entries m ws out
-  unfolding bugsAfter entriesAfter mapAfter wordsAfter outputAfter
-  did-save-definition e = (rw e, rw e, rw e, rw e, rw e)
-
-  pub did-restore-definition : {f : FieldName} → x ≡ RestoreDefinition f → Leaves b u count written bugs entries m ws out x bugs entries m ws out
-  unfolding bugsAfter entriesAfter mapAfter wordsAfter outputAfter
-  did-restore-definition e = (rw e, rw e, rw e, rw e, rw e)
-
-  pub did-call : {row : ℕ} → x ≡ Call row → Leaves b u count written bugs entries m ws out x bugs entries m ws out
-  unfolding bugsAfter entriesAfter mapAfter wordsAfter outputAfter
-  did-call e = (rw e, rw e, rw e, rw e, rw e)
-
-  pub did-return : x ≡ Return → Leaves b u count written bugs entries m ws out x bugs entries m ws out
-  unfolding bugsAfter entriesAfter mapAfter wordsAfter outputAfter
-  did-return e = (rw e, rw e, rw e, rw e, rw e)
-
   -- one store
   module _ {at : Location} {v : ℕ} where
     pub did-store : x ≡ Store at v → {bugs′ ws′ : List ℕ} → (bugs′ ≡ bugsStored b at v bugs) × (ws′ ≡ wordsStored b (u .s1) at v ws)

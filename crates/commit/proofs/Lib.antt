@@ -2,5 +2,6 @@
 pub mod Engines
 pub mod Pasted
 pub mod Delivering
+pub mod Others
 pub mod Carrying
 pub mod Turning

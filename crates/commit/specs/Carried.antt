@@ -17,6 +17,7 @@ use Rattle.operands.specs.Storing.{bugsStored, wordsStored}
 use Rattle.operations.specs.declared.Counts.{Counts}
 use Rattle.operations.specs.declared.Action.{Action}
 use Rattle.operations.specs.declared.Action.the-variants.{Nothing, Store, StoreTwo, SetUpWords, Define, Deliver, DeliverTwo, Free, Input, Print, Save, Restore, SaveDefinition, RestoreDefinition, Call, Return}
+use Rattle.commit.specs.declared.Onward.{Onward}
 use Rattle.commit.specs.declared.Records.{Records}
 
 -- the bugs
@@ -224,3 +225,7 @@ isRecorded (SaveDefinition f) = true
 isRecorded (RestoreDefinition f) = true
 isRecorded (Call row) = true
 isRecorded Return = true
+
+-- where an action leads besides: set-up numbers, counts, and whether it is one of these
+abbrev pub onward : Action → SetUp → Counts → Onward
+onward x u c = record { setup = setupAfter x u; counts = countsAfter x c; recorded = isRecorded x }

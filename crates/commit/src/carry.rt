@@ -62,7 +62,6 @@ pub fn carry_out(
     ensures { λ _. ⌜ (now (bugs .exit) ≡ bugsAfter b action (now (bugs .entry))) × (now (entries .exit) ≡ entriesAfter (counts .contents) action (now (entries .entry))) × (now (map .exit) ≡ mapAfter setup action (now (map .entry))) × (now (storage .exit) ≡ wordsAfter b (setup .s1) action (now (storage .entry))) × (now (output .exit) ≡ outputAfter (counts .written) action (now (output .entry))) ⌝ }
 {
     match action {
-        Action::Nothing => {}
         Action::Store(at, v) => store(b, bugs, setup.s1, storage, at, v),
         Action::StoreTwo(a, v, c, x) => {
             store(b, &mut *bugs, setup.s1, &mut *storage, a, v);
@@ -72,7 +71,6 @@ pub fn carry_out(
             set_up(u, map);
             zero_words(storage, 0, words_of(u));
         }
-        Action::Define(_, _) => {}
         Action::Deliver(address, n, from, a) => {
             take_run(setup, map, &mut *storage, address, n, from);
             store(b, bugs, setup.s1, storage, a, address);
@@ -99,9 +97,6 @@ pub fn carry_out(
             entries[top] = v;
         }
         Action::Restore(at, v) => store(b, bugs, setup.s1, storage, at, v),
-        Action::SaveDefinition(_) => {}
-        Action::RestoreDefinition(_) => {}
-        Action::Call(_) => {}
-        Action::Return => {}
+        _ => {}
     }
 }

@@ -3,8 +3,9 @@ ghost use mathlib.Core.Path.{_≡_};
 ghost use Prim.Native.Nat.{_+_, _-_, _≤_, _<_};
 ghost use lib.ListN.{getD, set};
 ghost use Rattle.machine.specs.State.{undefined, testsOf, theEnd};
-ghost use Rattle.commit.specs.Carried.{recording, setupAfter, countsAfter, placeAfter, recordsAfter, isRecorded};
+ghost use Rattle.commit.specs.Carried.{recording, onward, placeAfter, recordsAfter};
 ghost use Rattle.commit.specs.Feasible.{Countable, Counted};
+use crate::Onward;
 use crate::Records;
 use crate::Turned;
 use block::SetUp;
@@ -14,78 +15,44 @@ use operations::Action;
 use operations::Counts;
 use table::FieldName;
 
-// The set-up numbers after an action.
-pub fn setup_after(action: Action, setup: SetUp) -> SetUp
-    ensures { λ r. ⌜ r ≡ setupAfter action setup ⌝ }
-{
-    match action {
-        Action::Nothing => setup,
-        Action::Store(_, _) => setup,
-        Action::StoreTwo(_, _, _, _) => setup,
-        Action::SetUpWords(u) => u,
-        Action::Define(_, _) => setup,
-        Action::Deliver(_, _, _, _) => setup,
-        Action::DeliverTwo(_, _, _, _, _) => setup,
-        Action::Free(_, _, _) => setup,
-        Action::Input(_, _, _) => setup,
-        Action::Print(_, _, _) => setup,
-        Action::Save(_) => setup,
-        Action::Restore(_, _) => setup,
-        Action::SaveDefinition(_) => setup,
-        Action::RestoreDefinition(_) => setup,
-        Action::Call(_) => setup,
-        Action::Return => setup,
-    }
-}
-
-// The counts after an action, with an input and an output of these lengths.
-pub fn counts_after(action: Action, counts: Counts, given: usize, room: usize) -> Counts
+// Where an action leads: the set-up numbers, how far stacks, input and output are used, of which the lengths are given, and whether
+// the action changes the records or goes to a place by the calls.
+pub fn go_on(action: Action, setup: SetUp, counts: Counts, given: usize, room: usize) -> Onward
     requires { ⌜ Counted counts given room action ⌝ }
-    ensures { λ r. ⌜ r ≡ countsAfter action counts ⌝ }
+    ensures { λ r. ⌜ r ≡ onward action setup counts ⌝ }
 {
+    let mut next = setup;
     let mut after = counts;
+    let mut recorded = false;
     match action {
-        Action::Nothing => {}
-        Action::Store(_, _) => {}
-        Action::StoreTwo(_, _, _, _) => {}
-        Action::SetUpWords(_) => {}
-        Action::Define(_, _) => {}
-        Action::Deliver(_, _, _, _) => {}
-        Action::DeliverTwo(_, _, _, _, _) => {}
-        Action::Free(_, _, _) => {}
+        Action::SetUpWords(u) => next = u,
+        Action::Define(_, _) => recorded = true,
         Action::Input(_, _, n) => after.taken = counts.taken + n as usize,
         Action::Print(n, _, _) => after.written = counts.written + n as usize,
         Action::Save(_) => after.contents = counts.contents + 1,
         Action::Restore(_, _) => after.contents = counts.contents - 1,
-        Action::SaveDefinition(_) => after.saved = counts.saved + 1,
-        Action::RestoreDefinition(_) => after.saved = counts.saved - 1,
-        Action::Call(_) => after.calls = counts.calls + 1,
-        Action::Return => after.calls = counts.calls - 1,
+        Action::SaveDefinition(_) => {
+            after.saved = counts.saved + 1;
+            recorded = true;
+        }
+        Action::RestoreDefinition(_) => {
+            after.saved = counts.saved - 1;
+            recorded = true;
+        }
+        Action::Call(_) => {
+            after.calls = counts.calls + 1;
+            recorded = true;
+        }
+        Action::Return => {
+            after.calls = counts.calls - 1;
+            recorded = true;
+        }
+        _ => {}
     }
-    after
-}
-
-// Whether an action changes the records, or goes to a place by the calls.
-pub fn is_recorded(action: Action) -> bool
-    ensures { λ r. ⌜ r ≡ isRecorded action ⌝ }
-{
-    match action {
-        Action::Nothing => false,
-        Action::Store(_, _) => false,
-        Action::StoreTwo(_, _, _, _) => false,
-        Action::SetUpWords(_) => false,
-        Action::Define(_, _) => true,
-        Action::Deliver(_, _, _, _) => false,
-        Action::DeliverTwo(_, _, _, _, _) => false,
-        Action::Free(_, _, _) => false,
-        Action::Input(_, _, _) => false,
-        Action::Print(_, _, _) => false,
-        Action::Save(_) => false,
-        Action::Restore(_, _) => false,
-        Action::SaveDefinition(_) => true,
-        Action::RestoreDefinition(_) => true,
-        Action::Call(_) => true,
-        Action::Return => true,
+    Onward {
+        setup: next,
+        counts: after,
+        recorded: recorded,
     }
 }
 
@@ -193,18 +160,7 @@ pub fn turned(action: Action, to: Place, counts: Counts, records: Records) -> Tu
     ensures { λ r. ⌜ (r .place ≡ placeAfter action to (records .calls) (counts .calls)) × (r .records ≡ recordsAfter action to counts records) ⌝ }
 {
     match action {
-        Action::Nothing => turn(to, records),
-        Action::Store(_, _) => turn(to, records),
-        Action::StoreTwo(_, _, _, _) => turn(to, records),
-        Action::SetUpWords(_) => turn(to, records),
         Action::Define(f, x) => turn(to, defined(records, f, x)),
-        Action::Deliver(_, _, _, _) => turn(to, records),
-        Action::DeliverTwo(_, _, _, _, _) => turn(to, records),
-        Action::Free(_, _, _) => turn(to, records),
-        Action::Input(_, _, _) => turn(to, records),
-        Action::Print(_, _, _) => turn(to, records),
-        Action::Save(_) => turn(to, records),
-        Action::Restore(_, _) => turn(to, records),
         Action::SaveDefinition(f) => turn(to, saved(records, counts.saved, f)),
         Action::RestoreDefinition(f) => turn(to, restored(records, counts.saved, f)),
         Action::Call(row) => turn(tests_of(row), called(records, counts.calls, to)),
@@ -212,5 +168,6 @@ pub fn turned(action: Action, to: Place, counts: Counts, records: Records) -> Tu
             let calls = records.calls;
             turn(returned(calls, counts.calls), records)
         }
+        _ => turn(to, records),
     }
 }

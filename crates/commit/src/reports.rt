@@ -63,11 +63,8 @@ pub fn report_of(action: Action) -> Report
     ensures { λ r. ⌜ r ≡ reportOf action ⌝ }
 {
     match action {
-        Action::Nothing => tell(0, 0, 0, 0, no_store(), no_store()),
         Action::Store(at, v) => tell(0, 0, 0, 0, store_to(at, v), no_store()),
         Action::StoreTwo(a, v, c, x) => tell(0, 0, 0, 0, store_to(a, v), store_to(c, x)),
-        Action::SetUpWords(_) => tell(0, 0, 0, 0, no_store(), no_store()),
-        Action::Define(_, _) => tell(0, 0, 0, 0, no_store(), no_store()),
         Action::Deliver(address, n, from, a) => tell(
             0,
             address,
@@ -86,12 +83,7 @@ pub fn report_of(action: Action) -> Report
         ),
         Action::Free(address, at, v) => tell(address, 0, 0, 0, store_to(at, v), no_store()),
         Action::Input(at, v, _) => tell(0, 0, 0, 0, store_to(at, v), no_store()),
-        Action::Print(_, _, _) => tell(0, 0, 0, 0, no_store(), no_store()),
-        Action::Save(_) => tell(0, 0, 0, 0, no_store(), no_store()),
         Action::Restore(at, v) => tell(0, 0, 0, 0, store_to(at, v), no_store()),
-        Action::SaveDefinition(_) => tell(0, 0, 0, 0, no_store(), no_store()),
-        Action::RestoreDefinition(_) => tell(0, 0, 0, 0, no_store(), no_store()),
-        Action::Call(_) => tell(0, 0, 0, 0, no_store(), no_store()),
-        Action::Return => tell(0, 0, 0, 0, no_store(), no_store()),
+        _ => tell(0, 0, 0, 0, no_store(), no_store()),
     }
 }

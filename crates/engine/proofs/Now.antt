@@ -1,10 +1,10 @@
 -- A turn of a walk by the walk's locals. Assumes nothing.
 use Prim.Native.Nat.{ℕ, _+_, _-_, _%_, _≤_, _<_}
 use native.Mathlib.Omega.{arith}
-use mathlib.Core.Bool.{Bool, true, false}
+use mathlib.Core.Bool.{Bool, true, false, cond, _||_}
 use mathlib.Core.List.{List}
 use mathlib.Core.Path.{_≡_, refl, sym, ap, subst, _∙_}
-use borrow.Author.Tests.{eq-eqb, ne-eqb}
+use borrow.Author.Tests.{eqb-false}
 use lib.Dec.{eqb}
 use lib.ListN.{length}
 use Rattle.block.specs.declared.SetUp.{SetUp}
@@ -33,8 +33,9 @@ use Rattle.operations.proofs.Answers.{clash}
 use Rattle.plans.specs.Steps.{Plan, stepPlan}
 use Rattle.plans.specs.Answers.{answered}
 use Rattle.plans.proofs.Ready.{ready-is}
+use Rattle.commit.specs.declared.Onward.{Onward}
 use Rattle.commit.specs.declared.Records.{Records}
-use Rattle.commit.specs.Carried.{bugsAfter, entriesAfter, mapAfter, wordsAfter, outputAfter, setupAfter, countsAfter, placeAfter, recordsAfter, isRecorded}
+use Rattle.commit.specs.Carried.{bugsAfter, entriesAfter, mapAfter, wordsAfter, outputAfter, placeAfter, recordsAfter, onward}
 use Rattle.commit.specs.Feasible.{ground, Feasible, Countable, Counted}
 use Rattle.commit.specs.Reported.{reportOf, Reportable}
 use Rattle.commit.specs.Then.{coreWith, engineWith, engineThen, recordsOf}
@@ -43,7 +44,7 @@ use Rattle.commit.proofs.Turning.{feasible-reportable}
 use Rattle.engine.specs.declared.Walked.{Walked}
 use Rattle.engine.specs.Walking.{Walk, walks, walkFrom}
 use Rattle.engine.proofs.Able.{Able, plan-able}
-use Rattle.engine.proofs.Turns.{lends, Going, going-refused, going-finished, going-last, going-next, going-first}
+use Rattle.engine.proofs.Turns.{lends, Going, going-refused, going-ends, going-next, going-first}
 
 -- an answer taken apart
 plan-is : (k : Checked Plan) {answer : Planned} {to : Place} {x : Action} → answer ≡ answered k → answer ≡ Does to x → k ≡ passed (record { to = to; action = x })
@@ -60,11 +61,17 @@ no-plan-is (passed y) is made = clash cc
 no-plan-is (refused q) {r = r} is made = let same : r ≡ q = cc in ap refused (sym same)
 
 -- where an action is not recorded, place and records are as they were planned
-pub kept-turn : (x : Action) (to : Place) (c : Counts) (r : Records) {t : Bool} → t ≡ isRecorded x → t ≡ false → {place : Place} {records : Records} → place ≡ to → records ≡ r
+pub kept-turn : (x : Action) (to : Place) (u : SetUp) (c : Counts) (r : Records) {next : Onward} → next ≡ onward x u c → next .recorded ≡ false
+    → {place : Place} {records : Records} → place ≡ to → records ≡ r
     → (place ≡ placeAfter x to (r .calls) (c .calls)) × (records ≡ recordsAfter x to c r)
-kept-turn x to c r is other same also =
-    let (stays, same-records) = not-recorded x to (r .calls) (c .calls) c r (sym is ∙ other) in
+kept-turn x to u c r is other same also =
+    let (stays, same-records) = not-recorded x to (r .calls) (c .calls) c r (ap (λ (n : Onward). n .recorded) (sym is) ∙ other) in
     (same ∙ sym stays, also ∙ sym same-records)
+
+-- of two tests none holds
+neither : (s t : Bool) → (s || t) ≡ false → (s ≡ false) × (t ≡ false)
+neither true t e = clash cc
+neither false t e = (refl, e)
 
 -- what a walk returns
 abbrev pub returning : Walked → List ℕ → List ℕ → Walk
@@ -106,44 +113,37 @@ module _ (b : ℕ) (table input : List ℕ) (start : Walk) (limit count : ℕ) (
       pub reportable-now : Reportable x
       reportable-now = feasible-reportable b _ x narrow (able .feasible)
 
-      module _ {place′ : Place} {bugs′ : List ℕ} {records′ : Records} {entries′ : List ℕ} {counts′ : Counts} {setup′ : SetUp} {map′ storage′ output′ : List ℕ}
+      module _ {place′ : Place} {bugs′ : List ℕ} {records′ : Records} {entries′ : List ℕ} {next : Onward} {map′ storage′ output′ : List ℕ}
           (turn : (place′ ≡ placeAfter x to (records .calls) (counts .calls)) × (records′ ≡ recordsAfter x to counts records))
           (carried : (bugs′ ≡ bugsAfter b x bugs) × (entries′ ≡ entriesAfter (counts .contents) x entries) × (map′ ≡ mapAfter setup x map)
           × (storage′ ≡ wordsAfter b (setup .s1) x storage) × (output′ ≡ outputAfter (counts .written) x output))
-          (counted : counts′ ≡ countsAfter x counts) (set-up : setup′ ≡ setupAfter x setup) where
-        then-now : engineThen b to x e ≡ engineWith place′ bugs′ records′ entries′ counts′ setup′ map′ storage′
-        then-now = rw (turn .0, turn .1, carried .0, carried .1, carried .2, carried .3, counted, set-up)
+          (goes : next ≡ onward x setup counts) where
+        abbrev f : Engine
+        f = engineWith place′ bugs′ records′ entries′ (next .counts) (next .setup) map′ storage′
+
+        then-now : engineThen b to x e ≡ f
+        then-now = rw (turn .0, turn .1, carried .0, carried .1, carried .2, carried .3, goes)
 
         ends : {end : Bool} → eqb (place′ .kind) 3 ≡ end → isFinished (engineThen b to x e .state .core .place) ≡ end
         unfolding isFinished
         ends k = ap (λ (f : Engine). eqb (f .state .core .place .kind) 3) then-now ∙ k
 
-        module _ {report : Report} (told : report ≡ reportOf x) {r : Walked} where
-          pub finished-now : place′ .kind ≡ 3
-              → r ≡ record { state = record { core = coreWith place′ bugs′ records′ entries′ counts′ setup′; map = map′ }; answer = Finished; report = report; count = count + 1 }
-              → returning r storage′ output′ ≡ start
-          unfolding world
-          finished-now end same =
-              rw (same, told, carried .4)
-              (ap (λ (f : Engine). walks (f .state) Finished (reportOf x) (count + 1) (f .storage) (outputAfter (counts .written) x output)) (sym then-now)
-              ∙ going-finished b table input start limit count output e g fits _ (plan-is _ is made) (able .sure) (ends (eq-eqb (place′ .kind) 3 end)))
+        pub ended-now : (eqb (place′ .kind) 3 || eqb (count + 1) limit) ≡ true → {answer : Answer} → answer ≡ cond (isFinished place′) Finished Running
+            → {report : Report} → report ≡ reportOf x → {r : Walked}
+            → r ≡ record { state = f .state; answer = answer; report = report; count = count + 1 } → returning r storage′ output′ ≡ start
+        unfolding world isFinished
+        ended-now over answers told same =
+            rw (same, answers, told, carried .4)
+            (ap (λ (f : Engine). walks (f .state) (cond (eqb (place′ .kind) 3) Finished Running) (reportOf x) (count + 1) (f .storage) (outputAfter (counts .written) x output)) (sym then-now)
+            ∙ going-ends b table input start limit count output e g fits _ (plan-is _ is made) (able .sure) _ (ends refl) over)
 
-          pub last-now : (place′ .kind ≡ 3 → ⊥) → count + 1 ≡ limit
-              → r ≡ record { state = record { core = coreWith place′ bugs′ records′ entries′ counts′ setup′; map = map′ }; answer = Running; report = report; count = count + 1 }
-              → returning r storage′ output′ ≡ start
-          unfolding world
-          last-now on all same =
-              rw (same, told, carried .4)
-              (ap (λ (f : Engine). walks (f .state) Running (reportOf x) (count + 1) (f .storage) (outputAfter (counts .written) x output)) (sym then-now)
-              ∙ going-last b table input start limit count output e g fits _ (plan-is _ is made) (able .sure) (ends (ne-eqb (place′ .kind) 3 on)) all)
-
-        pub next-now : (place′ .kind ≡ 3 → ⊥) → (count + 1 ≡ limit → ⊥)
-            → Going b table input start limit (count + 1) output′ (engineWith place′ bugs′ records′ entries′ counts′ setup′ map′ storage′)
+        pub next-now : (eqb (place′ .kind) 3 || eqb (count + 1) limit) ≡ false → Going b table input start limit (count + 1) output′ f
         unfolding world
-        next-now on more =
-            subst (λ (out : List ℕ). Going b table input start limit (count + 1) out (engineWith place′ bugs′ records′ entries′ counts′ setup′ map′ storage′)) (sym (carried .4))
+        next-now on =
+            let (unfinished, more) = neither _ _ on in
+            subst (λ (out : List ℕ). Going b table input start limit (count + 1) out f) (sym (carried .4))
             (subst (Going b table input start limit (count + 1) (outputAfter (counts .written) x output)) then-now
-            (going-next b table input start limit count output e g fits _ (plan-is _ is made) (able .sure) (ends (ne-eqb (place′ .kind) 3 on)) more))
+            (going-next b table input start limit count output e g fits _ (plan-is _ is made) (able .sure) (ends unfinished) (eqb-false _ _ more)))
 
 -- what a walk returns, by its core
 pub with-core : {c d : Core} → c ≡ d → {map : List ℕ} {answer : Answer} {report : Report} {count : ℕ}
@@ -165,10 +165,6 @@ pub starts : (b : ℕ) (table input : List ℕ) (limit : ℕ) (output : List ℕ
     limit 0 output (engineWith (core .place) (core .bugs) records (core .contents .entries) counts (core .setup) map storage)
 starts b table input limit output core map storage r c some fine unfinished =
     going-first b table input limit output _ some (rw (r, c) fine) unfinished
-
--- the output is as long after as before
-pub counted-later : {given room later : ℕ} {c : Counts} {x : Action} → later ≡ room → Counted c given room x → Counted c given later x
-counted-later same k = record { countable = k .countable; input = k .input; output = k .output ∙ sym same }
 
 -- and by its report
 pub with-report : {p q : Report} → p ≡ q → {state : State} {answer : Answer} {count : ℕ}

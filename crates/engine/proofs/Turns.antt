@@ -3,9 +3,11 @@ use Prim.Native.Nat.{ℕ, zero, suc, _+_, _-_, _≤_, _<_}
 use native.Mathlib.Nat.{sub-zero}
 use native.Mathlib.Numerals.{add-one}
 use native.Mathlib.Omega.{arith}
-use mathlib.Core.Bool.{Bool, true, false, cond}
+use mathlib.Core.Bool.{Bool, true, false, cond, _||_}
 use mathlib.Core.List.{List}
 use mathlib.Core.Path.{_≡_, refl, sym, ap, subst, _∙_}
+use borrow.Author.Tests.{eqb-true}
+use lib.Dec.{eqb}
 use lib.ListN.{length}
 use Rattle.table.specs.Row.{lengthFits}
 use Rattle.machine.specs.declared.Place.{Place}
@@ -143,7 +145,7 @@ module _ (b : ℕ) (table input : List ℕ) (start : Walk) (limit count : ℕ) (
     does : step b lowest l e ≡ leaves after (reportOf (p .action)) out
     does = step-does b l e (g .fine) (g .unfinished) fits p k sure
 
-    pub going-finished : isFinished (after .state .core .place) ≡ true
+    going-finished : isFinished (after .state .core .place) ≡ true
         → walks (after .state) Finished (reportOf (p .action)) (count + 1) (after .storage) out ≡ start
     unfolding ending isRunning
     going-finished end =
@@ -157,12 +159,18 @@ module _ (b : ℕ) (table input : List ℕ) (start : Walk) (limit count : ℕ) (
         → step b lowest l e ≡ record { stepped = record { state = after .state; answer = Running; report = reportOf (p .action) }; storage = after .storage; output = out }
     goes on = does ∙ rw on
 
-    pub going-last : isFinished (after .state .core .place) ≡ false → count + 1 ≡ limit
+    going-last : isFinished (after .state .core .place) ≡ false → count + 1 ≡ limit
         → walks (after .state) Running (reportOf (p .action)) (count + 1) (after .storage) out ≡ start
     unfolding ending
     going-last on all =
         let none : limit - 1 - count ≡ 0 = omega arith in
         rw add-one (sym (g .same ∙ ap (λ (n : ℕ). walkFrom count b n l e) none ∙ walk-last count b l e (goes on)))
+
+    -- it ends there finished, or at its limit
+    pub going-ends : (end : Bool) → isFinished (after .state .core .place) ≡ end → (end || eqb (count + 1) limit) ≡ true
+        → walks (after .state) (cond end Finished Running) (reportOf (p .action)) (count + 1) (after .storage) out ≡ start
+    going-ends true end over = going-finished end
+    going-ends false on over = going-last on (eqb-true _ _ over)
 
     pub going-next : isFinished (after .state .core .place) ≡ false → (count + 1 ≡ limit → ⊥) → Going b table input start limit (count + 1) out after
     unfolding isRunning engineOf next

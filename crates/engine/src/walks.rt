@@ -1,10 +1,11 @@
 // Steps one after the other: each is planned over slices of local arrays and carried out in place.
-ghost use mathlib.Core.Bool.{true, false};
+ghost use mathlib.Core.Bool.{true, false, cond};
 ghost use mathlib.Core.Path.{_≡_};
 ghost use Prim.Native.Nat.{_-_, _≤_};
 ghost use Rattle.table.specs.declared.TableCheck.the-variants.{Lowest};
 ghost use Rattle.table.specs.Row.{lengthFits};
 ghost use Rattle.table.specs.Table.{checked};
+ghost use Rattle.machine.specs.declared.Answer.the-variants.{Running, Finished};
 ghost use Rattle.machine.specs.State.{isFinished};
 ghost use Rattle.machine.specs.Storage.{noReport};
 ghost use Rattle.machine.specs.Sound.{sound};
@@ -15,9 +16,7 @@ use crate::Walked;
 use block::SetUp;
 use commit::Records;
 use commit::carry::carry_out;
-use commit::core::counts_after;
-use commit::core::is_recorded;
-use commit::core::setup_after;
+use commit::core::go_on;
 use commit::core::turned;
 use commit::reports::report_of;
 use machine::Answer;
@@ -152,6 +151,17 @@ fn ended(
     }
 }
 
+// What a step that goes so far answers.
+fn answer_at(place: Place) -> Answer
+    ensures { λ r. ⌜ r ≡ cond (isFinished place) Finished Running ⌝ }
+{
+    if place.kind == 3 {
+        Answer::Finished
+    } else {
+        Answer::Running
+    }
+}
+
 // A walk of a sound engine that is not finished, with a table of the right length: up to limit steps.
 pub fn walk(
     b: u64,
@@ -210,6 +220,7 @@ pub fn walk(
                 );
             }
             Planned::Does(to, action) => {
+                let next = go_on(action, setup, counts, input.len(), output.len());
                 carry_out(
                     b,
                     setup,
@@ -222,14 +233,14 @@ pub fn walk(
                     action,
                 );
                 place = to;
-                if is_recorded(action) {
-                    let next = turned(action, to, counts, records);
-                    place = next.place;
-                    records = next.records;
+                if next.recorded {
+                    let turn = turned(action, to, counts, records);
+                    place = turn.place;
+                    records = turn.records;
                 }
-                counts = counts_after(action, counts, input.len(), output.len());
-                setup = setup_after(action, setup);
-                if place.kind == 3 {
+                counts = next.counts;
+                setup = next.setup;
+                if (place.kind == 3) | (count == limit) {
                     return ended(
                         place,
                         bugs,
@@ -238,21 +249,7 @@ pub fn walk(
                         counts,
                         setup,
                         map,
-                        Answer::Finished,
-                        report_of(action),
-                        count,
-                    );
-                }
-                if count == limit {
-                    return ended(
-                        place,
-                        bugs,
-                        records,
-                        entries,
-                        counts,
-                        setup,
-                        map,
-                        Answer::Running,
+                        answer_at(place),
                         report_of(action),
                         count,
                     );

@@ -5,28 +5,35 @@ use Rattle.block.proofs.Size.{fitting-facts}
 use Rattle.block.proofs.Change.{words-whole}
 use Rattle.operands.proofs.Storing.{still-reached}
 use Rattle.commit.proofs.Delivering.{same-run, same-copy}
-use Rattle.commit.proofs.Carrying.{store-asks, two-asks, set-up-asks, deliver-asks, deliver-two-asks, free-asks, input-asks, print-asks, save-asks, restore-asks, did-nothing, did-store, did-two, did-set-up, did-define, did-deliver, did-deliver-two, did-free, did-input, did-print, did-save, did-restore, did-save-definition, did-restore-definition, did-call, did-return}
+use Rattle.commit.proofs.Carrying.{store-asks, two-asks, set-up-asks, deliver-asks, deliver-two-asks, free-asks, input-asks, print-asks, save-asks, restore-asks, did-store, did-two, did-set-up, did-deliver, did-deliver-two, did-free, did-input, did-print, did-save, did-restore, idles}
 use borrow.Author.Needs.{needs}
 use Rattle.commit.proofs.carry.carry_out.Statement.{statement}
 use Rattle.commit.proofs.carry.carry_out.Tie as tie
-
-enum-told : tie.Need-enum-told
-enum-told c = search needs
 
 enum-known-action : tie.Need-enum-known-action
 enum-known-action c = search needs
 
 store-requires : tie.Need-store-requires
-store-requires c κs = (c .before .before .before .before .before .before .before .before .pre .0, store-asks _ _ (c .before .before .before .before .before .before .before .before .pre .3 .1) (c .before .before .before .action .given .1))
+store-requires c κs =
+    let at-action = c .before .before .before in
+    let start = at-action .before .before .before .before .before in
+    (start .pre .0, store-asks _ _ (start .pre .3 .1) (at-action .action .given .1))
 
 enum-known-action-2 : tie.Need-enum-known-action-2
 enum-known-action-2 c = search needs
 
 store-requires-2 : tie.Need-store-requires-2
-store-requires-2 c κs = (c .before .before .before .before .before .before .before .before .pre .0, two-asks _ _ (c .before .before .before .before .before .before .before .before .pre .3 .1) (c .before .before .before .action2 .given .1) .0)
+store-requires-2 c κs =
+    let at-action2 = c .before .before .before in
+    let start = at-action2 .before .before .before .before .before in
+    (start .pre .0, two-asks _ _ (start .pre .3 .1) (at-action2 .action2 .given .1) .0)
 
 store-requires-3 : tie.Need-store-requires-3
-store-requires-3 c κs = (c .before .before .before .before .before .before .before .before .before .before .before .before .before .pre .0, still-reached _ _ _ _ _ (c .before .before .before .storage2 .given) (two-asks _ _ (c .before .before .before .before .before .before .before .before .before .before .before .before .before .pre .3 .1) (c .before .before .before .before .before .before .before .before .action2 .given .1) .1))
+store-requires-3 c κs =
+    let at-storage2 = c .before .before .before in
+    let at-action2 = at-storage2 .before .before .before .before .before in
+    let start = at-action2 .before .before .before .before .before in
+    (start .pre .0, still-reached _ _ _ _ _ (at-storage2 .storage2 .given) (two-asks _ _ (start .pre .3 .1) (at-action2 .action2 .given .1) .1))
 
 enum-known-action-3 : tie.Need-enum-known-action-3
 enum-known-action-3 c = search needs
@@ -41,36 +48,52 @@ words-of-requires c κs = search needs
 
 zero-words-requires : tie.Need-zero-words-requires
 zero-words-requires c κs =
-    let h = set-up-asks _ _ (c .before .before .before .before .before .before .before .before .before .before .before .before .pre .3 .1) (c .before .before .before .before .before .before .before .action3 .given .1) in
+    let at-action3 = c .before .before .before .before .before .before .before in
+    let start = at-action3 .before .before .before .before .before in
+    let h = set-up-asks _ _ (start .pre .3 .1) (at-action3 .action3 .given .1) in
     omega (arith, c .words-of .ensures, fitting-facts _ _ (h .0) .lies)
-
-enum-told-2 : tie.Need-enum-told-2
-enum-told-2 c = search needs
 
 enum-known-action-4 : tie.Need-enum-known-action-4
 enum-known-action-4 c = search needs
 
 take-run-requires : tie.Need-take-run-requires
 take-run-requires c κs =
-    let h = deliver-asks _ _ (c .before .before .before .before .before .before .before .before .pre .3 .1) (c .before .before .before .action4 .given .1) in
-    (c .before .before .before .before .before .before .before .before .pre .1, c .before .before .before .before .before .before .before .before .pre .2, same-run _ (h .0), λ some. same-copy _ (h .1 some))
+    let at-action4 = c .before .before .before in
+    let start = at-action4 .before .before .before .before .before in
+    let h = deliver-asks _ _ (start .pre .3 .1) (at-action4 .action4 .given .1) in
+    (start .pre .1, start .pre .2, same-run _ (h .0), λ some. same-copy _ (h .1 some))
 
 store-requires-4 : tie.Need-store-requires-4
-store-requires-4 c κs = (c .before .before .before .before .before .before .before .before .before .before .before .before .before .before .before .pre .0, still-reached _ _ _ _ _ (c .before .before .before .storage5 .given) (deliver-asks _ _ (c .before .before .before .before .before .before .before .before .before .before .before .before .before .before .before .pre .3 .1) (c .before .before .before .before .before .before .before .before .before .before .action4 .given .1) .2))
+store-requires-4 c κs =
+    let at-storage5 = c .before .before .before in
+    let at-action4 = at-storage5 .before .before .before .before .before .before .before in
+    let start = at-action4 .before .before .before .before .before in
+    (start .pre .0, still-reached _ _ _ _ _ (at-storage5 .storage5 .given) (deliver-asks _ _ (start .pre .3 .1) (at-action4 .action4 .given .1) .2))
 
 enum-known-action-5 : tie.Need-enum-known-action-5
 enum-known-action-5 c = search needs
 
 take-run-requires-2 : tie.Need-take-run-requires-2
 take-run-requires-2 c κs =
-    let h = deliver-two-asks _ _ (c .before .before .before .before .before .before .before .before .pre .3 .1) (c .before .before .before .action5 .given .1) in
-    (c .before .before .before .before .before .before .before .before .pre .1, c .before .before .before .before .before .before .before .before .pre .2, same-run _ (h .0), λ some. absurd (some refl))
+    let at-action5 = c .before .before .before in
+    let start = at-action5 .before .before .before .before .before in
+    let h = deliver-two-asks _ _ (start .pre .3 .1) (at-action5 .action5 .given .1) in
+    (start .pre .1, start .pre .2, same-run _ (h .0), λ some. absurd (some refl))
 
 store-requires-5 : tie.Need-store-requires-5
-store-requires-5 c κs = (c .before .before .before .before .before .before .before .before .before .before .before .before .before .before .before .pre .0, still-reached _ _ _ _ _ (c .before .before .before .storage7 .given) (deliver-two-asks _ _ (c .before .before .before .before .before .before .before .before .before .before .before .before .before .before .before .pre .3 .1) (c .before .before .before .before .before .before .before .before .before .before .action5 .given .1) .1))
+store-requires-5 c κs =
+    let at-storage7 = c .before .before .before in
+    let at-action5 = at-storage7 .before .before .before .before .before .before .before in
+    let start = at-action5 .before .before .before .before .before in
+    (start .pre .0, still-reached _ _ _ _ _ (at-storage7 .storage7 .given) (deliver-two-asks _ _ (start .pre .3 .1) (at-action5 .action5 .given .1) .1))
 
 store-requires-6 : tie.Need-store-requires-6
-store-requires-6 c κs = (c .before .before .before .before .before .before .before .before .before .before .before .before .before .before .before .before .before .before .before .before .pre .0, still-reached _ _ _ _ _ (c .before .before .before .storage8 .given ∙ c .before .before .before .before .before .before .before .before .storage7 .given) (deliver-two-asks _ _ (c .before .before .before .before .before .before .before .before .before .before .before .before .before .before .before .before .before .before .before .before .pre .3 .1) (c .before .before .before .before .before .before .before .before .before .before .before .before .before .before .before .action5 .given .1) .2))
+store-requires-6 c κs =
+    let at-storage8 = c .before .before .before in
+    let at-storage7 = at-storage8 .before .before .before .before .before in
+    let at-action5 = at-storage7 .before .before .before .before .before .before .before in
+    let start = at-action5 .before .before .before .before .before in
+    (start .pre .0, still-reached _ _ _ _ _ (at-storage8 .storage8 .given ∙ at-storage7 .storage7 .given) (deliver-two-asks _ _ (start .pre .3 .1) (at-action5 .action5 .given .1) .2))
 
 enum-known-action-6 : tie.Need-enum-known-action-6
 enum-known-action-6 c = search needs
@@ -81,13 +104,19 @@ free-block-requires c κs =
     (c .before .before .before .before .before .before .before .pre .1, c .before .before .before .before .before .before .before .pre .2, h .1, h .2)
 
 store-requires-7 : tie.Need-store-requires-7
-store-requires-7 c κs = (c .before .before .before .before .before .before .before .before .before .before .before .before .pre .0, free-asks _ _ (c .before .before .before .before .before .before .before .before .before .before .before .before .pre .3 .1) (c .before .before .before .before .before .before .before .action6 .given .1) .0)
+store-requires-7 c κs =
+    let at-action6 = c .before .before .before .before .before .before .before in
+    let start = at-action6 .before .before .before .before .before in
+    (start .pre .0, free-asks _ _ (start .pre .3 .1) (at-action6 .action6 .given .1) .0)
 
 enum-known-action-7 : tie.Need-enum-known-action-7
 enum-known-action-7 c = search needs
 
 store-requires-8 : tie.Need-store-requires-8
-store-requires-8 c κs = (c .before .before .before .before .before .before .before .before .pre .0, input-asks _ _ (c .before .before .before .before .before .before .before .before .pre .3 .1) (c .before .before .before .action7 .given .1) .0)
+store-requires-8 c κs =
+    let at-action7 = c .before .before .before in
+    let start = at-action7 .before .before .before .before .before in
+    (start .pre .0, input-asks _ _ (start .pre .3 .1) (at-action7 .action7 .given .1) .0)
 
 enum-known-action-8 : tie.Need-enum-known-action-8
 enum-known-action-8 c = search needs
@@ -108,34 +137,25 @@ enum-known-action-10 : tie.Need-enum-known-action-10
 enum-known-action-10 c = search needs
 
 store-requires-9 : tie.Need-store-requires-9
-store-requires-9 c κs = (c .before .before .before .before .before .before .before .before .pre .0, restore-asks _ _ (c .before .before .before .before .before .before .before .before .pre .3 .1) (c .before .before .before .action10 .given .1) .0)
-
-enum-told-3 : tie.Need-enum-told-3
-enum-told-3 c = search needs
-
-enum-told-4 : tie.Need-enum-told-4
-enum-told-4 c = search needs
-
-enum-told-5 : tie.Need-enum-told-5
-enum-told-5 c = search needs
-
-enum-told-6 : tie.Need-enum-told-6
-enum-told-6 c = search needs
-
-returns : tie.Need-returns
-returns c = did-nothing _ _ _ _ _ _ _ _ _ (c .enum-told .given .1)
+store-requires-9 c κs =
+    let at-action10 = c .before .before .before in
+    let start = at-action10 .before .before .before .before .before in
+    (start .pre .0, restore-asks _ _ (start .pre .3 .1) (at-action10 .action10 .given .1) .0)
 
 same-length : tie.Need-same-length
 same-length c = search needs
 
-returns-2 : tie.Need-returns-2
-returns-2 c = did-store _ _ _ _ _ _ _ _ _ (c .before .before .before .before .before .before .action .given .1) (c .before .before .store .ensures)
+returns : tie.Need-returns
+returns c = did-store _ _ _ _ _ _ _ _ _ (c .before .before .before .before .before .before .action .given .1) (c .before .before .store .ensures)
 
 same-length-2 : tie.Need-same-length-2
 same-length-2 c = search needs
 
-returns-3 : tie.Need-returns-3
-returns-3 c = did-two _ _ _ _ _ _ _ _ _ (c .before .before .before .before .before .before .before .before .before .before .before .action2 .given .1) (c .before .before .before .before .before .before .before .store2 .ensures) (c .before .before .store3 .ensures)
+returns-2 : tie.Need-returns-2
+returns-2 c =
+    let at-store2 = c .before .before .before .before .before .before .before in
+    let at-action2 = at-store2 .before .before .before .before in
+    did-two _ _ _ _ _ _ _ _ _ (at-action2 .action2 .given .1) (at-store2 .store2 .ensures) (c .before .before .store3 .ensures)
 
 same-length-3 : tie.Need-same-length-3
 same-length-3 c = search needs
@@ -143,11 +163,12 @@ same-length-3 c = search needs
 same-length-4 : tie.Need-same-length-4
 same-length-4 c = search needs
 
-returns-4 : tie.Need-returns-4
-returns-4 c = did-set-up _ _ _ _ _ _ _ _ _ (c .before .before .before .before .before .before .before .before .before .before .action3 .given .1) (c .before .before .before .words-of .ensures) (c .before .before .before .before .before .before .before .set-up .ensures) (c .before .before .zero-words .ensures)
-
-returns-5 : tie.Need-returns-5
-returns-5 c = did-define _ _ _ _ _ _ _ _ _ (c .enum-told2 .given .1)
+returns-3 : tie.Need-returns-3
+returns-3 c =
+    let at-words-of = c .before .before .before in
+    let at-set-up = at-words-of .before .before .before .before in
+    let at-action3 = at-set-up .before .before .before in
+    did-set-up _ _ _ _ _ _ _ _ _ (at-action3 .action3 .given .1) (at-words-of .words-of .ensures) (at-set-up .set-up .ensures) (c .before .before .zero-words .ensures)
 
 same-length-5 : tie.Need-same-length-5
 same-length-5 c = search needs
@@ -155,8 +176,11 @@ same-length-5 c = search needs
 same-length-6 : tie.Need-same-length-6
 same-length-6 c = search needs
 
-returns-6 : tie.Need-returns-6
-returns-6 c = did-deliver _ _ _ _ _ _ _ _ _ (c .before .before .before .before .before .before .before .before .before .take-run .ensures) (c .before .before .before .before .before .before .before .before .before .before .before .before .before .action4 .given .1) (c .before .before .store4 .ensures)
+returns-4 : tie.Need-returns-4
+returns-4 c =
+    let at-take-run = c .before .before .before .before .before .before .before .before .before in
+    let at-action4 = at-take-run .before .before .before .before in
+    did-deliver _ _ _ _ _ _ _ _ _ (at-take-run .take-run .ensures) (at-action4 .action4 .given .1) (c .before .before .store4 .ensures)
 
 same-length-7 : tie.Need-same-length-7
 same-length-7 c = search needs
@@ -164,8 +188,12 @@ same-length-7 c = search needs
 same-length-8 : tie.Need-same-length-8
 same-length-8 c = search needs
 
-returns-7 : tie.Need-returns-7
-returns-7 c = did-deliver-two _ _ _ _ _ _ _ _ _ (c .before .before .before .before .before .before .before .before .before .before .before .before .before .before .take-run2 .ensures) (c .before .before .before .before .before .before .before .before .before .before .before .before .before .before .before .before .before .before .action5 .given .1) (c .before .before .before .before .before .before .before .store5 .ensures) (c .before .before .store6 .ensures)
+returns-5 : tie.Need-returns-5
+returns-5 c =
+    let at-store5 = c .before .before .before .before .before .before .before in
+    let at-take-run2 = at-store5 .before .before .before .before .before .before .before in
+    let at-action5 = at-take-run2 .before .before .before .before in
+    did-deliver-two _ _ _ _ _ _ _ _ _ (at-take-run2 .take-run2 .ensures) (at-action5 .action5 .given .1) (at-store5 .store5 .ensures) (c .before .before .store6 .ensures)
 
 same-length-9 : tie.Need-same-length-9
 same-length-9 c = search needs
@@ -173,47 +201,40 @@ same-length-9 c = search needs
 same-length-10 : tie.Need-same-length-10
 same-length-10 c = search needs
 
-returns-8 : tie.Need-returns-8
-returns-8 c = did-free _ _ _ _ _ _ _ _ _ (c .before .before .before .before .before .before .before .before .before .before .action6 .given .1) (c .before .before .before .before .before .before .before .free-block .ensures) (c .before .before .store7 .ensures)
+returns-6 : tie.Need-returns-6
+returns-6 c =
+    let at-free-block = c .before .before .before .before .before .before .before in
+    let at-action6 = at-free-block .before .before .before in
+    did-free _ _ _ _ _ _ _ _ _ (at-action6 .action6 .given .1) (at-free-block .free-block .ensures) (c .before .before .store7 .ensures)
 
 same-length-11 : tie.Need-same-length-11
 same-length-11 c = search needs
 
-returns-9 : tie.Need-returns-9
-returns-9 c = did-input _ _ _ _ _ _ _ _ _ (c .before .before .before .before .before .before .action7 .given .1) (c .before .before .store8 .ensures)
+returns-7 : tie.Need-returns-7
+returns-7 c = did-input _ _ _ _ _ _ _ _ _ (c .before .before .before .before .before .before .action7 .given .1) (c .before .before .store8 .ensures)
 
 same-length-12 : tie.Need-same-length-12
 same-length-12 c = search needs
 
-returns-10 : tie.Need-returns-10
-returns-10 c = did-print _ _ _ _ _ _ _ _ _ (c .before .before .before .before .before .action8 .given .1) (c .before .before .print-into .ensures)
+returns-8 : tie.Need-returns-8
+returns-8 c = did-print _ _ _ _ _ _ _ _ _ (c .before .before .before .before .before .action8 .given .1) (c .before .before .print-into .ensures)
 
-returns-11 : tie.Need-returns-11
-returns-11 c = did-save _ _ _ _ _ _ _ _ _ (c .before .action9 .given .1)
+returns-9 : tie.Need-returns-9
+returns-9 c = did-save _ _ _ _ _ _ _ _ _ (c .before .action9 .given .1)
 
 same-length-13 : tie.Need-same-length-13
 same-length-13 c = search needs
 
-returns-12 : tie.Need-returns-12
-returns-12 c = did-restore _ _ _ _ _ _ _ _ _ (c .before .before .before .before .before .before .action10 .given .1) (c .before .before .store9 .ensures)
+returns-10 : tie.Need-returns-10
+returns-10 c = did-restore _ _ _ _ _ _ _ _ _ (c .before .before .before .before .before .before .action10 .given .1) (c .before .before .store9 .ensures)
 
-returns-13 : tie.Need-returns-13
-returns-13 c = did-save-definition _ _ _ _ _ _ _ _ _ (c .enum-told3 .given .1)
-
-returns-14 : tie.Need-returns-14
-returns-14 c = did-restore-definition _ _ _ _ _ _ _ _ _ (c .enum-told4 .given .1)
-
-returns-15 : tie.Need-returns-15
-returns-15 c = did-call _ _ _ _ _ _ _ _ _ (c .enum-told5 .given .1)
-
-returns-16 : tie.Need-returns-16
-returns-16 c = did-return _ _ _ _ _ _ _ _ _ (c .enum-told6 .given .1)
+returns-11 : tie.Need-returns-11
+returns-11 c = idles _ _ _ _ _ _ _ _ _ _ (c .match .keys11)
 
 pub carry-out-spec : {M : Type 1} → statement M
 carry-out-spec =
     tie.close
     (tie.spec
-    enum-told
     enum-known-action
     store-requires
     enum-known-action-2
@@ -223,7 +244,6 @@ carry-out-spec =
     set-up-requires
     words-of-requires
     zero-words-requires
-    enum-told-2
     enum-known-action-4
     take-run-requires
     store-requires-4
@@ -243,36 +263,27 @@ carry-out-spec =
     element-write-entries
     enum-known-action-10
     store-requires-9
-    enum-told-3
-    enum-told-4
-    enum-told-5
-    enum-told-6
-    returns
     same-length
-    returns-2
+    returns
     same-length-2
-    returns-3
+    returns-2
     same-length-3
     same-length-4
-    returns-4
-    returns-5
+    returns-3
     same-length-5
     same-length-6
-    returns-6
+    returns-4
     same-length-7
     same-length-8
-    returns-7
+    returns-5
     same-length-9
     same-length-10
-    returns-8
+    returns-6
     same-length-11
-    returns-9
+    returns-7
     same-length-12
-    returns-10
-    returns-11
+    returns-8
+    returns-9
     same-length-13
-    returns-12
-    returns-13
-    returns-14
-    returns-15
-    returns-16)
+    returns-10
+    returns-11)

@@ -8,7 +8,7 @@ use lib.ListN.{length}
 use Rattle.commit.specs.Then.{engineWith}
 use Rattle.engine.specs.Walking.{walkFrom}
 use Rattle.engine.proofs.Turns.{lends, Going}
-use Rattle.engine.proofs.Now.{kept-turn, started, starts, ready-now, refused-now, feasible-now, countable-now, counted-now, counted-later, reportable-now, finished-now, last-now, next-now}
+use Rattle.engine.proofs.Now.{kept-turn, started, starts, ready-now, refused-now, feasible-now, countable-now, counted-now, reportable-now, ended-now, next-now}
 use borrow.Author.Needs.{needs}
 use Rattle.engine.proofs.walks.walk.Statement.{statement}
 use Rattle.engine.proofs.walks.walk.Tie as tie
@@ -31,18 +31,21 @@ counts-of-requires : tie.Need-counts-of-requires Inv-loop μ-loop
 counts-of-requires c κs = search needs
 
 loop-holds : tie.Need-loop-holds Inv-loop μ-loop
-loop-holds c = (refl, refl, search needs, starts _ _ _ _ _ _ _ _ (c .before .records-of .ensures) (c .counts-of .ensures) (c .before .before .before .before .before .before .before .before .before .before .before .pre .1) (c .before .before .before .before .before .before .before .before .before .before .before .pre .5) (c .before .before .before .before .before .before .before .before .before .before .before .pre .4))
+loop-holds c =
+    let start = c .before .before .before .before .before .before .before .before .before .before .before in
+    (refl, refl, search needs, starts _ _ _ _ _ _ _ _ (c .before .records-of .ensures) (c .counts-of .ensures) (start .pre .1) (start .pre .5) (start .pre .4))
 
 add-count : tie.Need-add-count Inv-loop μ-loop
-add-count c =
-    let few = c .loop .inv .3 .few in
-    omega arith
+add-count c = let few = c .loop .inv .3 .few in omega arith
 
 slice-aggregate-plan-step : tie.Need-slice-aggregate-plan-step Inv-loop μ-loop
 slice-aggregate-plan-step c = search needs
 
 plan-step-requires : tie.Need-plan-step-requires Inv-loop μ-loop
-plan-step-requires c κs = (ready-now _ _ _ _ _ _ _ _ _ _ _ _ _ _ _ (c .before .before .before .before .before .loop .inv .3) (c .before .before .before .before .before .before .before .before .before .before .before .before .before .before .before .before .before .pre .2) (c .before .before .before .before .before .before .before .before .before .before .before .before .before .before .before .before .before .pre .0), c .before .before .before .before .before .before .before .before .before .before .before .before .before .before .before .before .before .pre .2, c .before .before .before .before .before .before .before .before .before .before .before .before .before .before .before .before .before .pre .3)
+plan-step-requires c κs =
+    let turn = c .before .before .before .before .before in
+    let start = turn .before .before .before .before .before .before .before .before .before .before .before .before in
+    (ready-now _ _ _ _ _ _ _ _ _ _ _ _ _ _ _ (turn .loop .inv .3) (start .pre .2) (start .pre .0), start .pre .2, start .pre .3)
 
 enum-known-planned : tie.Need-enum-known-planned Inv-loop μ-loop
 enum-known-planned c = search needs
@@ -60,74 +63,113 @@ same-length-2 : tie.Need-same-length-2 Inv-loop μ-loop
 same-length-2 c = c .before .before .before .before .before .before .before .before .before .before .before .loop .inv .1
 
 returns : tie.Need-returns Inv-loop μ-loop
-returns c = refused-now _ _ _ _ _ _ _ _ _ _ _ _ _ _ _ (c .before .before .before .before .before .before .before .before .before .before .before .loop .inv .3) (c .before .before .before .before .before .before .before .before .before .before .before .before .before .before .before .before .before .before .before .before .before .before .before .pre .2) (c .before .before .before .before .before .before .before .before .before .before .before .before .before .before .before .before .before .before .before .before .before .before .before .pre .0) (c .before .before .before .before .before .plan-step .ensures) (c .before .before .before .planned .given .1) (c .before .no-report .ensures) (c .ended .ensures) ∙ started _ _ _ _ _ _ _ _ (c .before .before .before .before .before .before .before .before .before .before .before .before .before .records-of .ensures) (c .before .before .before .before .before .before .before .before .before .before .before .before .counts-of .ensures)
+returns c =
+    let at-planned = c .before .before .before in
+    let at-plan-step = at-planned .before .before in
+    let turn = at-plan-step .before .before .before .before .before .before in
+    let at-counts-of = turn .before in
+    let at-records-of = at-counts-of .before in
+    let start = at-records-of .before .before .before .before .before .before .before .before .before .before in
+    refused-now _ _ _ _ _ _ _ _ _ _ _ _ _ _ _ (turn .loop .inv .3) (start .pre .2) (start .pre .0) (at-plan-step .plan-step .ensures) (at-planned .planned .given .1) (c .before .no-report .ensures) (c .ended .ensures)
+    ∙ started _ _ _ _ _ _ _ _ (at-records-of .records-of .ensures) (at-counts-of .counts-of .ensures)
 
 enum-known-planned-2 : tie.Need-enum-known-planned-2 Inv-loop μ-loop
 enum-known-planned-2 c = search needs
+
+go-on-requires : tie.Need-go-on-requires Inv-loop μ-loop
+go-on-requires c κs =
+    let at-plan-step = c .before .before .before in
+    let turn = at-plan-step .before .before .before .before .before .before in
+    let start = turn .before .before .before .before .before .before .before .before .before .before .before .before in
+    counted-now _ _ _ _ _ _ _ _ _ _ _ _ _ _ _ (turn .loop .inv .3) (start .pre .2) (start .pre .0) (at-plan-step .plan-step .ensures) (c .before .planned2 .given .1) (turn .loop .inv .2)
 
 slice-aggregate-carry-out : tie.Need-slice-aggregate-carry-out Inv-loop μ-loop
 slice-aggregate-carry-out c = search needs
 
 carry-out-requires : tie.Need-carry-out-requires Inv-loop μ-loop
 carry-out-requires c κs =
-    let readable = ready-now _ _ _ _ _ _ _ _ _ _ _ _ _ _ _ (c .before .before .before .before .before .before .before .before .before .before .before .before .before .before .loop .inv .3) (c .before .before .before .before .before .before .before .before .before .before .before .before .before .before .before .before .before .before .before .before .before .before .before .before .before .before .pre .2) (c .before .before .before .before .before .before .before .before .before .before .before .before .before .before .before .before .before .before .before .before .before .before .before .before .before .before .pre .0) .readable in
-    (c .before .before .before .before .before .before .before .before .before .before .before .before .before .before .before .before .before .before .before .before .before .before .before .before .before .before .pre .0, readable .whole, readable .kept, (_, feasible-now _ _ _ _ _ _ _ _ _ _ _ _ _ _ _ (c .before .before .before .before .before .before .before .before .before .before .before .before .before .before .loop .inv .3) (c .before .before .before .before .before .before .before .before .before .before .before .before .before .before .before .before .before .before .before .before .before .before .before .before .before .before .pre .2) (c .before .before .before .before .before .before .before .before .before .before .before .before .before .before .before .before .before .before .before .before .before .before .before .before .before .before .pre .0) (c .before .before .before .before .before .before .before .before .plan-step .ensures) (c .before .before .before .before .before .before .planned2 .given .1) (c .before .before .before .before .before .before .before .before .before .before .before .before .before .before .loop .inv .2)))
-
-is-recorded-requires : tie.Need-is-recorded-requires Inv-loop μ-loop
-is-recorded-requires c κs = search needs
+    let at-planned2 = c .before .before .before .before .before .before .before in
+    let at-plan-step = at-planned2 .before .before in
+    let turn = at-plan-step .before .before .before .before .before .before in
+    let start = turn .before .before .before .before .before .before .before .before .before .before .before .before in
+    let readable = ready-now _ _ _ _ _ _ _ _ _ _ _ _ _ _ _ (turn .loop .inv .3) (start .pre .2) (start .pre .0) .readable in
+    (start .pre .0, readable .whole, readable .kept, (_, feasible-now _ _ _ _ _ _ _ _ _ _ _ _ _ _ _ (turn .loop .inv .3) (start .pre .2) (start .pre .0) (at-plan-step .plan-step .ensures) (at-planned2 .planned2 .given .1) (turn .loop .inv .2)))
 
 turned-requires : tie.Need-turned-requires Inv-loop μ-loop
-turned-requires c κs = countable-now _ _ _ _ _ _ _ _ _ _ _ _ _ _ _ (c .before .before .before .before .before .before .before .before .before .before .before .before .before .before .before .before .before .before .before .before .before .before .loop .inv .3) (c .before .before .before .before .before .before .before .before .before .before .before .before .before .before .before .before .before .before .before .before .before .before .before .before .before .before .before .before .before .before .before .before .before .before .pre .2) (c .before .before .before .before .before .before .before .before .before .before .before .before .before .before .before .before .before .before .before .before .before .before .before .before .before .before .before .before .before .before .before .before .before .before .pre .0) (c .before .before .before .before .before .before .before .before .before .before .before .before .before .before .before .before .plan-step .ensures) (c .before .before .before .before .before .before .before .before .before .before .before .before .before .before .planned2 .given .1) (c .before .before .before .before .before .before .before .before .before .before .before .before .before .before .before .before .before .before .before .before .before .before .loop .inv .2)
+turned-requires c κs =
+    let at-planned2 = c .before .before .before .before .before .before .before .before .before .before .before .before .before .before in
+    let at-plan-step = at-planned2 .before .before in
+    let turn = at-plan-step .before .before .before .before .before .before in
+    let start = turn .before .before .before .before .before .before .before .before .before .before .before .before in
+    countable-now _ _ _ _ _ _ _ _ _ _ _ _ _ _ _ (turn .loop .inv .3) (start .pre .2) (start .pre .0) (at-plan-step .plan-step .ensures) (at-planned2 .planned2 .given .1) (turn .loop .inv .2)
 
-counts-after-requires : tie.Need-counts-after-requires Inv-loop μ-loop
-counts-after-requires c κs = counted-later (c .before .before .before .output .given) (counted-now _ _ _ _ _ _ _ _ _ _ _ _ _ _ _ (c .before .before .before .before .before .before .before .before .before .before .before .before .before .before .before .before .before .before .before .before .before .before .loop .inv .3) (c .before .before .before .before .before .before .before .before .before .before .before .before .before .before .before .before .before .before .before .before .before .before .before .before .before .before .before .before .before .before .before .before .before .before .pre .2) (c .before .before .before .before .before .before .before .before .before .before .before .before .before .before .before .before .before .before .before .before .before .before .before .before .before .before .before .before .before .before .before .before .before .before .pre .0) (c .before .before .before .before .before .before .before .before .before .before .before .before .before .before .before .before .plan-step .ensures) (c .before .before .before .before .before .before .before .before .before .before .before .before .before .before .planned2 .given .1) (c .before .before .before .before .before .before .before .before .before .before .before .before .before .before .before .before .before .before .before .before .before .before .loop .inv .2))
-
-setup-after-requires : tie.Need-setup-after-requires Inv-loop μ-loop
-setup-after-requires c κs = search needs
+answer-at-requires : tie.Need-answer-at-requires Inv-loop μ-loop
+answer-at-requires c κs = search needs
 
 report-of-requires : tie.Need-report-of-requires Inv-loop μ-loop
-report-of-requires c κs = reportable-now _ _ _ _ _ _ _ _ _ _ _ _ _ _ _ (c .before .before .before .before .before .before .before .before .before .before .before .before .before .before .before .before .before .before .before .before .before .before .before .before .before .before .loop .inv .3) (c .before .before .before .before .before .before .before .before .before .before .before .before .before .before .before .before .before .before .before .before .before .before .before .before .before .before .before .before .before .before .before .before .before .before .before .before .before .before .pre .2) (c .before .before .before .before .before .before .before .before .before .before .before .before .before .before .before .before .before .before .before .before .before .before .before .before .before .before .before .before .before .before .before .before .before .before .before .before .before .before .pre .0) (c .before .before .before .before .before .before .before .before .before .before .before .before .before .before .before .before .before .before .before .before .plan-step .ensures) (c .before .before .before .before .before .before .before .before .before .before .before .before .before .before .before .before .before .before .planned2 .given .1) (c .before .before .before .before .before .before .before .before .before .before .before .before .before .before .before .before .before .before .before .before .before .before .before .before .before .before .loop .inv .2)
+report-of-requires c κs =
+    let at-planned2 = c .before .before .before .before .before .before .before .before .before .before .before .before .before .before .before .before .before .before .before in
+    let at-plan-step = at-planned2 .before .before in
+    let turn = at-plan-step .before .before .before .before .before .before in
+    let start = turn .before .before .before .before .before .before .before .before .before .before .before .before in
+    reportable-now _ _ _ _ _ _ _ _ _ _ _ _ _ _ _ (turn .loop .inv .3) (start .pre .2) (start .pre .0) (at-plan-step .plan-step .ensures) (at-planned2 .planned2 .given .1) (turn .loop .inv .2)
 
 ended-requires-2 : tie.Need-ended-requires-2 Inv-loop μ-loop
 ended-requires-2 c κs = search needs
 
 same-length-3 : tie.Need-same-length-3 Inv-loop μ-loop
-same-length-3 c = c .before .before .before .before .before .before .before .before .before .before .before .storage .given ∙ c .before .before .before .before .before .before .before .before .before .before .before .before .before .before .before .before .before .before .before .before .before .before .before .before .before .before .before .before .loop .inv .0
+same-length-3 c =
+    let at-storage = c .before .before .before .before .before .before .before .before .before .before .before in
+    let turn = at-storage .before .before .before .before .before .before .before .before .before .before .before .before .before .before .before .before .before .before in
+    at-storage .storage .given ∙ turn .loop .inv .0
 
 same-length-4 : tie.Need-same-length-4 Inv-loop μ-loop
-same-length-4 c = c .before .before .before .before .before .before .before .before .before .output .given ∙ c .before .before .before .before .before .before .before .before .before .before .before .before .before .before .before .before .before .before .before .before .before .before .before .before .before .before .before .before .loop .inv .1
+same-length-4 c =
+    let at-output = c .before .before .before .before .before .before .before .before .before in
+    let turn = at-output .before .before .before .before .before .before .before .before .before .before .before .before .before .before .before .before .before .before .before .before in
+    at-output .output .given ∙ turn .loop .inv .1
 
 returns-2 : tie.Need-returns-2 Inv-loop μ-loop
 returns-2 c =
-    finished-now _ _ _ _ _ _ _ _ _ _ _ _ _ _ _ (c .before .before .before .before .before .before .before .before .before .before .before .before .before .before .before .before .before .before .before .before .before .before .before .before .before .before .before .before .loop .inv .3) (c .before .before .before .before .before .before .before .before .before .before .before .before .before .before .before .before .before .before .before .before .before .before .before .before .before .before .before .before .before .before .before .before .before .before .before .before .before .before .before .before .pre .2) (c .before .before .before .before .before .before .before .before .before .before .before .before .before .before .before .before .before .before .before .before .before .before .before .before .before .before .before .before .before .before .before .before .before .before .before .before .before .before .before .before .pre .0) (c .before .before .before .before .before .before .before .before .before .before .before .before .before .before .before .before .before .before .before .before .before .before .plan-step .ensures) (c .before .before .before .before .before .before .before .before .before .before .before .before .before .before .before .before .before .before .before .before .planned2 .given .1) (c .before .before .before .before .before .before .before .before .before .before .before .before .before .before .before .before .before .before .before .before .before .before .before .before .before .before .before .before .loop .inv .2) (⊎-elim (λ w. (w .4 ∙ w .1 .ensures .0, w .5 ∙ w .1 .ensures .1)) (λ w. kept-turn _ _ _ _ (c .before .before .before .before .before .before .before .is-recorded .ensures) (w .0 .left) (w .1) (w .2)) (c .before .before .before .before .before .before .if1 .came)) (c .before .before .before .before .before .before .before .before .before .before .before .before .before .carry-out .ensures) (c .before .before .before .before .before .counts-after .ensures) (c .before .before .before .before .setup-after .ensures) (c .before .report-of .ensures) (c .before .before .if2 .taken) (c .ended2 .ensures)
-    ∙ started _ _ _ _ _ _ _ _ (c .before .before .before .before .before .before .before .before .before .before .before .before .before .before .before .before .before .before .before .before .before .before .before .before .before .before .before .before .before .before .records-of .ensures) (c .before .before .before .before .before .before .before .before .before .before .before .before .before .before .before .before .before .before .before .before .before .before .before .before .before .before .before .before .before .counts-of .ensures)
-
-report-of-requires-2 : tie.Need-report-of-requires-2 Inv-loop μ-loop
-report-of-requires-2 c κs = reportable-now _ _ _ _ _ _ _ _ _ _ _ _ _ _ _ (c .before .before .before .before .before .before .before .before .before .before .before .before .before .before .before .before .before .before .before .before .before .before .before .before .before .before .before .loop .inv .3) (c .before .before .before .before .before .before .before .before .before .before .before .before .before .before .before .before .before .before .before .before .before .before .before .before .before .before .before .before .before .before .before .before .before .before .before .before .before .before .before .pre .2) (c .before .before .before .before .before .before .before .before .before .before .before .before .before .before .before .before .before .before .before .before .before .before .before .before .before .before .before .before .before .before .before .before .before .before .before .before .before .before .before .pre .0) (c .before .before .before .before .before .before .before .before .before .before .before .before .before .before .before .before .before .before .before .before .before .plan-step .ensures) (c .before .before .before .before .before .before .before .before .before .before .before .before .before .before .before .before .before .before .before .planned2 .given .1) (c .before .before .before .before .before .before .before .before .before .before .before .before .before .before .before .before .before .before .before .before .before .before .before .before .before .before .before .loop .inv .2)
-
-ended-requires-3 : tie.Need-ended-requires-3 Inv-loop μ-loop
-ended-requires-3 c κs = search needs
-
-same-length-5 : tie.Need-same-length-5 Inv-loop μ-loop
-same-length-5 c = c .before .before .before .before .before .before .before .before .before .before .before .before .storage .given ∙ c .before .before .before .before .before .before .before .before .before .before .before .before .before .before .before .before .before .before .before .before .before .before .before .before .before .before .before .before .before .loop .inv .0
-
-same-length-6 : tie.Need-same-length-6 Inv-loop μ-loop
-same-length-6 c = c .before .before .before .before .before .before .before .before .before .before .output .given ∙ c .before .before .before .before .before .before .before .before .before .before .before .before .before .before .before .before .before .before .before .before .before .before .before .before .before .before .before .before .before .loop .inv .1
-
-returns-3 : tie.Need-returns-3 Inv-loop μ-loop
-returns-3 c =
-    last-now _ _ _ _ _ _ _ _ _ _ _ _ _ _ _ (c .before .before .before .before .before .before .before .before .before .before .before .before .before .before .before .before .before .before .before .before .before .before .before .before .before .before .before .before .before .loop .inv .3) (c .before .before .before .before .before .before .before .before .before .before .before .before .before .before .before .before .before .before .before .before .before .before .before .before .before .before .before .before .before .before .before .before .before .before .before .before .before .before .before .before .before .pre .2) (c .before .before .before .before .before .before .before .before .before .before .before .before .before .before .before .before .before .before .before .before .before .before .before .before .before .before .before .before .before .before .before .before .before .before .before .before .before .before .before .before .before .pre .0) (c .before .before .before .before .before .before .before .before .before .before .before .before .before .before .before .before .before .before .before .before .before .before .before .plan-step .ensures) (c .before .before .before .before .before .before .before .before .before .before .before .before .before .before .before .before .before .before .before .before .before .planned2 .given .1) (c .before .before .before .before .before .before .before .before .before .before .before .before .before .before .before .before .before .before .before .before .before .before .before .before .before .before .before .before .before .loop .inv .2) (⊎-elim (λ w. (w .4 ∙ w .1 .ensures .0, w .5 ∙ w .1 .ensures .1)) (λ w. kept-turn _ _ _ _ (c .before .before .before .before .before .before .before .before .is-recorded .ensures) (w .0 .left) (w .1) (w .2)) (c .before .before .before .before .before .before .before .if1 .came)) (c .before .before .before .before .before .before .before .before .before .before .before .before .before .before .carry-out .ensures) (c .before .before .before .before .before .before .counts-after .ensures) (c .before .before .before .before .before .setup-after .ensures) (c .before .report-of2 .ensures) (c .before .before .before .if2 .left) (c .before .before .if3 .taken) (c .ended3 .ensures)
-    ∙ started _ _ _ _ _ _ _ _ (c .before .before .before .before .before .before .before .before .before .before .before .before .before .before .before .before .before .before .before .before .before .before .before .before .before .before .before .before .before .before .before .records-of .ensures) (c .before .before .before .before .before .before .before .before .before .before .before .before .before .before .before .before .before .before .before .before .before .before .before .before .before .before .before .before .before .before .counts-of .ensures)
+    let at-if2 = c .before .before .before in
+    let at-if1 = at-if2 .before .before .before .before in
+    let at-carry-out = at-if1 .before .before .before .before .before .before in
+    let at-go-on = at-carry-out .before .before .before .before .before .before in
+    let at-planned2 = at-go-on .before .before in
+    let at-plan-step = at-planned2 .before .before in
+    let turn = at-plan-step .before .before .before .before .before .before in
+    let at-counts-of = turn .before in
+    let at-records-of = at-counts-of .before in
+    let start = at-records-of .before .before .before .before .before .before .before .before .before .before in
+    ended-now _ _ _ _ _ _ _ _ _ _ _ _ _ _ _ (turn .loop .inv .3) (start .pre .2) (start .pre .0) (at-plan-step .plan-step .ensures) (at-planned2 .planned2 .given .1) (turn .loop .inv .2)
+    (⊎-elim (λ w. (w .4 ∙ w .1 .ensures .0, w .5 ∙ w .1 .ensures .1)) (λ w. kept-turn _ _ _ _ _ (at-go-on .go-on .ensures) (w .0 .left) (w .1) (w .2)) (at-if1 .if1 .came))
+    (at-carry-out .carry-out .ensures) (at-go-on .go-on .ensures) (at-if2 .if2 .taken) (c .before .before .answer-at .ensures) (c .before .report-of .ensures) (c .ended2 .ensures)
+    ∙ started _ _ _ _ _ _ _ _ (at-records-of .records-of .ensures) (at-counts-of .counts-of .ensures)
 
 loop-less : tie.Need-loop-less Inv-loop μ-loop
 loop-less c =
-    let few = c .before .before .before .before .before .before .before .before .before .before .before .before .before .before .before .before .before .before .before .before .before .before .before .before .before .before .before .loop .inv .3 .few in
-    let more = c .if3 .left in
+    let turn = c .before .before .before .before .before .before .before .before .before .before .before .before .before .before .before .before .before .before .before .before .before .before .before .before .before .before in
+    let few = turn .loop .inv .3 .few in
     omega arith
 
 loop-again : tie.Need-loop-again Inv-loop μ-loop
 loop-again c =
-    (c .before .before .before .before .before .before .before .before .before .before .storage .given ∙ c .before .before .before .before .before .before .before .before .before .before .before .before .before .before .before .before .before .before .before .before .before .before .before .before .before .before .before .loop .inv .0, c .before .before .before .before .before .before .before .before .output .given ∙ c .before .before .before .before .before .before .before .before .before .before .before .before .before .before .before .before .before .before .before .before .before .before .before .before .before .before .before .loop .inv .1, search needs, next-now _ _ _ _ _ _ _ _ _ _ _ _ _ _ _ (c .before .before .before .before .before .before .before .before .before .before .before .before .before .before .before .before .before .before .before .before .before .before .before .before .before .before .before .loop .inv .3) (c .before .before .before .before .before .before .before .before .before .before .before .before .before .before .before .before .before .before .before .before .before .before .before .before .before .before .before .before .before .before .before .before .before .before .before .before .before .before .before .pre .2) (c .before .before .before .before .before .before .before .before .before .before .before .before .before .before .before .before .before .before .before .before .before .before .before .before .before .before .before .before .before .before .before .before .before .before .before .before .before .before .before .pre .0) (c .before .before .before .before .before .before .before .before .before .before .before .before .before .before .before .before .before .before .before .before .before .plan-step .ensures) (c .before .before .before .before .before .before .before .before .before .before .before .before .before .before .before .before .before .before .before .planned2 .given .1) (c .before .before .before .before .before .before .before .before .before .before .before .before .before .before .before .before .before .before .before .before .before .before .before .before .before .before .before .loop .inv .2) (⊎-elim (λ w. (w .4 ∙ w .1 .ensures .0, w .5 ∙ w .1 .ensures .1)) (λ w. kept-turn _ _ _ _ (c .before .before .before .before .before .before .is-recorded .ensures) (w .0 .left) (w .1) (w .2)) (c .before .before .before .before .before .if1 .came)) (c .before .before .before .before .before .before .before .before .before .before .before .before .carry-out .ensures) (c .before .before .before .before .counts-after .ensures) (c .before .before .before .setup-after .ensures) (c .before .if2 .left) (c .if3 .left))
+    let at-if1 = c .before .before .before .before in
+    let at-output = at-if1 .before .before in
+    let at-storage = at-output .before .before in
+    let at-carry-out = at-storage .before .before in
+    let at-go-on = at-carry-out .before .before .before .before .before .before in
+    let at-planned2 = at-go-on .before .before in
+    let at-plan-step = at-planned2 .before .before in
+    let turn = at-plan-step .before .before .before .before .before .before in
+    let start = turn .before .before .before .before .before .before .before .before .before .before .before .before in (
+      at-storage .storage .given ∙ turn .loop .inv .0,
+      at-output .output .given ∙ turn .loop .inv .1,
+      search needs,
+      next-now _ _ _ _ _ _ _ _ _ _ _ _ _ _ _ (turn .loop .inv .3) (start .pre .2) (start .pre .0) (at-plan-step .plan-step .ensures) (at-planned2 .planned2 .given .1) (turn .loop .inv .2)
+          (⊎-elim (λ w. (w .4 ∙ w .1 .ensures .0, w .5 ∙ w .1 .ensures .1)) (λ w. kept-turn _ _ _ _ _ (at-go-on .go-on .ensures) (w .0 .left) (w .1) (w .2)) (at-if1 .if1 .came))
+          (at-carry-out .carry-out .ensures) (at-go-on .go-on .ensures) (c .if2 .left),
+    )
 
 pub walk-spec : {M : Type 1} → statement M
 walk-spec =
@@ -148,21 +190,15 @@ walk-spec =
     same-length-2
     returns
     enum-known-planned-2
+    go-on-requires
     slice-aggregate-carry-out
     carry-out-requires
-    is-recorded-requires
     turned-requires
-    counts-after-requires
-    setup-after-requires
+    answer-at-requires
     report-of-requires
     ended-requires-2
     same-length-3
     same-length-4
     returns-2
-    report-of-requires-2
-    ended-requires-3
-    same-length-5
-    same-length-6
-    returns-3
     loop-less
     loop-again)
