@@ -17,7 +17,9 @@ mul-after : tie.Need-mul-after
 mul-after c = search needs
 
 array-write-after : tie.Need-array-write-after
-array-write-after c = is-bug (c .before .before .before .at .given .1) (c .before .before .before .before .before .before .pre .1)
+array-write-after c =
+    let letter = is-bug (c .before .before .before .at .given .1) (c .before .before .before .before .before .before .pre .1) in
+    search needs
 
 enum-told : tie.Need-enum-told
 enum-told c = search needs
