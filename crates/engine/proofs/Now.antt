@@ -1,5 +1,5 @@
 -- A turn of a walk by the walk's locals. Assumes nothing.
-use Prim.Native.Nat.{ℕ, _+_, _-_, _%_, _≤_, _<_}
+use Prim.Native.Nat.{ℕ, _+_, _-_, _≤_}
 use native.Mathlib.Omega.{arith}
 use mathlib.Core.Bool.{Bool, true, false, cond, _||_}
 use mathlib.Core.List.{List}
@@ -8,9 +8,6 @@ use borrow.Author.Tests.{eqb-false}
 use lib.Dec.{eqb}
 use lib.ListN.{length}
 use Rattle.block.specs.declared.SetUp.{SetUp}
-use Rattle.block.specs.Blocks.{size}
-use Rattle.block.specs.SetUp.{top, words}
-use Rattle.block.specs.Map.{keeps}
 use Rattle.table.specs.Row.{lengthFits}
 use Rattle.machine.specs.declared.Place.{Place}
 use Rattle.machine.specs.declared.Core.{Core}

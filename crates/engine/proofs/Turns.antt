@@ -10,11 +10,8 @@ use borrow.Author.Tests.{eqb-true}
 use lib.Dec.{eqb}
 use lib.ListN.{length}
 use Rattle.table.specs.Row.{lengthFits}
-use Rattle.machine.specs.declared.Place.{Place}
-use Rattle.machine.specs.declared.State.{State}
 use Rattle.machine.specs.declared.Report.{Report}
 use Rattle.machine.specs.declared.Refusal.{Refusal}
-use Rattle.machine.specs.declared.Answer.{Answer}
 use Rattle.machine.specs.declared.Answer.the-variants.{Running, Finished, Refused}
 use Rattle.machine.specs.Answer.{Checked, refused, passed, isRunning}
 use Rattle.machine.specs.State.{isFinished, movedTo, onCore}
@@ -25,7 +22,6 @@ use Rattle.machine.specs.Step.{Outcome, unchanged, carriedOut, outcome, step, l
 use Rattle.machine.proofs.Facts.{Facts}
 use Rattle.machine.proofs.Steps.{sound-engine, lowest-choice}
 use Rattle.machine.proofs.Soundness.{next, step-keeps-sound}
-use Rattle.operations.specs.declared.Action.{Action}
 use Rattle.operations.specs.Effects.{effects}
 use Rattle.operations.specs.Seen.{sight}
 use Rattle.plans.specs.Steps.{Plan, stepPlan}

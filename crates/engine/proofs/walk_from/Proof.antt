@@ -50,13 +50,24 @@ same-length-6 : tie.Need-same-length-6
 same-length-6 c = search needs
 
 returns-3 : tie.Need-returns-3
-returns-3 c = first-length _ _ _ _ (sym (any-table _ _ _ _ _ (c .before .before .before .before .before .before .is-sound .ensures)) ∙ not-false _ (c .before .before .before .before .before .if1 .left)) (unfinished-is _ (c .before .before .before .if2 .left)) (sym (c .before .before .has-length .ensures) ∙ not-true _ (c .before .if3 .taken)) (c .stopped3 .ensures)
+returns-3 c =
+    let at-if2 = c .before .before .before in
+    let at-if1 = at-if2 .before .before in
+    let at-is-sound = at-if1 .before in
+    first-length _ _ _ _ (sym (any-table _ _ _ _ _ (at-is-sound .is-sound .ensures)) ∙ not-false _ (at-if1 .if1 .left)) (unfinished-is _ (at-if2 .if2 .left)) (sym (c .before .before .has-length .ensures) ∙ not-true _ (c .before .if3 .taken)) (c .stopped3 .ensures)
 
 judge-requires : tie.Need-judge-requires
 judge-requires c κs = search needs
 
 walk-requires : tie.Need-walk-requires
-walk-requires c κs = (c .before .before .before .before .before .before .before .before .before .before .before .before .before .before .before .before .before .before .before .pre .0, c .before .before .before .before .before .before .before .before .before .before .before .before .before .before .before .before .before .before .before .pre .1, sym (c .before .before .before .before .has-length .ensures) ∙ not-false _ (c .before .before .before .if3 .left), c .before .before .judge .ensures, unfinished-is _ (c .before .before .before .before .before .if2 .left), sym (any-table _ _ _ _ _ (c .before .before .before .before .before .before .before .before .is-sound .ensures)) ∙ not-false _ (c .before .before .before .before .before .before .before .if1 .left))
+walk-requires c κs =
+    let at-if3 = c .before .before .before in
+    let at-has-length = at-if3 .before in
+    let at-if2 = at-has-length .before in
+    let at-if1 = at-if2 .before .before in
+    let at-is-sound = at-if1 .before in
+    let start = at-is-sound .before .before .before .before .before .before .before .before .before .before .before in
+    (start .pre .0, start .pre .1, sym (at-has-length .has-length .ensures) ∙ not-false _ (at-if3 .if3 .left), c .before .before .judge .ensures, unfinished-is _ (at-if2 .if2 .left), sym (any-table _ _ _ _ _ (at-is-sound .is-sound .ensures)) ∙ not-false _ (at-if1 .if1 .left))
 
 same-length-7 : tie.Need-same-length-7
 same-length-7 c = search needs

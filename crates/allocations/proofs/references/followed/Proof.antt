@@ -46,7 +46,14 @@ returns-4 c = search needs
 
 locate-requires : tie.Need-locate-requires
 locate-requires c κs =
-    (tested-readable _ _ _ _ _ (sym (c .before .before .before .before .before .before .before .before .fits2 .ensures) ∙ not-false _ (c .before .before .before .before .before .before .before .if1 .left)) (sym (c .before .before .before .before .before .before .keeps-section .ensures) ∙ not-false _ (c .before .before .before .before .before .if2 .left)) (c .before .before .before .before .before .before .before .before .before .before .before .before .before .before .pre) (sym (c .before .before .before .are-words .ensures) ∙ not-false _ (c .before .before .if3 .left)), sym (c .before .is-reference .ensures) ∙ not-false _ (c .if4 .left))
+    let at-are-words = c .before .before .before in
+    let at-if2 = at-are-words .before .before in
+    let at-keeps-section = at-if2 .before in
+    let at-if1 = at-keeps-section .before in
+    let at-fits2 = at-if1 .before in
+    let start = at-fits2 .before .before .before .before .before .before in
+    let readable = tested-readable _ _ _ _ _ (sym (at-fits2 .fits2 .ensures) ∙ not-false _ (at-if1 .if1 .left)) (sym (at-keeps-section .keeps-section .ensures) ∙ not-false _ (at-if2 .if2 .left)) (start .pre) (sym (at-are-words .are-words .ensures) ∙ not-false _ (c .before .before .if3 .left)) in
+    (readable, sym (c .before .is-reference .ensures) ∙ not-false _ (c .if4 .left))
 
 enum-known-why : tie.Need-enum-known-why
 enum-known-why c = search needs
@@ -62,7 +69,18 @@ folded-requires c κs = search needs
 
 contents-requires : tie.Need-contents-requires
 contents-requires c κs =
-    (omega arith, locate-reached _ _ (tested-readable _ _ _ _ _ (sym (c .before .before .before .before .before .before .before .before .before .before .before .before .before .fits2 .ensures) ∙ not-false _ (c .before .before .before .before .before .before .before .before .before .before .before .before .if1 .left)) (sym (c .before .before .before .before .before .before .before .before .before .before .before .keeps-section .ensures) ∙ not-false _ (c .before .before .before .before .before .before .before .before .before .before .if2 .left)) (c .before .before .before .before .before .before .before .before .before .before .before .before .before .before .before .before .before .before .before .pre) (sym (c .before .before .before .before .before .before .before .before .are-words .ensures) ∙ not-false _ (c .before .before .before .before .before .before .before .if3 .left))) _ (sym (c .before .before .before .before .before .before .is-reference .ensures) ∙ not-false _ (c .before .before .before .before .before .if4 .left)) _ (at-is _ (c .before .before .before .before .locate .ensures) (c .before .before .at .given .1)))
+    let at-locate = c .before .before .before .before in
+    let at-if4 = at-locate .before in
+    let at-is-reference = at-if4 .before in
+    let at-if3 = at-is-reference .before in
+    let at-are-words = at-if3 .before in
+    let at-if2 = at-are-words .before .before in
+    let at-keeps-section = at-if2 .before in
+    let at-if1 = at-keeps-section .before in
+    let at-fits2 = at-if1 .before in
+    let start = at-fits2 .before .before .before .before .before .before in
+    let readable = tested-readable _ _ _ _ _ (sym (at-fits2 .fits2 .ensures) ∙ not-false _ (at-if1 .if1 .left)) (sym (at-keeps-section .keeps-section .ensures) ∙ not-false _ (at-if2 .if2 .left)) (start .pre) (sym (at-are-words .are-words .ensures) ∙ not-false _ (at-if3 .if3 .left)) in
+    (omega arith, locate-reached _ _ readable _ (sym (at-is-reference .is-reference .ensures) ∙ not-false _ (at-if4 .if4 .left)) _ (at-is _ (at-locate .locate .ensures) (c .before .before .at .given .1)))
 
 fold-requires : tie.Need-fold-requires
 fold-requires c κs = search needs

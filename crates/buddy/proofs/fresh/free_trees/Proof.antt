@@ -29,13 +29,17 @@ loop-holds c = (omega arith, refl, omega (arith, zero-mul (size (c .before .befo
 
 slice-write-map : tie.Need-slice-write-map Inv-loop μ-loop
 slice-write-map c =
+    let at-size-of = c .before .before .before in
+    let start = at-size-of .before .before in
     let l = c .before .loop in
-    omega (arith, trees-room (c .before .before .before .before .before .args .k) (c .loop-test .taken) (c .before .before .before .before .before .pre .1), trees-next (c .before .before .before .before .before .args .k) (l .done) (l .inv .2) (c .before .before .before .size-of .ensures), size-pos (c .before .before .before .before .before .args .k))
+    omega (arith, trees-room (start .args .k) (c .loop-test .taken) (start .pre .1), trees-next (start .args .k) (l .done) (l .inv .2) (at-size-of .size-of .ensures), size-pos (start .args .k))
 
 add-i : tie.Need-add-i Inv-loop μ-loop
 add-i c =
+    let at-size-of = c .before .before .before in
+    let start = at-size-of .before .before in
     let l = c .before .loop in
-    record { fits = omega (arith, trees-room (c .before .before .before .before .before .args .k) (c .loop-test .taken) (c .before .before .before .before .before .pre .1), trees-next (c .before .before .before .before .before .args .k) (l .done) (l .inv .2) (c .before .before .before .size-of .ensures)) }
+    record { fits = omega (arith, trees-room (start .args .k) (c .loop-test .taken) (start .pre .1), trees-next (start .args .k) (l .done) (l .inv .2) (at-size-of .size-of .ensures)) }
 
 add-done : tie.Need-add-done Inv-loop μ-loop
 add-done c = search needs
@@ -45,9 +49,11 @@ loop-less c = search needs
 
 loop-again : tie.Need-loop-again Inv-loop μ-loop
 loop-again c =
+    let at-size-of = c .before .before .before in
+    let start = at-size-of .before .before in
     let l = c .before .loop in
-    let room = trees-room (c .before .before .before .before .before .args .k) (c .loop-test .taken) (c .before .before .before .before .before .pre .1) in
-    (omega arith, length-set (l .map) _ _ ∙ l .inv .1, trees-next (c .before .before .before .before .before .args .k) (l .done) (l .inv .2) (c .before .before .before .size-of .ensures), rw (l .inv .3) (trees-more (c .before .before .before .before .before .args .k) (length (c .before .before .before .before .before .args .map .now)) (l .done) (l .i) (l .inv .2) room (c .before .before .free-tag .ensures)))
+    let room = trees-room (start .args .k) (c .loop-test .taken) (start .pre .1) in
+    (omega arith, length-set (l .map) _ _ ∙ l .inv .1, trees-next (start .args .k) (l .done) (l .inv .2) (at-size-of .size-of .ensures), rw (l .inv .3) (trees-more (start .args .k) (length (start .args .map .now)) (l .done) (l .i) (l .inv .2) room (c .before .before .free-tag .ensures)))
 
 same-length : tie.Need-same-length Inv-loop μ-loop
 same-length c = search needs

@@ -25,17 +25,29 @@ zero-all-requires c κs = search needs
 
 free-trees-requires : tie.Need-free-trees-requires
 free-trees-requires c κs =
-    let u = c .before .before .before .before .before .before .before .before .before .args .setup in
-    let m = c .before .before .before .before .before .before .before .before .before .args .map .now in
-    let fill = count-fill u (c .before .before .before .before .before .before .before .top-of .result) (c .before .before .before .before .before .size-of .result) (c .before .before .before .before .before .before .words-of .result) (c .before .before .before .before .before .before .before .top-of .ensures) (c .before .before .before .before .before .size-of .ensures) (c .before .before .before .before .before .before .words-of .ensures) (c .before .before .before .before .before .before .before .before .before .pre .0) in
-    (omega (arith, c .before .before .before .before .before .before .before .top-of .ensures, top-le (u .d)), omega (arith, fill, zeros-long m (c .before .before .before .zero-all .ensures)), zeros-again m (c .before .before .before .zero-all .ensures))
+    let at-zero-all = c .before .before .before in
+    let at-size-of = at-zero-all .before .before in
+    let at-words-of = at-size-of .before in
+    let at-top-of = at-words-of .before in
+    let start = at-top-of .before .before in
+    let u = start .args .setup in
+    let m = start .args .map .now in
+    let fill = count-fill u (at-top-of .top-of .result) (at-size-of .size-of .result) (at-words-of .words-of .result) (at-top-of .top-of .ensures) (at-size-of .size-of .ensures) (at-words-of .words-of .ensures) (start .pre .0) in
+    (omega (arith, at-top-of .top-of .ensures, top-le (u .d)), omega (arith, fill, zeros-long m (at-zero-all .zero-all .ensures)), zeros-again m (at-zero-all .zero-all .ensures))
 
 same-length : tie.Need-same-length
 same-length c = search needs
 
 returns : tie.Need-returns
 returns c =
-    trees-fresh (c .before .before .before .before .before .before .before .before .before .before .before .before .args .map .now) (c .before .before .before .before .before .before .zero-all .ensures) (c .before .before .before .before .before .before .before .before .before .before .before .before .args .setup) (c .before .before .before .before .before .before .before .before .before .before .top-of .result) (c .before .before .before .before .before .before .before .before .size-of .result) (c .before .before .before .before .before .before .before .before .before .words-of .result) (c .before .before .before .before .before .before .before .before .before .before .top-of .ensures) (c .before .before .before .before .before .before .before .before .size-of .ensures) (c .before .before .before .before .before .before .before .before .before .words-of .ensures) (c .before .before .before .before .before .before .before .before .before .before .before .before .pre .0) (c .before .before .free-trees .ensures)
+    let at-zero-all = c .before .before .before .before .before .before in
+    let at-size-of = at-zero-all .before .before in
+    let at-words-of = at-size-of .before in
+    let at-top-of = at-words-of .before in
+    let start = at-top-of .before .before in
+    let u = start .args .setup in
+    let m = start .args .map .now in
+    trees-fresh m (at-zero-all .zero-all .ensures) u (at-top-of .top-of .result) (at-size-of .size-of .result) (at-words-of .words-of .result) (at-top-of .top-of .ensures) (at-size-of .size-of .ensures) (at-words-of .words-of .ensures) (start .pre .0) (c .before .before .free-trees .ensures)
 
 pub set-up-spec : {M : Type 1} → statement M
 set-up-spec =

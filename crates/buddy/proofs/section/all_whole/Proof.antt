@@ -35,7 +35,10 @@ part-check-end : tie.Need-part-check-end Inv-loop μ-loop
 part-check-end c = omega (arith, times-pred (c .before .before .size-of .result) (c .before .loop .left) (c .loop-test .taken))
 
 check-requires : tie.Need-check-requires Inv-loop μ-loop
-check-requires c κs = (omega arith, part-length (c .before .before .loop .i) (c .before .before .before .size-of .result) (c .before .before .before .before .before .args .map .now) (omega (arith, times-pred (c .before .before .before .size-of .result) (c .before .before .loop .left) (c .before .loop-test .taken))) ∙ c .before .before .before .size-of .ensures)
+check-requires c κs =
+    let at-size-of = c .before .before .before in
+    let start = at-size-of .before .before in
+    (omega arith, part-length (c .before .before .loop .i) (at-size-of .size-of .result) (start .args .map .now) (omega (arith, times-pred (at-size-of .size-of .result) (c .before .before .loop .left) (c .before .loop-test .taken))) ∙ at-size-of .size-of .ensures)
 
 is-whole-requires : tie.Need-is-whole-requires Inv-loop μ-loop
 is-whole-requires c κs = tt

@@ -29,7 +29,9 @@ mul-start : tie.Need-mul-start
 mul-start c = record { fits = omega (arith, div-add-mod' (c .before .before .before .before .args .address - c .before .before .before .before .args .setup .s1) (c .before .size-of .result)) }
 
 add-end : tie.Need-add-end
-add-end c = record { fits = omega (arith, tree-fits (c .before .before .before .before .args .setup) (c .before .before .before .before .args .map .now) (c .before .before .before .before .pre .0) (c .before .before .before .before .pre .1) (c .before .before .top-of .result) (c .before .size-of .result) (c .before .before .before .before .args .address) (c .before .before .top-of .ensures) (c .before .size-of .ensures) (c .before .before .before .before .pre .2) (c .before .before .before .before .pre .3)) }
+add-end c =
+    let start = c .before .before .before .before in
+    record { fits = omega (arith, tree-fits (start .args .setup) (start .args .map .now) (start .pre .0) (start .pre .1) _ (c .before .size-of .result) (start .args .address) (c .before .before .top-of .ensures) (c .before .size-of .ensures) (start .pre .2) (start .pre .3)) }
 
 rem-deliver-at : tie.Need-rem-deliver-at
 rem-deliver-at c = omega (arith, c .before .size-of .ensures, size-pos (c .before .before .top-of .result))
@@ -41,7 +43,9 @@ part-deliver-at-start : tie.Need-part-deliver-at-start
 part-deliver-at-start c = search needs
 
 part-deliver-at-end : tie.Need-part-deliver-at-end
-part-deliver-at-end c = tree-fits (c .before .before .before .before .args .setup) (c .before .before .before .before .args .map .now) (c .before .before .before .before .pre .0) (c .before .before .before .before .pre .1) (c .before .before .top-of .result) (c .before .size-of .result) (c .before .before .before .before .args .address) (c .before .before .top-of .ensures) (c .before .size-of .ensures) (c .before .before .before .before .pre .2) (c .before .before .before .before .pre .3)
+part-deliver-at-end c =
+    let start = c .before .before .before .before in
+    tree-fits (start .args .setup) (start .args .map .now) (start .pre .0) (start .pre .1) (c .before .before .top-of .result) (c .before .size-of .result) (start .args .address) (c .before .before .top-of .ensures) (c .before .size-of .ensures) (start .pre .2) (start .pre .3)
 
 deliver-at-requires : tie.Need-deliver-at-requires
 deliver-at-requires c κs = let e = c .before .before .before .before .before in
@@ -57,8 +61,10 @@ same-length : tie.Need-same-length
 same-length c = search needs
 
 returns : tie.Need-returns
-returns c = let e = c .before .before .before .before .before .before .before .before in
-    delivers-map (e .args .setup) (e .args .map .now) (e .pre .0) (e .pre .1) (c .before .before .before .before .before .before .top-of .result) (c .before .before .before .before .before .size-of .result) (e .args .address) (c .before .before .before .before .before .before .top-of .ensures) (c .before .before .before .before .before .size-of .ensures)
+returns c =
+    let at-size-of = c .before .before .before .before .before in
+    let e = at-size-of .before .before .before in
+    delivers-map (e .args .setup) (e .args .map .now) (e .pre .0) (e .pre .1) (at-size-of .before .top-of .result) (at-size-of .size-of .result) (e .args .address) (at-size-of .before .top-of .ensures) (at-size-of .size-of .ensures)
     (e .pre .2) (e .pre .3) (e .args .j) (c .before .before .deliver-at .last .1 .1 .1 .0) (e .pre .4) (e .pre .5) (c .before .before .deliver-at .ensures)
 
 pub deliver-spec : {M : Type 1} → statement M

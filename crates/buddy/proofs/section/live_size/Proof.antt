@@ -23,7 +23,10 @@ tag-size-requires : tie.Need-tag-size-requires
 tag-size-requires c κs = search needs
 
 returns-2 : tie.Need-returns-2
-returns-2 c = c .tag-size .ensures ∙ sym (live-tag _ _ (c .before .before .before .before .before .before .before .pre .0) (c .before .before .before .before .before .before .before .pre .1) (c .before .before .before .before .before .before .before .args .address) (omega arith) (omega (arith, c .before .before .before .words-of .ensures)))
+returns-2 c =
+    let at-words-of = c .before .before .before in
+    let start = at-words-of .before .before .before .before in
+    c .tag-size .ensures ∙ sym (live-tag _ _ (start .pre .0) (start .pre .1) (start .args .address) (omega arith) (omega (arith, at-words-of .words-of .ensures)))
 
 returns-3 : tie.Need-returns-3
 returns-3 c = sym (live-above _ _ (c .before .before .before .before .before .pre .0) (c .before .before .before .before .before .args .address) (omega (arith, c .before .words-of .ensures)))

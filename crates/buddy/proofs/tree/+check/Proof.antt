@@ -96,14 +96,20 @@ check-part-check-end : (t : ℕ) → check-lts.Need-part-check-end (check-calls 
 check-part-check-end t c = omega arith
 
 check-check-requires-2 : (t : ℕ) → check-lts.Need-check-requires-2 (check-calls t) (check-at t) check.Post
-check-check-requires-2 t c κs = (omega arith, (omega arith, high-length _ (c .before .before .before .before .before .before .before .before .before .before .before .args .tags .now) (omega arith) (c .before .before .before .before .before .before .before .before .before .before .before .pre .1 .1)))
+check-check-requires-2 t c κs =
+    let start = c .before .before .before .before .before .before .before .before .before .before .before in
+    (omega arith, (omega arith, high-length _ (start .args .tags .now) (omega arith) (start .pre .1 .1)))
 
 check-both-parts-requires : (t : ℕ) → check-lts.Need-both-parts-requires (check-calls t) (check-at t) check.Post
 check-both-parts-requires t c κs = tt
 
 check-returns-4 : (t : ℕ) → check-lts.Need-returns-4 (check-calls t) (check-at t) check.Post
-check-returns-4 t c = c .both-parts .ensures ∙ ap₂ both (c .before .before .before .check .ensures) (c .before .check2 .ensures)
-    ∙ sym (part-halves _ _ (omega arith) (c .before .before .before .before .before .before .before .before .before .before .before .before .before .pre .1 .1) (λ q. c .before .before .before .before .before .before .before .before .before .if1 .left (q ∙ sym (c .before .before .before .before .before .before .before .before .before .before .free-tag .ensures))) (λ q. c .before .before .before .before .before .before .if2 .left (q ∙ sym (c .before .before .before .before .before .before .before .live-tag .ensures))))
+check-returns-4 t c =
+    let dead = c .before .before .before .before .before .before in
+    let split = dead .before .before .before in
+    let start = split .before .before .before .before in
+    c .both-parts .ensures ∙ ap₂ both (c .before .before .before .check .ensures) (c .before .check2 .ensures)
+    ∙ sym (part-halves _ _ (omega arith) (start .pre .1 .1) (λ q. split .if1 .left (q ∙ sym (split .before .free-tag .ensures))) (λ q. dead .if2 .left (q ∙ sym (dead .before .live-tag .ensures))))
 
 pub +check-spec : {M : Type 1} → statement M
 +check-spec = close μ-check λ t. check-lts.spec (check-calls t)

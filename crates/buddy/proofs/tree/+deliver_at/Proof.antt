@@ -60,10 +60,15 @@ deliver-at-same-length : (t : ℕ) → deliver-at-lts.Need-same-length (deliver-
 deliver-at-same-length t c = search needs
 
 deliver-at-returns : (t : ℕ) → deliver-at-lts.Need-returns (deliver-at-calls t) (deliver-at-at t) deliver-at.Post
-deliver-at-returns t c = λ at s whole w e. delivers-free (c .before .before .before .before .before .before .before .before .args .k) (c .before .before .before .before .before .before .before .before .args .j) (c .before .before .before .before .before .before .before .before .args .offset) at (c .before .before .before .before .before .before .before .before .args .tags .now) _ s (c .before .before .before .before .if1 .taken ∙ c .before .before .before .before .before .free-tag .ensures) w e (c .before .before .split .ensures at)
+deliver-at-returns t c =
+    let test = c .before .before .before .before in
+    let start = test .before .before .before .before in
+    λ at s whole w e. delivers-free (start .args .k) (start .args .j) (start .args .offset) at (start .args .tags .now) _ s (test .if1 .taken ∙ test .before .free-tag .ensures) w e (c .before .before .split .ensures at)
 
 deliver-at-returns-2 : (t : ℕ) → deliver-at-lts.Need-returns-2 (deliver-at-calls t) (deliver-at-at t) deliver-at.Post
-deliver-at-returns-2 t c = λ at s whole w e. absurd (delivers-none (c .before .before .before .before .before .args .k) (c .before .before .before .before .before .args .j) (c .before .before .before .before .before .args .offset) at (c .before .before .before .before .before .args .tags .now) s (c .if2 .taken) (λ q. c .before .if1 .left (q ∙ sym (c .before .before .free-tag .ensures))) w e)
+deliver-at-returns-2 t c =
+    let start = c .before .before .before .before .before in
+    λ at s whole w e. absurd (delivers-none (start .args .k) (start .args .j) (start .args .offset) at (start .args .tags .now) s (c .if2 .taken) (λ q. c .before .if1 .left (q ∙ sym (c .before .before .free-tag .ensures))) w e)
 
 deliver-at-half-around-requires : (t : ℕ) → deliver-at-lts.Need-half-around-requires (deliver-at-calls t) (deliver-at-at t) deliver-at.Post
 deliver-at-half-around-requires t c κs = tt

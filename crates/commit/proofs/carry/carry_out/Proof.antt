@@ -234,56 +234,11 @@ returns-11 c = idles _ _ _ _ _ _ _ _ _ _ (c .match .keys11)
 pub carry-out-spec : {M : Type 1} → statement M
 carry-out-spec =
     tie.close
-    (tie.spec
-    enum-known-action
-    store-requires
-    enum-known-action-2
-    store-requires-2
-    store-requires-3
-    enum-known-action-3
-    set-up-requires
-    words-of-requires
-    zero-words-requires
-    enum-known-action-4
-    take-run-requires
-    store-requires-4
-    enum-known-action-5
-    take-run-requires-2
-    store-requires-5
-    store-requires-6
-    enum-known-action-6
-    free-block-requires
-    store-requires-7
-    enum-known-action-7
-    store-requires-8
-    enum-known-action-8
-    print-into-requires
-    enum-known-action-9
-    mul-entries
-    element-write-entries
-    enum-known-action-10
-    store-requires-9
-    same-length
-    returns
-    same-length-2
-    returns-2
-    same-length-3
-    same-length-4
-    returns-3
-    same-length-5
-    same-length-6
-    returns-4
-    same-length-7
-    same-length-8
-    returns-5
-    same-length-9
-    same-length-10
-    returns-6
-    same-length-11
-    returns-7
-    same-length-12
-    returns-8
-    returns-9
-    same-length-13
-    returns-10
+    (tie.spec enum-known-action store-requires enum-known-action-2 store-requires-2 store-requires-3 enum-known-action-3
+    set-up-requires words-of-requires zero-words-requires enum-known-action-4 take-run-requires store-requires-4
+    enum-known-action-5 take-run-requires-2 store-requires-5 store-requires-6 enum-known-action-6 free-block-requires
+    store-requires-7 enum-known-action-7 store-requires-8 enum-known-action-8 print-into-requires enum-known-action-9
+    mul-entries element-write-entries enum-known-action-10 store-requires-9 same-length returns same-length-2 returns-2
+    same-length-3 same-length-4 returns-3 same-length-5 same-length-6 returns-4 same-length-7 same-length-8 returns-5
+    same-length-9 same-length-10 returns-6 same-length-11 returns-7 same-length-12 returns-8 returns-9 same-length-13 returns-10
     returns-11)

@@ -14,8 +14,9 @@ level-of-requires c κs = omega (arith, c .top-of .ensures, top-le (c .before .b
 
 deliver-requires : tie.Need-deliver-requires
 deliver-requires c κs =
-    let r = c .before .before .before .before .before .pre .2 in
-    (c .before .before .before .before .before .pre .0, c .before .before .before .before .before .pre .1, run-low _ r, run-inside _ r, run-small _ r (c .before .before .top-of .ensures) (c .before .level-of .ensures), run-first _ r (c .before .before .top-of .ensures) (c .before .level-of .ensures))
+    let start = c .before .before .before .before .before in
+    let r = start .pre .2 in
+    (start .pre .0, start .pre .1, run-low _ r, run-inside _ r, run-small _ r (c .before .before .top-of .ensures) (c .before .level-of .ensures), run-first _ r (c .before .before .top-of .ensures) (c .before .level-of .ensures))
 
 fill-requires : tie.Need-fill-requires
 fill-requires c κs = let r = c .before .before .before .before .before .before .before .before .before .pre .2 in (run-low _ r, run-lies _ r, λ some. copy-lies _ r (c .before .before .before .before .before .before .before .before .before .pre .3 some))
@@ -27,7 +28,12 @@ same-length-2 : tie.Need-same-length-2
 same-length-2 c = search needs
 
 returns : tie.Need-returns
-returns c = (run-delivered _ (c .before .before .before .before .before .before .before .before .before .before .before .before .pre .2) (c .before .before .before .before .before .before .before .before .before .top-of .ensures) (c .before .before .before .before .before .before .before .before .level-of .ensures) (c .before .before .before .before .before .before .deliver .ensures), c .before .before .fill .ensures)
+returns c =
+    let at-deliver = c .before .before .before .before .before .before in
+    let at-level-of = at-deliver .before .before in
+    let at-top-of = at-level-of .before in
+    let start = at-top-of .before .before .before in
+    (run-delivered _ (start .pre .2) (at-top-of .top-of .ensures) (at-level-of .level-of .ensures) (at-deliver .deliver .ensures), c .before .before .fill .ensures)
 
 pub take-run-spec : {M : Type 1} → statement M
 take-run-spec =

@@ -109,33 +109,6 @@ returns-11 c = sym (stays _ _ (c .before .args .action) (c .match .keys11))
 pub go-on-spec : {M : Type 1} → statement M
 go-on-spec =
     tie.close
-    (tie.spec
-    enum-known-action
-    enum-told
-    enum-known-action-2
-    add-after
-    enum-known-action-3
-    add-after-2
-    enum-told-2
-    add-after-3
-    enum-told-3
-    sub-after
-    enum-told-4
-    add-after-4
-    enum-told-5
-    sub-after-2
-    enum-told-6
-    add-after-5
-    enum-told-7
-    sub-after-3
-    returns
-    returns-2
-    returns-3
-    returns-4
-    returns-5
-    returns-6
-    returns-7
-    returns-8
-    returns-9
-    returns-10
-    returns-11)
+    (tie.spec enum-known-action enum-told enum-known-action-2 add-after enum-known-action-3 add-after-2 enum-told-2 add-after-3
+    enum-told-3 sub-after enum-told-4 add-after-4 enum-told-5 sub-after-2 enum-told-6 add-after-5 enum-told-7 sub-after-3
+    returns returns-2 returns-3 returns-4 returns-5 returns-6 returns-7 returns-8 returns-9 returns-10 returns-11)

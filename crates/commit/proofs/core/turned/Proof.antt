@@ -79,27 +79,6 @@ returns-6 c = turned-kept _ _ _ (c .before .before .args .action) (unrecorded _ 
 pub turned-spec : {M : Type 1} → statement M
 turned-spec =
     tie.close
-    (tie.spec
-    enum-known-action
-    defined-requires
-    turn-requires
-    enum-known-action-2
-    saved-requires
-    turn-requires-2
-    enum-known-action-3
-    restored-requires
-    turn-requires-3
-    enum-known-action-4
-    tests-of-requires
-    called-requires
-    turn-requires-4
-    enum-told
-    returned-requires
-    turn-requires-5
-    turn-requires-6
-    returns
-    returns-2
-    returns-3
-    returns-4
-    returns-5
-    returns-6)
+    (tie.spec enum-known-action defined-requires turn-requires enum-known-action-2 saved-requires turn-requires-2
+    enum-known-action-3 restored-requires turn-requires-3 enum-known-action-4 tests-of-requires called-requires turn-requires-4
+    enum-told returned-requires turn-requires-5 turn-requires-6 returns returns-2 returns-3 returns-4 returns-5 returns-6)

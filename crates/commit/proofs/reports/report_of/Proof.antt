@@ -139,43 +139,9 @@ returns-8 c =
 pub report-of-spec : {M : Type 1} → statement M
 report-of-spec =
     tie.close
-    (tie.spec
-    enum-known-action
-    store-to-requires
-    no-store-requires
-    tell-requires
-    enum-known-action-2
-    store-to-requires-2
-    store-to-requires-3
-    tell-requires-2
-    enum-known-action-3
-    store-to-requires-4
-    no-store-requires-2
-    tell-requires-3
-    enum-known-action-4
-    store-to-requires-5
-    store-to-requires-6
-    tell-requires-4
-    enum-known-action-5
-    store-to-requires-7
-    no-store-requires-3
-    tell-requires-5
-    enum-known-action-6
-    store-to-requires-8
-    no-store-requires-4
-    tell-requires-6
-    enum-known-action-7
-    store-to-requires-9
-    no-store-requires-5
-    tell-requires-7
-    no-store-requires-6
-    no-store-requires-7
-    tell-requires-8
-    returns
-    returns-2
-    returns-3
-    returns-4
-    returns-5
-    returns-6
-    returns-7
-    returns-8)
+    (tie.spec enum-known-action store-to-requires no-store-requires tell-requires enum-known-action-2 store-to-requires-2
+    store-to-requires-3 tell-requires-2 enum-known-action-3 store-to-requires-4 no-store-requires-2 tell-requires-3
+    enum-known-action-4 store-to-requires-5 store-to-requires-6 tell-requires-4 enum-known-action-5 store-to-requires-7
+    no-store-requires-3 tell-requires-5 enum-known-action-6 store-to-requires-8 no-store-requires-4 tell-requires-6
+    enum-known-action-7 store-to-requires-9 no-store-requires-5 tell-requires-7 no-store-requires-6 no-store-requires-7
+    tell-requires-8 returns returns-2 returns-3 returns-4 returns-5 returns-6 returns-7 returns-8)

@@ -1,7 +1,6 @@
 -- `engine::walks::answer_at` meets its contract. Assumes nothing.
 use borrow.Author.Tests.{eq-eqb, ne-eqb}
 use Rattle.machine.specs.State.{isFinished}
-use borrow.Author.Needs.{needs}
 use Rattle.engine.proofs.walks.answer_at.Statement.{statement}
 use Rattle.engine.proofs.walks.answer_at.Tie as tie
 

@@ -174,31 +174,7 @@ loop-again c =
 pub walk-spec : {M : Type 1} → statement M
 walk-spec =
     tie.close
-    (tie.spec
-    Inv-loop
-    μ-loop
-    records-of-requires
-    counts-of-requires
-    loop-holds
-    add-count
-    slice-aggregate-plan-step
-    plan-step-requires
-    enum-known-planned
-    no-report-requires
-    ended-requires
-    same-length
-    same-length-2
-    returns
-    enum-known-planned-2
-    go-on-requires
-    slice-aggregate-carry-out
-    carry-out-requires
-    turned-requires
-    answer-at-requires
-    report-of-requires
-    ended-requires-2
-    same-length-3
-    same-length-4
-    returns-2
-    loop-less
-    loop-again)
+    (tie.spec Inv-loop μ-loop records-of-requires counts-of-requires loop-holds add-count slice-aggregate-plan-step
+    plan-step-requires enum-known-planned no-report-requires ended-requires same-length same-length-2 returns
+    enum-known-planned-2 go-on-requires slice-aggregate-carry-out carry-out-requires turned-requires answer-at-requires
+    report-of-requires ended-requires-2 same-length-3 same-length-4 returns-2 loop-less loop-again)

@@ -28,8 +28,10 @@ array-copy-out-link-from c = omega arith
 
 link-from-requires : tie.Need-link-from-requires Inv-loop μ-loop
 link-from-requires c κs =
+    let at-names-in = c .before .before .before .before .before in
+    let start = at-names-in .before .before .before in
     let so-far = c .before .before .loop .inv in
-    (c .before .before .before .before .before .before .before .before .pre .0, c .before .before .before .before .before .before .before .before .pre .1, through-reached _ _ (c .before .before .before .before .before .before .before .before .pre .0) _ (c .before .before .before .before .before .before .before .before .pre .1) _ (so-far .reached), field-named (c .before .before .before .before .before .names-in .result) _ (c .before .before .before .before .before .before .before .before .pre .2) (c .before .before .before .before .before .names-in .ensures .0) _ (so-far .from))
+    (start .pre .0, start .pre .1, through-reached _ _ (start .pre .0) _ (start .pre .1) _ (so-far .reached), field-named (at-names-in .names-in .result) _ (start .pre .2) (at-names-in .names-in .ensures .0) _ (so-far .from))
 
 enum-known-answer : tie.Need-enum-known-answer Inv-loop μ-loop
 enum-known-answer c = search needs
@@ -39,8 +41,11 @@ enum-told c = search needs
 
 returns : tie.Need-returns Inv-loop μ-loop
 returns c =
-    followed-stopped _ _ _ _ _ _ _ _ (c .before .before .before .before .before .loop .inv) (omega (arith, c .before .before .before .before .before .before .before .before .names-in .ensures .1)) (c .before .before .link-from .ensures) _ (c .enum-told .given .1)
-    ∙ ap linked (from-bug (c .before .before .before .before .before .before .before .before .names-in .result) _ (c .before .before .before .before .before .before .before .before .before .before .before .pre .2) (c .before .before .before .before .before .before .before .before .names-in .ensures .0) _ _ _ refl)
+    let turn = c .before .before .before .before .before in
+    let at-names-in = turn .before .before .before in
+    let start = at-names-in .before .before .before in
+    followed-stopped _ _ _ _ _ _ _ _ (turn .loop .inv) (omega (arith, at-names-in .names-in .ensures .1)) (c .before .before .link-from .ensures) _ (c .enum-told .given .1)
+    ∙ ap linked (from-bug (at-names-in .names-in .result) _ (start .pre .2) (at-names-in .names-in .ensures .0) _ _ _ refl)
 
 add-i : tie.Need-add-i Inv-loop μ-loop
 add-i c = omega arith
@@ -50,7 +55,11 @@ loop-less c = omega arith
 
 loop-again : tie.Need-loop-again Inv-loop μ-loop
 loop-again c =
-    followed-next _ _ _ _ _ _ _ _ (c .before .before .before .before .before .before .loop .inv) (omega (arith, c .before .before .before .before .before .before .before .before .before .names-in .ensures .1)) (c .before .before .before .link-from .ensures) (through-readable _ _ (c .before .before .before .before .before .before .before .before .before .before .before .before .pre .0) _ (c .before .before .before .before .before .before .before .before .before .before .before .before .pre .1)) _
+    let at-link-from = c .before .before .before in
+    let turn = at-link-from .before .before .before in
+    let at-names-in = turn .before .before .before in
+    let start = at-names-in .before .before .before in
+    followed-next _ _ _ _ _ _ _ _ (turn .loop .inv) (omega (arith, at-names-in .names-in .ensures .1)) (at-link-from .link-from .ensures) (through-readable _ _ (start .pre .0) _ (start .pre .1)) _
     (c .before .answer .given .1)
 
 returns-2 : tie.Need-returns-2 Inv-loop μ-loop

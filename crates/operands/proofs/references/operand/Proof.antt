@@ -22,8 +22,11 @@ contents-requires c κs =
 
 width-of-requires : tie.Need-width-of-requires
 width-of-requires c κs =
-    let h = c .before .before .before .before .before .before .before .before .before .pre .0 in
-    reached-narrow _ _ _ _ (h .width) (locate-reached _ _ h _ (c .before .before .before .before .before .before .before .before .before .pre .1 .reference (c .before .before .before .before .before .if1 .left)) _ (at-is _ (c .before .before .before .before .locate .ensures) (c .before .before .answer .given .1)))
+    let at-locate = c .before .before .before .before in
+    let at-if1 = at-locate .before in
+    let start = at-if1 .before .before .before .before in
+    let h = start .pre .0 in
+    reached-narrow _ _ _ _ (h .width) (locate-reached _ _ h _ (start .pre .1 .reference (at-if1 .if1 .left)) _ (at-is _ (at-locate .locate .ensures) (c .before .before .answer .given .1)))
 
 enum-known-answer-2 : tie.Need-enum-known-answer-2
 enum-known-answer-2 c = search needs

@@ -31,8 +31,9 @@ width-of-requires c κs = reached-narrow _ _ _ _ (c .before .before .before .bef
 
 make-requires : tie.Need-make-requires
 make-requires c κs =
+    let start = c .before .before .before .before .before .before in
     let r = c .before .before .match .rest in
-    (c .before .before .before .before .before .before .pre .0 .width, c .before .before .before .before .before .before .pre .3, no-wider (c .width-of .ensures) (width-small _ _ (c .before .before .before .before .before .before .pre .0) _ (c .before .before .before .before .before .before .pre .2)), c .before .before .before .before .before .before .pre .4, makes (c .before .before .before .before .before .before .pre .5) (r .0 .0 .0 .1) (r .0 .0 .1) (r .0 .1) (r .1))
+    (start .pre .0 .width, start .pre .3, no-wider (c .width-of .ensures) (width-small _ _ (start .pre .0) _ (start .pre .2)), start .pre .4, makes (start .pre .5) (r .0 .0 .0 .1) (r .0 .0 .1) (r .0 .1) (r .1))
 
 returns : tie.Need-returns
 returns c = follows _ (act-get _ _ _ _ _ _ _ _ (c .before .match .keys1)) (c .get .ensures)

@@ -28,7 +28,11 @@ returns-2 : tie.Need-returns-2
 returns-2 c = stops _ (save-full _ _ _ _ _ (at-is _ (c .before .before .before .before .before .before .locate .ensures) (c .before .before .before .before .found .given .1)) (c .before .if1 .taken) (c .if2 .taken))
 
 contents-requires : tie.Need-contents-requires
-contents-requires c κs = (c .before .before .before .before .before .before .before .before .before .before .pre .0 .width, locate-reached _ _ (c .before .before .before .before .before .before .before .before .before .before .pre .0) _ (c .before .before .before .before .before .before .before .before .before .before .pre .2) _ (at-is _ (c .before .before .before .before .before .before .locate .ensures) (c .before .before .before .before .found .given .1)))
+contents-requires c κs =
+    let at-found = c .before .before .before .before in
+    let at-locate = at-found .before .before in
+    let start = at-locate .before .before .before .before in
+    (start .pre .0 .width, locate-reached _ _ (start .pre .0) _ (start .pre .2) _ (at-is _ (at-locate .locate .ensures) (at-found .found .given .1)))
 
 returns-3 : tie.Need-returns-3
 returns-3 c = does _ (save-done _ _ _ _ _ (at-is _ (c .before .before .before .before .before .before .before .locate .ensures) (c .before .before .before .before .before .found .given .1)) (c .before .before .if1 .taken) (c .before .if2 .left) (c .contents .ensures))

@@ -41,18 +41,32 @@ enum-known-z : tie.Need-enum-known-z
 enum-known-z c = search needs
 
 define-requires : tie.Need-define-requires
-define-requires c κs = (c .before .before .before .before .before .before .before .before .before .before .before .before .before .before .before .before .before .pre .0 .width, c .before .before .before .before .before .before .before .before .before .before .before .before .before .before .before .before .before .pre .4)
+define-requires c κs =
+    let start = c .before .before .before .before .before .before .before .before .before .before .before .before .before .before .before .before .before in
+    (start .pre .0 .width, start .pre .4)
 
 enum-known-z-2 : tie.Need-enum-known-z-2
 enum-known-z-2 c = search needs
 
 returns-3 : tie.Need-returns-3
 unfolding definePlan
-returns-3 c = follows _ (bind-yes _ _ (value-is _ (c .before .before .before .before .before .before .before .before .before .before .before .before .operand .ensures) (c .before .before .before .before .before .before .before .before .before .before .x .given .1)) ∙ bind-yes _ _ (value-is _ (c .before .before .before .before .before .before .before .before .operand2 .ensures) (c .before .before .before .before .before .before .y .given .1)) ∙ bind-yes _ _ (value-is _ (c .before .before .before .before .operand3 .ensures) (c .before .before .z .given .1))) (c .define .ensures)
+returns-3 c =
+    let at-operand3 = c .before .before .before .before in
+    let at-y = at-operand3 .before .before in
+    let at-operand2 = at-y .before .before in
+    let at-x = at-operand2 .before .before in
+    let at-operand = at-x .before .before in
+    follows _ (bind-yes _ _ (value-is _ (at-operand .operand .ensures) (at-x .x .given .1)) ∙ bind-yes _ _ (value-is _ (at-operand2 .operand2 .ensures) (at-y .y .given .1)) ∙ bind-yes _ _ (value-is _ (at-operand3 .operand3 .ensures) (c .before .before .z .given .1))) (c .define .ensures)
 
 returns-4 : tie.Need-returns-4
 unfolding definePlan
-returns-4 c = stops _ (bind-yes _ _ (value-is _ (c .before .before .before .before .before .before .before .before .before .before .before .operand .ensures) (c .before .before .before .before .before .before .before .before .before .x .given .1)) ∙ bind-yes _ _ (value-is _ (c .before .before .before .before .before .before .before .operand2 .ensures) (c .before .before .before .before .before .y .given .1)) ∙ bind-no _ _ (no-value-is _ (c .before .before .before .operand3 .ensures) (c .before .z2 .given .1)))
+returns-4 c =
+    let at-operand3 = c .before .before .before in
+    let at-y = at-operand3 .before .before in
+    let at-operand2 = at-y .before .before in
+    let at-x = at-operand2 .before .before in
+    let at-operand = at-x .before .before in
+    stops _ (bind-yes _ _ (value-is _ (at-operand .operand .ensures) (at-x .x .given .1)) ∙ bind-yes _ _ (value-is _ (at-operand2 .operand2 .ensures) (at-y .y .given .1)) ∙ bind-no _ _ (no-value-is _ (at-operand3 .operand3 .ensures) (c .before .z2 .given .1)))
 
 pub plan-define-spec : {M : Type 1} → statement M
 plan-define-spec =

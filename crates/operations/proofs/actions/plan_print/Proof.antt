@@ -35,7 +35,11 @@ enum-known-y-2 c = search needs
 
 returns-2 : tie.Need-returns-2
 unfolding printPlan
-returns-2 c = follows _ (bind-yes _ _ (value-is _ (c .before .before .before .before .before .before .before .before .operand .ensures) (c .before .before .before .before .before .before .x .given .1)) ∙ bind-yes _ _ (value-is _ (c .before .before .before .before .operand2 .ensures) (c .before .before .y .given .1))) (c .print .ensures)
+returns-2 c =
+    let at-operand2 = c .before .before .before .before in
+    let at-x = at-operand2 .before .before in
+    let at-operand = at-x .before .before in
+    follows _ (bind-yes _ _ (value-is _ (at-operand .operand .ensures) (at-x .x .given .1)) ∙ bind-yes _ _ (value-is _ (at-operand2 .operand2 .ensures) (c .before .before .y .given .1))) (c .print .ensures)
 
 returns-3 : tie.Need-returns-3
 unfolding printPlan

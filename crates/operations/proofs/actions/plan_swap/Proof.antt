@@ -37,13 +37,25 @@ unfolding swapPlan
 returns-2 c = stops _ (bind-yes _ _ (at-is _ (c .before .before .before .before .before .before .before .locate .ensures) (c .before .before .before .before .before .found .given .1)) ∙ bind-no _ _ (stopped-is _ (c .before .before .before .locate2 .ensures) (c .before .other2 .given .1)))
 
 contents-requires : tie.Need-contents-requires
-contents-requires c κs = (c .before .before .before .before .before .before .before .before .before .before .before .before .pre .0 .width, locate-reached _ _ (c .before .before .before .before .before .before .before .before .before .before .before .before .pre .0) _ (c .before .before .before .before .before .before .before .before .before .before .before .before .pre .2) _ (at-is _ (c .before .before .before .locate2 .ensures) (c .before .other .given .1)))
+contents-requires c κs =
+    let at-locate2 = c .before .before .before in
+    let start = at-locate2 .before .before .before .before .before .before .before .before .before in
+    (start .pre .0 .width, locate-reached _ _ (start .pre .0) _ (start .pre .2) _ (at-is _ (at-locate2 .locate2 .ensures) (c .before .other .given .1)))
 
 contents-requires-2 : tie.Need-contents-requires-2
-contents-requires-2 c κs = (c .before .before .before .before .before .before .before .before .before .before .before .before .before .pre .0 .width, locate-reached _ _ (c .before .before .before .before .before .before .before .before .before .before .before .before .before .pre .0) _ (c .before .before .before .before .before .before .before .before .before .before .before .before .before .pre .1) _ (at-is _ (c .before .before .before .before .before .before .before .before .locate .ensures) (c .before .before .before .before .before .before .found .given .1)))
+contents-requires-2 c κs =
+    let at-found = c .before .before .before .before .before .before in
+    let at-locate = at-found .before .before in
+    let start = at-locate .before .before .before .before .before in
+    (start .pre .0 .width, locate-reached _ _ (start .pre .0) _ (start .pre .1) _ (at-is _ (at-locate .locate .ensures) (at-found .found .given .1)))
 
 returns-3 : tie.Need-returns-3
-returns-3 c = does _ (swaps _ _ _ (at-is _ (c .before .before .before .before .before .before .before .before .before .locate .ensures) (c .before .before .before .before .before .before .before .found .given .1)) (at-is _ (c .before .before .before .before .before .locate2 .ensures) (c .before .before .before .other .given .1)) (c .before .contents .ensures) (c .contents2 .ensures))
+returns-3 c =
+    let at-other = c .before .before .before in
+    let at-locate2 = at-other .before .before in
+    let at-found = at-locate2 .before .before in
+    let at-locate = at-found .before .before in
+    does _ (swaps _ _ _ (at-is _ (at-locate .locate .ensures) (at-found .found .given .1)) (at-is _ (at-locate2 .locate2 .ensures) (at-other .other .given .1)) (c .before .contents .ensures) (c .contents2 .ensures))
 
 pub plan-swap-spec : {M : Type 1} → statement M
 plan-swap-spec =

@@ -29,10 +29,22 @@ enum-known-run-2 : tie.Need-enum-known-run-2
 enum-known-run-2 c = search needs
 
 returns-2 : tie.Need-returns-2
-returns-2 c = does _ (copy-run _ _ _ _ (c .before .before .before .before .before .before .before .live-size .ensures) (c .before .before .before .before .before .before .if1 .left) (c .before .before .before .before .before .top-of .ensures) (c .before .before .before .before .level-of .ensures) (c .before .before .before .fetch .ensures) (c .before .run .given .1))
+returns-2 c =
+    let at-fetch = c .before .before .before in
+    let at-level-of = at-fetch .before in
+    let at-top-of = at-level-of .before in
+    let at-if1 = at-top-of .before in
+    let at-live-size = at-if1 .before in
+    does _ (copy-run _ _ _ _ (at-live-size .live-size .ensures) (at-if1 .if1 .left) (at-top-of .top-of .ensures) (at-level-of .level-of .ensures) (at-fetch .fetch .ensures) (c .before .run .given .1))
 
 returns-3 : tie.Need-returns-3
-returns-3 c = stops _ (copy-no-run _ _ _ _ (c .before .before .before .before .before .before .before .live-size .ensures) (c .before .before .before .before .before .before .if1 .left) (c .before .before .before .before .before .top-of .ensures) (c .before .before .before .before .level-of .ensures) (c .before .before .before .fetch .ensures) (c .before .run2 .given .1))
+returns-3 c =
+    let at-fetch = c .before .before .before in
+    let at-level-of = at-fetch .before in
+    let at-top-of = at-level-of .before in
+    let at-if1 = at-top-of .before in
+    let at-live-size = at-if1 .before in
+    stops _ (copy-no-run _ _ _ _ (at-live-size .live-size .ensures) (at-if1 .if1 .left) (at-top-of .top-of .ensures) (at-level-of .level-of .ensures) (at-fetch .fetch .ensures) (c .before .run2 .given .1))
 
 pub duplicate-spec : {M : Type 1} → statement M
 duplicate-spec =

@@ -28,19 +28,36 @@ next-line-requires : tie.Need-next-line-requires
 next-line-requires c κs = search needs
 
 returns-3 : tie.Need-returns-3
-returns-3 c = goes (exit-returns _ _ _ _ (sym (c .before .before .before .before .before .before .can-use .ensures) ∙ not-false _ (c .before .before .before .before .before .if1 .left)) (c .before .before .before .before .row-at .ensures) (c .before .before .if2 .taken) (c .before .if3 .left) (c .next-line .ensures))
+returns-3 c =
+    let at-row-at = c .before .before .before .before in
+    let at-if1 = at-row-at .before in
+    let at-can-use = at-if1 .before in
+    goes (exit-returns _ _ _ _ (sym (at-can-use .can-use .ensures) ∙ not-false _ (at-if1 .if1 .left)) (at-row-at .row-at .ensures) (c .before .before .if2 .taken) (c .before .if3 .left) (c .next-line .ensures))
 
 next-line-requires-2 : tie.Need-next-line-requires-2
 next-line-requires-2 c κs = next-few _ _ _ (c .before .before .before .before .before .before .before .pre .0) (c .before .before .before .row-at .ensures) 1 (sym (c .before .before .before .before .before .can-use .ensures) ∙ not-false _ (c .before .before .before .before .if1 .left))
 
 returns-4 : tie.Need-returns-4
-returns-4 c = goes (exit-next _ _ _ _ (sym (c .before .before .before .before .before .before .can-use .ensures) ∙ not-false _ (c .before .before .before .before .before .if1 .left)) (c .before .before .before .before .row-at .ensures) (c .before .before .if2 .left) (c .before .if4 .taken) (c .next-line2 .ensures))
+returns-4 c =
+    let at-row-at = c .before .before .before .before in
+    let at-if1 = at-row-at .before in
+    let at-can-use = at-if1 .before in
+    goes (exit-next _ _ _ _ (sym (at-can-use .can-use .ensures) ∙ not-false _ (at-if1 .if1 .left)) (at-row-at .row-at .ensures) (c .before .before .if2 .left) (c .before .if4 .taken) (c .next-line2 .ensures))
 
 tests-of-requires : tie.Need-tests-of-requires
-tests-of-requires c κs = goes-few _ _ _ (c .before .before .before .before .before .before .before .pre .0) (c .before .before .before .row-at .ensures) (sym (c .before .before .before .before .before .can-use .ensures) ∙ not-false _ (c .before .before .before .before .if1 .left)) (c .before .if2 .left)
+tests-of-requires c κs =
+    let at-row-at = c .before .before .before in
+    let at-if1 = at-row-at .before in
+    let at-can-use = at-if1 .before in
+    let start = at-can-use .before .before in
+    goes-few _ _ _ (start .pre .0) (at-row-at .row-at .ensures) (sym (at-can-use .can-use .ensures) ∙ not-false _ (at-if1 .if1 .left)) (c .before .if2 .left)
 
 returns-5 : tie.Need-returns-5
-returns-5 c = goes (exit-goes _ _ _ _ (sym (c .before .before .before .before .before .before .can-use .ensures) ∙ not-false _ (c .before .before .before .before .before .if1 .left)) (c .before .before .before .before .row-at .ensures) (c .before .before .if2 .left) (c .before .if4 .left) (c .tests-of .ensures))
+returns-5 c =
+    let at-row-at = c .before .before .before .before in
+    let at-if1 = at-row-at .before in
+    let at-can-use = at-if1 .before in
+    goes (exit-goes _ _ _ _ (sym (at-can-use .can-use .ensures) ∙ not-false _ (at-if1 .if1 .left)) (at-row-at .row-at .ensures) (c .before .before .if2 .left) (c .before .if4 .left) (c .tests-of .ensures))
 
 pub plan-exit-spec : {M : Type 1} → statement M
 plan-exit-spec =

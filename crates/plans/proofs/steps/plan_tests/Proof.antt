@@ -28,22 +28,49 @@ enum-known-held : tie.Need-enum-known-held
 enum-known-held c = search needs
 
 operation-or-exit-requires : tie.Need-operation-or-exit-requires
-operation-or-exit-requires c κs = operation-few _ _ _ (c .before .before .before .before .before .before .before .before .before .before .before .before .pre .1) (c .before .before .before .before .before .before .row-at .ensures) (sym (c .before .before .before .before .before .before .before .before .can-use .ensures) ∙ not-false _ (c .before .before .before .before .before .before .before .if1 .left))
+operation-or-exit-requires c κs =
+    let at-row-at = c .before .before .before .before .before .before in
+    let at-if1 = at-row-at .before in
+    let at-can-use = at-if1 .before in
+    let start = at-can-use .before .before .before .before in
+    operation-few _ _ _ (start .pre .1) (at-row-at .row-at .ensures) (sym (at-can-use .can-use .ensures) ∙ not-false _ (at-if1 .if1 .left))
 
 returns-2 : tie.Need-returns-2
-returns-2 c = goes (tests-hold _ _ _ _ (sym (c .before .before .before .before .before .before .before .before .before .can-use .ensures) ∙ not-false _ (c .before .before .before .before .before .before .before .before .if1 .left)) (c .before .before .before .before .before .before .before .row-at .ensures) (holds-is _ (c .before .before .before .before .before .satisfied .ensures) (c .before .before .before .held .given .1)) (c .before .if2 .taken) (c .operation-or-exit .ensures))
+returns-2 c =
+    let at-held = c .before .before .before in
+    let at-satisfied = at-held .before .before in
+    let at-row-at = at-satisfied .before .before in
+    let at-if1 = at-row-at .before in
+    let at-can-use = at-if1 .before in
+    goes (tests-hold _ _ _ _ (sym (at-can-use .can-use .ensures) ∙ not-false _ (at-if1 .if1 .left)) (at-row-at .row-at .ensures) (holds-is _ (at-satisfied .satisfied .ensures) (at-held .held .given .1)) (c .before .if2 .taken) (c .operation-or-exit .ensures))
 
 next-line-requires : tie.Need-next-line-requires
-next-line-requires c κs = next-few _ _ _ (c .before .before .before .before .before .before .before .before .before .before .before .before .pre .1) (c .before .before .before .before .before .before .row-at .ensures) 1 (sym (c .before .before .before .before .before .before .before .before .can-use .ensures) ∙ not-false _ (c .before .before .before .before .before .before .before .if1 .left))
+next-line-requires c κs =
+    let at-row-at = c .before .before .before .before .before .before in
+    let at-if1 = at-row-at .before in
+    let at-can-use = at-if1 .before in
+    let start = at-can-use .before .before .before .before in
+    next-few _ _ _ (start .pre .1) (at-row-at .row-at .ensures) 1 (sym (at-can-use .can-use .ensures) ∙ not-false _ (at-if1 .if1 .left))
 
 enum-known-held-2 : tie.Need-enum-known-held-2
 enum-known-held-2 c = search needs
 
 returns-3 : tie.Need-returns-3
-returns-3 c = goes (tests-fail _ _ _ _ (sym (c .before .before .before .before .before .before .before .before .before .can-use .ensures) ∙ not-false _ (c .before .before .before .before .before .before .before .before .if1 .left)) (c .before .before .before .before .before .before .before .row-at .ensures) (holds-is _ (c .before .before .before .before .before .satisfied .ensures) (c .before .before .before .held .given .1)) (c .before .if2 .left) (c .next-line .ensures))
+returns-3 c =
+    let at-held = c .before .before .before in
+    let at-satisfied = at-held .before .before in
+    let at-row-at = at-satisfied .before .before in
+    let at-if1 = at-row-at .before in
+    let at-can-use = at-if1 .before in
+    goes (tests-fail _ _ _ _ (sym (at-can-use .can-use .ensures) ∙ not-false _ (at-if1 .if1 .left)) (at-row-at .row-at .ensures) (holds-is _ (at-satisfied .satisfied .ensures) (at-held .held .given .1)) (c .before .if2 .left) (c .next-line .ensures))
 
 returns-4 : tie.Need-returns-4
-returns-4 c = halts (tests-stopped _ _ _ _ (sym (c .before .before .before .before .before .before .before .can-use .ensures) ∙ not-false _ (c .before .before .before .before .before .before .if1 .left)) (c .before .before .before .before .before .row-at .ensures) (not-settled-is _ (c .before .before .before .satisfied .ensures) (c .before .held2 .given .1)))
+returns-4 c =
+    let at-satisfied = c .before .before .before in
+    let at-row-at = at-satisfied .before .before in
+    let at-if1 = at-row-at .before in
+    let at-can-use = at-if1 .before in
+    halts (tests-stopped _ _ _ _ (sym (at-can-use .can-use .ensures) ∙ not-false _ (at-if1 .if1 .left)) (at-row-at .row-at .ensures) (not-settled-is _ (at-satisfied .satisfied .ensures) (c .before .held2 .given .1)))
 
 pub plan-tests-spec : {M : Type 1} → statement M
 plan-tests-spec =

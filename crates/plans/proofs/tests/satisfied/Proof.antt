@@ -37,7 +37,11 @@ loop-less c = fewer-left _ _ _ _ _ (c .before .before .before .before .before .b
 
 loop-again : tie.Need-loop-again Inv-loop μ-loop
 loop-again c =
-    open-next _ _ _ _ _ (c .before .before .before .before .before .before .before .loop .inv) (c .before .before .before .before .before .before .if1 .left) (outcome-is _ (c .before .before .before .before .before .test-at .ensures) (c .before .before .before .answer .given .1)) (against (c .before .before .before .answer .given .0 .0) (c .before .settling .result) (c .if2 .left) (c .before .settling .ensures))
+    let at-answer = c .before .before .before in
+    let at-test-at = at-answer .before .before in
+    let at-if1 = at-test-at .before in
+    let turn = at-if1 .before in
+    open-next _ _ _ _ _ (turn .loop .inv) (at-if1 .if1 .left) (outcome-is _ (at-test-at .test-at .ensures) (at-answer .answer .given .1)) (against (at-answer .answer .given .0 .0) (c .before .settling .result) (c .if2 .left) (c .before .settling .ensures))
 
 enum-known-answer-2 : tie.Need-enum-known-answer-2 Inv-loop μ-loop
 enum-known-answer-2 c = search needs
@@ -47,7 +51,11 @@ returns c = open-ends _ _ _ _ _ (c .before .before .loop .inv) (c .before .if1 .
 
 returns-2 : tie.Need-returns-2 Inv-loop μ-loop
 returns-2 c =
-    open-settles _ _ _ _ _ (c .before .before .before .before .before .before .before .before .loop .inv) (c .before .before .before .before .before .before .before .if1 .left) (outcome-is _ (c .before .before .before .before .before .before .test-at .ensures) (c .before .before .before .before .answer .given .1)) (against (c .before .before .before .before .answer .given .0 .0) (c .before .before .settling .result) (c .before .if2 .taken) (c .before .before .settling .ensures))
+    let at-answer = c .before .before .before .before in
+    let at-test-at = at-answer .before .before in
+    let at-if1 = at-test-at .before in
+    let turn = at-if1 .before in
+    open-settles _ _ _ _ _ (turn .loop .inv) (at-if1 .if1 .left) (outcome-is _ (at-test-at .test-at .ensures) (at-answer .answer .given .1)) (against (at-answer .answer .given .0 .0) (c .before .before .settling .result) (c .before .if2 .taken) (c .before .before .settling .ensures))
     (c .settled-as2 .ensures)
 
 returns-3 : tie.Need-returns-3 Inv-loop μ-loop

@@ -34,29 +34,55 @@ enum-known-x-2 : tie.Need-enum-known-x-2
 enum-known-x-2 c = search needs
 
 returns-2 : tie.Need-returns-2
-returns-2 c = test-stops (test-first _ _ _ _ (sym (c .before .before .before .before .before .before .before .before .can-use .ensures) ∙ not-false _ (c .before .before .before .before .before .before .before .if1 .left)) (c .before .before .before .before .before .before .row-at .ensures) (no-value-is _ (c .before .before .before .operand .ensures) (c .before .x2 .given .1)))
+returns-2 c =
+    let at-operand = c .before .before .before in
+    let at-row-at = at-operand .before .before .before in
+    let at-if1 = at-row-at .before in
+    let at-can-use = at-if1 .before in
+    test-stops (test-first _ _ _ _ (sym (at-can-use .can-use .ensures) ∙ not-false _ (at-if1 .if1 .left)) (at-row-at .row-at .ensures) (no-value-is _ (at-operand .operand .ensures) (c .before .x2 .given .1)))
 
 operand-requires-2 : tie.Need-operand-requires-2
-operand-requires-2 c κs = (c .before .before .before .before .before .before .before .before .before .before .before .before .pre .0, test-row-is _ _ _ (c .before .before .before .before .before .before .row-at .ensures) (sym (c .before .before .before .before .before .before .before .before .can-use .ensures) ∙ not-false _ (c .before .before .before .before .before .before .before .if1 .left)) .cd)
+operand-requires-2 c κs =
+    let at-row-at = c .before .before .before .before .before .before in
+    let at-if1 = at-row-at .before in
+    let at-can-use = at-if1 .before in
+    let start = at-can-use .before .before .before .before in
+    (start .pre .0, test-row-is _ _ _ (at-row-at .row-at .ensures) (sym (at-can-use .can-use .ensures) ∙ not-false _ (at-if1 .if1 .left)) .cd)
 
 enum-known-y : tie.Need-enum-known-y
 enum-known-y c = search needs
 
 compared-requires : tie.Need-compared-requires
 compared-requires c κs =
-    let row = test-row-is _ _ _ (c .before .before .before .before .before .before .before .before .before .before .row-at .ensures) (sym (c .before .before .before .before .before .before .before .before .before .before .before .before .can-use .ensures) ∙ not-false _ (c .before .before .before .before .before .before .before .before .before .before .before .if1 .left)) in
-    (omega (arith, c .before .before .before .before .before .before .before .before .before .before .before .before .before .before .before .before .pre .0 .width), row .low, row .high)
+    let at-row-at = c .before .before .before .before .before .before .before .before .before .before in
+    let at-if1 = at-row-at .before in
+    let at-can-use = at-if1 .before in
+    let start = at-can-use .before .before .before .before in
+    let row = test-row-is _ _ _ (at-row-at .row-at .ensures) (sym (at-can-use .can-use .ensures) ∙ not-false _ (at-if1 .if1 .left)) in
+    (omega (arith, start .pre .0 .width), row .low, row .high)
 
 enum-known-y-2 : tie.Need-enum-known-y-2
 enum-known-y-2 c = search needs
 
 returns-3 : tie.Need-returns-3
 returns-3 c =
-    tests-to (test-made _ _ _ _ (sym (c .before .before .before .before .before .before .before .before .before .before .before .before .before .can-use .ensures) ∙ not-false _ (c .before .before .before .before .before .before .before .before .before .before .before .before .if1 .left)) (c .before .before .before .before .before .before .before .before .before .before .before .row-at .ensures) (value-is _ (c .before .before .before .before .before .before .before .before .operand .ensures) (c .before .before .before .before .before .before .x .given .1)) (value-is _ (c .before .before .before .before .operand2 .ensures) (c .before .before .y .given .1)) (c .compared .ensures))
+    let at-operand2 = c .before .before .before .before in
+    let at-x = at-operand2 .before .before in
+    let at-operand = at-x .before .before in
+    let at-row-at = at-operand .before .before .before in
+    let at-if1 = at-row-at .before in
+    let at-can-use = at-if1 .before in
+    tests-to (test-made _ _ _ _ (sym (at-can-use .can-use .ensures) ∙ not-false _ (at-if1 .if1 .left)) (at-row-at .row-at .ensures) (value-is _ (at-operand .operand .ensures) (at-x .x .given .1)) (value-is _ (at-operand2 .operand2 .ensures) (c .before .before .y .given .1)) (c .compared .ensures))
 
 returns-4 : tie.Need-returns-4
 returns-4 c =
-    test-stops (test-second _ _ _ _ (sym (c .before .before .before .before .before .before .before .before .before .before .before .before .can-use .ensures) ∙ not-false _ (c .before .before .before .before .before .before .before .before .before .before .before .if1 .left)) (c .before .before .before .before .before .before .before .before .before .before .row-at .ensures) (value-is _ (c .before .before .before .before .before .before .before .operand .ensures) (c .before .before .before .before .before .x .given .1)) (no-value-is _ (c .before .before .before .operand2 .ensures) (c .before .y2 .given .1)))
+    let at-operand2 = c .before .before .before in
+    let at-x = at-operand2 .before .before in
+    let at-operand = at-x .before .before in
+    let at-row-at = at-operand .before .before .before in
+    let at-if1 = at-row-at .before in
+    let at-can-use = at-if1 .before in
+    test-stops (test-second _ _ _ _ (sym (at-can-use .can-use .ensures) ∙ not-false _ (at-if1 .if1 .left)) (at-row-at .row-at .ensures) (value-is _ (at-operand .operand .ensures) (at-x .x .given .1)) (no-value-is _ (at-operand2 .operand2 .ensures) (c .before .y2 .given .1)))
 
 pub test-at-spec : {M : Type 1} → statement M
 test-at-spec =
