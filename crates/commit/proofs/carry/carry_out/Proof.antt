@@ -122,7 +122,9 @@ enum-known-action-8 : tie.Need-enum-known-action-8
 enum-known-action-8 c = search needs
 
 print-into-requires : tie.Need-print-into-requires
-print-into-requires c κs = print-asks _ _ (c .before .before .before .before .before .before .before .pre .3 .1) (c .before .before .action8 .given .1)
+print-into-requires c κs =
+    let (narrow, room) = print-asks _ _ (c .before .before .before .before .before .before .before .pre .3 .1) (c .before .before .action8 .given .1) in
+    (narrow, omega arith)
 
 enum-known-action-9 : tie.Need-enum-known-action-9
 enum-known-action-9 c = search needs
