@@ -1,0 +1,140 @@
+//! Commands over the reference engine.
+//! Usage: reference gen SEED N | cover SEED N | bench | tourrun
+mod engine;
+mod generator;
+
+use engine::*;
+use generator::*;
+use std::convert::TryInto;
+use std::io::Write;
+
+fn list<T: std::fmt::Display>(numbers: &[T]) -> String {
+    format!("[{}]", numbers.iter().map(|n| n.to_string()).collect::<Vec<_>>().join(" "))
+}
+/// Blocks in address order, as address size address size ...
+fn ordered(blocks: &[Block]) -> Vec<u64> {
+    let mut pairs: Vec<[u64; 2]> = blocks.iter().map(|b| [b.start, b.size]).collect();
+    pairs.sort();
+    pairs.concat()
+}
+fn answer_code(answer: Answer) -> u64 {
+    match answer { Answer::Running => 0, Answer::Finished => 1, Answer::Refused(k) => 100 + k }
+}
+/// One case and its outcome as a line of text.
+fn show(case: &Case) -> String {
+    let mut engine = case.engine();
+    let (answer, count, r) = engine.run(case.limit);
+    let code = answer_code(answer);
+    let (s, lent) = (&engine.state, &engine.lent);
+    let words = s.setup.map_or(&[][..], |(_, s1, s2)| &s.storage[..(s2 - s1 + 1) as usize]);
+    let [a, b] = [r.first, r.second].map(|s| [s.address, s.left, s.right, s.kept]);
+    let report = [[r.freed, r.delivered, r.size, r.copied], a, b].concat();
+    format!(
+        "limit {} | table {} | input {} | storage {} | output {} | answer {code} | count {count} | written {} | bugs {} | \
+         words {} | free {} | live {} | report {}",
+        case.limit, list(&lent.table), list(&lent.input), case.storage, case.output, list(&s.written), list(&s.bugs),
+        list(words), list(&ordered(&s.free)), list(&ordered(&s.live)), list(&report))
+}
+fn generate(seed: u64, count: u64) {
+    let mut out = std::io::BufWriter::new(std::io::stdout().lock());
+    (0..count).for_each(|i| writeln!(out, "{}", show(&make(seed, i))).unwrap());
+}
+/// How often operations, tests, modes and answers came up: successes in all, and cases with one at least.
+fn cover(seed: u64, count: u64) {
+    let (mut hits, mut cases) = ([0; 61], [0; 61]);
+    let (mut answers, mut reports) = ([0; 122], 0);
+    for i in 0..count {
+        let case = make(seed, i);
+        let mut engine = case.engine();
+        let (answer, _, report) = engine.run(case.limit);
+        let t = &engine.state.tally;
+        let all = [&t.operations[1..], &t.tests[1..].concat(), &t.modes.concat()].concat();
+        for (j, n) in all.into_iter().enumerate() { (hits[j], cases[j]) = (hits[j] + n, cases[j] + (n > 0) as u64) }
+        answers[answer_code(answer) as usize] += 1;
+        reports += (report != Report::default()) as u64;
+    }
+    let label = |j: usize| match j {
+        0..=35 => format!("operation {}", j + 1),
+        36..=49 => format!("test {} {}", (j - 36) / 2 + 1, (j - 36) % 2 == 1),
+        _ => format!("{} {}", ["THEN", "IFALL", "IFANY", "IFNONE", "IFNALL"][(j - 50) / 2], (j - 50) % 2 == 1),
+    };
+    for j in (0..60).filter(|&j| j != 50) { println!("{:16} {:7} times, in {:5} cases", label(j), hits[j], cases[j]) }
+    for (code, n) in answers.iter().enumerate().filter(|(_, n)| **n > 0) { println!("answer {code:9} {n:7} cases") }
+    println!("last step reports something in {reports} of {count} cases");
+}
+
+/// Bench cases: what tourrun prints.
+fn tour(table: &[u8], input: &[u8]) -> String {
+    let bad = table.len() % 8 != 0 || table.len() > 64000; // "counts as refusal 1 at the first step"
+    let numbers = table.chunks_exact(8).map(|eight| u64::from_le_bytes(eight.try_into().unwrap()));
+    let numbers = if bad { vec![] } else { numbers.collect() };
+    let mut engine = Engine::fresh(numbers, input[..input.len().min(4096)].to_vec(), vec![0; 4096], 4096);
+    let (answer, count, _) = engine.run(100_000);
+    let codes: Vec<String> = engine.state.written.iter().map(|code| format!("{code:02o}")).collect();
+    let word = match answer {
+        Answer::Running => "running".to_string(),
+        Answer::Finished => "finished".to_string(),
+        Answer::Refused(k) => k.to_string(),
+    };
+    format!("{}\n{word} {count}\n", codes.join(" "))
+}
+
+fn reference(text: &str) -> (u64, u64) {
+    (2, encode(&text.chars().map(|c| c.to_digit(36).unwrap() as usize).collect::<Vec<_>>()))
+}
+/// A bench program: set-up with d = 8, s1 = 8, s2 = 23, then the operations, run on seven input characters.
+fn try_out(operations: &[Row]) -> (Answer, State) {
+    let set_up = row(3, 1, 0, &[(1, 8), (1, 8), (1, 23)]);
+    let line = Line { operations: [&[set_up], operations].concat(), ..Line::default() };
+    let mut engine = Case { lines: vec![line], input: vec![1; 7], storage: 16, output: 40, ..Case::default() }.engine();
+    (engine.run(100).0, engine.state)
+}
+/// Bench cases, the ten starred ones and the rest.
+fn bench() {
+    let check = |what: &str, good: bool| println!("{} {what}", if good { "PASS" } else { "FAIL" });
+    let lit = |value: u64| (1, value);
+    let (w, x, y) = (reference("W"), reference("X"), reference("Y"));
+    let get = |bug, size| row(3, 3, 0, &[bug, lit(size)]);
+    let on_x = |code, start, other| try_out(&[row(3, 6, 0, &[x, lit(start)]), row(3, code, 0, &[x, other])]);
+    let bug_x = |(_, state): (Answer, State)| state.bugs[33 - 10];
+    let refused = |(answer, _): (Answer, State), k| answer == Answer::Refused(k);
+    let size = |n| try_out(&[get(w, n)]).1.live[0].size;
+    check("* sizes 3, 5, 9", size(3) == 4 && size(5) == 8 && refused(try_out(&[get(w, 9)]), 8));
+    check("* two gets of 8, then 1", refused(try_out(&[get(w, 8), get(x, 8), get(y, 1)]), 17));
+    let again = |bug| try_out(&[get(w, 8), get(x, 8), row(3, 4, 0, &[bug, lit(0)]), get(y, 8)]).1.bugs[34 - 10];
+    check("* free either, get 8", again(w) == 8 && again(x) == 16);
+    let field = |left: u64, right: u64| row(3, 2, 12, &[lit(0), lit(left), lit(right)]);
+    let (full, wc) = (row(3, 2, 15, &[lit(0), lit(0), lit(35)]), reference("WC"));
+    let ones = row(3, 6, 0, &[reference("WF"), lit(mask(36))]);
+    let stored = try_out(&[full, field(6, 20), get(w, 1), ones, row(3, 6, 0, &[wc, lit(32769)])]);
+    check("* 32,769 into bits 6-20", stored.1.storage[0] == 0o770000177777);
+    let less = try_out(&[field(6, 20), get(w, 1), row(3, 9, 0, &[wc, lit(1)]), row(3, 6, 0, &[x, wc])]);
+    check("* 0 - 1 into 15 bits", bug_x(less) == 32767);
+    check("* 2^35 x 3", bug_x(on_x(10, 1 << 35, lit(3))) == 1 << 35);
+    check("* 607 to decimal", bug_x(on_x(29, 607, x)) == 0o000000060007);
+    check("* zeros to blanks", bug_x(on_x(31, 0o60007, x)) == 0o606060060007);
+    let eight = try_out(&[row(3, 25, 0, &[lit(8), lit(0o60007)])]);
+    check("* eight printed of o60007", eight.1.written == [48, 48, 0, 0, 0, 6, 0, 7]);
+    check("* o606060060007 to binary", refused(on_x(27, 0o606060060007, x), 6));
+    check("1,000,607 converts as 607", bug_x(on_x(29, 1_000_607, x)) == 0o000000060007);
+    let six = on_x(24, 0, lit(6)).0 == Answer::Finished;
+    check("six input characters pass, seven give 10", six && refused(on_x(24, 0, lit(7)), 10));
+    let print = [3, 0, 25, 0, 1, 2, 1, 7, 0, 0u64];
+    let example = [[0; 10], [1, 0, 0, 0, 0, 2, 0, 0, 0, 0], [3, 3, 1, 0, 1, 8, 1, 8, 1, 23], print];
+    let bytes: Vec<u8> = example.concat().iter().flat_map(|n| n.to_le_bytes()).collect();
+    check("tourrun's example", tour(&bytes, &[]) == "00 07\nfinished 4\n");
+    check("tourrun of nothing", tour(&[], &[]) == "\n1 1\n" && tour(&bytes[1..], &[]) == "\n1 1\n");
+}
+
+fn main() {
+    let arguments: Vec<String> = std::env::args().collect();
+    let number = |i: usize| arguments.get(i).and_then(|a| a.parse().ok()).unwrap_or(0);
+    let file = |name| std::fs::read(name).unwrap_or_default(); // "A missing file counts as empty"
+    match arguments.get(1).map(String::as_str) {
+        Some("gen") => generate(number(2), number(3)),
+        Some("cover") => cover(number(2), number(3)),
+        Some("bench") => bench(),
+        Some("tourrun") => print!("{}", tour(&file("tour.tab"), &file("stops.in"))),
+        _ => eprintln!("usage: reference gen SEED N | cover SEED N | bench | tourrun"),
+    }
+}
