@@ -165,12 +165,10 @@ impl State {
 
     // ------------------------------------------------------------ set-up and blocks
 
-    /// Words and set-up, refusal 3; "A fresh set-up is all free"; "Set-up zeroes n words".
+    /// Refusal 3; "A fresh set-up is all free"; "Set-up zeroes n words".
     fn set_up(&mut self, d: u64, s1: u64, s2: u64) -> Result<Report, Refusal> {
-        let sizes = [1, 2, 4, 8, 16, 32, 64, 128];
-        if !sizes.contains(&d) || s1 == 0 || s1 % d != 0 || s2 < s1 || s2 > 32767 { return Err(3); }
+        if !set_up_fits(d, s1, s2, self.storage.len()) { return Err(3); }
         let n = s2 - s1 + 1;
-        if n % d != 0 || n > 4096 || n > self.storage.len() as u64 { return Err(3); }
         self.storage[..n as usize].fill(0);
         self.free = (s1..=s2).step_by(d as usize).map(|start| Block { start, size: d }).collect();
         self.setup = Some((d, s1, s2));
@@ -361,6 +359,11 @@ fn rejoin(free: &mut Vec<Block>, d: u64) {
         free.retain(|x| x.start != low.start && x.start != low.start + low.size);
         free.push(Block { start: low.start, size: 2 * low.size });
     }
+}
+/// Words and set-up: d, s1 and s2 against each other and the length of the lent storage.
+pub fn set_up_fits(d: u64, s1: u64, s2: u64, lent: usize) -> bool {
+    let placed = [1, 2, 4, 8, 16, 32, 64, 128].contains(&d) && s1 > 0 && s1 % d == 0 && s2 >= s1 && s2 <= 32767;
+    placed && (s2 - s1 + 1) % d == 0 && s2 - s1 + 1 <= (lent as u64).min(4096)
 }
 /// Three stacks: refusal 19.
 fn push<T>(stack: &mut Vec<T>, entry: T) -> Result<(), Refusal> {

@@ -78,6 +78,11 @@ pub fn row(kind: u64, code: u64, name: u64, pairs: &[(u64, u64)]) -> Row {
     row
 }
 
+/// A reference by its names, as an operand.
+pub fn named(text: &str) -> (u64, u64) {
+    (2, encode(&text.chars().map(|c| c.to_digit(36).unwrap() as usize).collect::<Vec<_>>()))
+}
+
 /// Makes a case by trying each addition on the engine; `state` and `count` are those after the run so far. When `wild`,
 /// references and numbers need not mean anything.
 struct Maker { rng: Rng, wild: bool, d: u64, case: Case, state: State, count: u64 }
@@ -258,7 +263,7 @@ impl Maker {
     /// Limit, set-up, storage, input and output.
     fn begin(&mut self) {
         self.case.limit = 900;
-        self.d = self.rng.pick(&[1, 2, 4, 4, 8, 8, 16]);
+        self.d = self.rng.pick(&[1, 2, 4, 4, 8, 8, 16, 16, 32, 64, 128]);
         let n = self.d * if self.rng.chance(20) { 1 } else { 1 + self.rng.below(32 / self.d) };
         let s1 = self.d * (1 + self.rng.small(6, (32767 - n) / self.d - 1));
         let set_up = row(3, 1, 0, &[(1, self.d), (1, s1), (1, s1 + n - 1)]);

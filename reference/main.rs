@@ -1,7 +1,9 @@
 //! Commands over the reference engine.
-//! Usage: reference gen SEED N | cover SEED N | bench | tourrun
+//! Usage: reference gen|cover SEED N | comparison SEED N stdin|stdout | bench | tourrun
+mod comparison;
 mod engine;
 mod generator;
+mod raw;
 
 use engine::*;
 use generator::*;
@@ -79,9 +81,6 @@ fn tour(table: &[u8], input: &[u8]) -> String {
     format!("{}\n{word} {count}\n", codes.join(" "))
 }
 
-fn reference(text: &str) -> (u64, u64) {
-    (2, encode(&text.chars().map(|c| c.to_digit(36).unwrap() as usize).collect::<Vec<_>>()))
-}
 /// A bench program: set-up with d = 8, s1 = 8, s2 = 23, then the operations, run on seven input characters.
 fn try_out(operations: &[Row]) -> (Answer, State) {
     let set_up = row(3, 1, 0, &[(1, 8), (1, 8), (1, 23)]);
@@ -93,7 +92,7 @@ fn try_out(operations: &[Row]) -> (Answer, State) {
 fn bench() {
     let check = |what: &str, good: bool| println!("{} {what}", if good { "PASS" } else { "FAIL" });
     let lit = |value: u64| (1, value);
-    let (w, x, y) = (reference("W"), reference("X"), reference("Y"));
+    let (w, x, y) = (named("W"), named("X"), named("Y"));
     let get = |bug, size| row(3, 3, 0, &[bug, lit(size)]);
     let on_x = |code, start, other| try_out(&[row(3, 6, 0, &[x, lit(start)]), row(3, code, 0, &[x, other])]);
     let bug_x = |(_, state): (Answer, State)| state.bugs[33 - 10];
@@ -104,8 +103,8 @@ fn bench() {
     let again = |bug| try_out(&[get(w, 8), get(x, 8), row(3, 4, 0, &[bug, lit(0)]), get(y, 8)]).1.bugs[34 - 10];
     check("* free either, get 8", again(w) == 8 && again(x) == 16);
     let field = |left: u64, right: u64| row(3, 2, 12, &[lit(0), lit(left), lit(right)]);
-    let (full, wc) = (row(3, 2, 15, &[lit(0), lit(0), lit(35)]), reference("WC"));
-    let ones = row(3, 6, 0, &[reference("WF"), lit(mask(36))]);
+    let (full, wc) = (row(3, 2, 15, &[lit(0), lit(0), lit(35)]), named("WC"));
+    let ones = row(3, 6, 0, &[named("WF"), lit(mask(36))]);
     let stored = try_out(&[full, field(6, 20), get(w, 1), ones, row(3, 6, 0, &[wc, lit(32769)])]);
     check("* 32,769 into bits 6-20", stored.1.storage[0] == 0o770000177777);
     let less = try_out(&[field(6, 20), get(w, 1), row(3, 9, 0, &[wc, lit(1)]), row(3, 6, 0, &[x, wc])]);
@@ -133,8 +132,12 @@ fn main() {
     match arguments.get(1).map(String::as_str) {
         Some("gen") => generate(number(2), number(3)),
         Some("cover") => cover(number(2), number(3)),
+        Some("comparison") if arguments.get(4).is_some_and(|a| a == "stdin") => {
+            std::io::stdout().write_all(&comparison::stdin(number(2), number(3))).unwrap()
+        }
+        Some("comparison") => print!("{}", comparison::stdout(number(2), number(3))),
         Some("bench") => bench(),
         Some("tourrun") => print!("{}", tour(&file("tour.tab"), &file("stops.in"))),
-        _ => eprintln!("usage: reference gen SEED N | cover SEED N | bench | tourrun"),
+        _ => eprintln!("usage: reference gen|cover SEED N | comparison SEED N stdin|stdout | bench | tourrun"),
     }
 }
