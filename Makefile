@@ -25,9 +25,12 @@ fmt:
 wrong:
 	bash .ci/wrong
 
-# Writes again what the programs must print, computed independently, and what tourrun reads.
+# Writes again what the programs must print, computed independently, the cases that comparison reads and the table that tourrun reads.
 expected:
-	mkdir -p target && rustc -O -o target/leaves-reference reference/leaves.rs
+	mkdir -p target
+	rustc -O -o target/leaves-reference reference/leaves.rs
 	for name in leaves allocations; do target/leaves-reference $$name > crates/$$name/stdout; done
+	rustc -O -o target/reference reference/main.rs
+	for file in stdin stdout; do target/reference comparison 1966 480 $$file > crates/comparison/$$file; done
 	tours/play --files tours/example.tour crates/tourrun/data
 	rm crates/tourrun/data/stops.in

@@ -220,6 +220,26 @@ fn damaged(before: u64, label: &str, damages: &[(What, usize, u64)]) -> Trial {
     let damages = damages.iter().map(|&(what, index, value)| Damage { what, index, value }).collect();
     Trial { before, damages, limit: 9, ..Trial::of(label, &base()) }
 }
+/// Set-up numbers broken alone, for which the blocks and words around them have to be changed too. No map tells blocks past
+/// 4,096 words, so that n is broken together with them.
+fn set_ups() -> Vec<Trial> {
+    use crate::raw::What::*;
+    let mut three = vec![(SetUp, 0, 3), (SetUp, 1, 9), (SetUp, 2, 23)];
+    three.extend((0..15).map(|i| (Map, i, 2)));
+    let mut large = vec![(SetUp, 0, 256), (SetUp, 1, 256), (SetUp, 2, 511), (Map, 0, 17), (Map, 4, 0), (Map, 8, 0)];
+    large.extend((16..256).map(|i| (Storage, i, 0)));
+    let mut long = vec![(SetUp, 2, 4351)];
+    long.extend((4096..4224).map(|i| (Storage, i, 0)));
+    let set_up = row(3, 1, 0, &[literal(128), literal(128), literal(4223)]);
+    let line = Line { operations: vec![set_up], ..Line::default() };
+    let Trial { damages, limit, .. } = damaged(2, "", &long);
+    let whole = Trial::of("n above 4,096", &Case { lines: vec![line], storage: 4224, ..Case::default() });
+    vec![
+        damaged(11, "d no power of two", &three),
+        Trial { storage: 256, ..damaged(11, "d of 256", &large) },
+        Trial { before: 2, damages, limit, ..whole },
+    ]
+}
 /// Each clause of refusal 11 broken alone, and states as near that are sound.
 fn clauses() -> Vec<Trial> {
     use crate::raw::What::*;
@@ -228,14 +248,12 @@ fn clauses() -> Vec<Trial> {
         // unsound
         (11, "a bug of 2^36", &[(Bug, 25, big)]),
         (11, "a set-up word of 2^36", &[(Storage, 15, big)]),
-        (11, "d no power of two", &[(SetUp, 0, 3), (SetUp, 1, 9), (SetUp, 2, 23)]),
         (11, "d of 0 after a set-up", &[(SetUp, 0, 0)]),
         (11, "s1 zero", &[(SetUp, 1, 0), (SetUp, 2, 15)]),
-        (11, "s1 no multiple of d", &[(SetUp, 1, 12), (SetUp, 2, 27)]),
+        (11, "s1 no multiple of d", &[(SetUp, 1, 12), (SetUp, 2, 27), (Map, 4, 7), (Map, 8, 0), (Map, 12, 5)]),
         (11, "s2 below s1, no block", &[(SetUp, 1, 32), (Map, 0, 0), (Map, 4, 0), (Map, 8, 0)]),
         (11, "s2 above 32,767", &[(SetUp, 1, 32760), (SetUp, 2, 32775)]),
         (11, "n no multiple of d", &[(SetUp, 2, 19), (Map, 8, 5)]),
-        (11, "n above 4,096", &[(SetUp, 2, 4111)]),
         (11, "n above the lent storage", &[(SetUp, 2, 31), (Map, 16, 7)]),
         (11, "a definition's word of 128", &[(Definition, 41, 128)]),
         (11, "a definition's left bit of 36", &[(Definition, 42, 36)]),
@@ -263,7 +281,7 @@ fn clauses() -> Vec<Trial> {
         (11, "a saved place of line 800", &[(Calls, 2, 800)]),
         (11, "a saved operation of row 800", &[(Calls, 0, 1), (Calls, 1, 800)]),
         (11, "a saved exit with a row", &[(Calls, 1, 5)]),
-        (11, "a block larger than d", &[(Map, 8, 0), (Map, 4, 0), (Map, 0, 9)]),
+        (11, "a block larger than d", &[(SetUp, 1, 16), (SetUp, 2, 31), (Map, 0, 9), (Map, 4, 0), (Map, 8, 0)]),
         (11, "a byte that is no tag", &[(Map, 8, 255)]),
         (11, "a live block that is not aligned", &[(Map, 0, 3), (Map, 2, 6), (Map, 4, 0), (Map, 6, 3)]),
         (11, "a live block over a free one", &[(Map, 0, 8)]),
@@ -309,8 +327,7 @@ fn clauses() -> Vec<Trial> {
         (11, "blocks of one word", &[(Map, 4, 1), (Map, 5, 2), (Map, 6, 2), (Map, 7, 1)]),
     ];
     let mut trials: Vec<Trial> = all.iter().map(|&(before, label, damages)| damaged(before, label, damages)).collect();
-    let one = [(SetUp, 0, 256), (SetUp, 1, 256), (SetUp, 2, 511), (Map, 0, 17), (Map, 4, 0), (Map, 8, 0)];
-    trials.push(Trial { storage: 256, ..damaged(11, "a block and d of 256 words", &one) });
+    trials.extend(set_ups());
     let short = Trial { table: vec![0; 19], ..damaged(0, "unsound, and a table of 19 numbers", &[(Bug, 0, big)]) };
     trials.push(short.clone());
     let end = damaged(0, "finished, and a table of 19 numbers", &[(Place, 0, 3), (Place, 2, 0)]);
