@@ -1,4 +1,4 @@
--- Decimal digits: the last one, how many there are; octal digits; numbers of eight bytes. Assumes nothing.
+-- Decimal digits: the last one, how many there are; octal digits. Assumes nothing.
 use Prim.Native.Nat.{ℕ, zero, suc, _+_, _-_, _*_, _/_, _%_, _^_, _≤_, _<_}
 use native.Mathlib.Nat.{div-lt-iff-lt-mul, pow-suc}
 use native.Mathlib.Omega.{arith}
@@ -8,7 +8,7 @@ use mathlib.Core.Path.{_≡_, refl, sym, ap, _∙_}
 use borrow.Author.Tests.{eq-eqb, ne-eqb}
 use lib.Dec.{eqb}
 use lib.ListN.{length, take, drop, getD, length-append, length-take, length-drop}
-use Rattle.tour.specs.Tour.{lowFirst, numbers, digitsWithin, decimal, octals, codesLine, nought, newline}
+use Rattle.tour.specs.Tour.{digitsWithin, decimal, octals, codesLine, nought, newline}
 
 -- a number that some digits hold is the same however many more are allowed
 pub within : (f g n : ℕ) → n ≤ f → n ≤ g → digitsWithin f n ≡ digitsWithin g n

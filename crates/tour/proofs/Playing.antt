@@ -16,7 +16,7 @@ use Rattle.machine.proofs.Fresh.{fresh-sound}
 use Rattle.machine.proofs.Soundness.{run-keeps-sound, counts-fit, lentRan}
 use Rattle.tour.specs.Tour.{tableOf, played, codes, lines, printed}
 use Rattle.tour.specs.Put.{putBefore}
-use Rattle.tour.proofs.LowFirst.{take-put}
+use Rattle.tour.proofs.Tables.{take-put}
 
 -- as many as there are, and no more than n
 pub take-least : (n : ℕ) (xs : List ℕ) → take (min (length xs) n) xs ≡ take n xs

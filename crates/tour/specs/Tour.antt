@@ -5,18 +5,14 @@ use mathlib.Core.Bool.{_&&_, cond}
 use mathlib.Core.List.{List, [], _∷_, _++_}
 use lib.Dec.{eqb, leb}
 use lib.ListN.{length, take, drop, replicate}
+use Rattle.octets.specs.Octets.{lowFirst}
 use Rattle.machine.specs.declared.Answer.{Answer}
 use Rattle.machine.specs.declared.Answer.the-variants.{Running, Finished, Refused}
 use Rattle.machine.specs.Answer.{refusalNumber}
 use Rattle.machine.specs.State.{fresh}
 use Rattle.machine.specs.Step.{RunOutcome, run, lowest}
 
--- the number of these bytes, low first
-unfoldable pub lowFirst : List ℕ → ℕ
-lowFirst [] = 0
-lowFirst (x ∷ xs) = x + 256 * lowFirst xs
-
--- the first n numbers of eight bytes
+-- the first n numbers of eight bytes, low first
 unfoldable pub numbers : ℕ → List ℕ → List ℕ
 numbers zero bytes = []
 numbers (suc n) bytes = lowFirst (take 8 bytes) ∷ numbers n (drop 8 bytes)

@@ -1,23 +1,10 @@
 // The table of tour.tab: numbers of eight bytes, low first.
 ghost use mathlib.Core.Path.{_≡_};
-ghost use Prim.Native.Nat.{_+_, _*_, _≤_};
-ghost use lib.ListN.{length, take, drop};
-ghost use Rattle.tour.specs.Tour.{lowFirst, numbers, tableOf};
+ghost use Prim.Native.Nat.{_*_, _≤_};
+ghost use lib.ListN.{length};
+ghost use Rattle.tour.specs.Tour.{numbers, tableOf};
 ghost use Rattle.tour.specs.Put.{putBefore};
-
-// The number of the eight bytes from a place on.
-fn number_at(bytes: &[u8], at: usize) -> u64
-    requires { ⌜ at + 8 ≤ length (now bytes) ⌝ }
-    ensures { λ r. ⌜ r ≡ lowFirst (take 8 (drop at (now (bytes .entry)))) ⌝ }
-{
-    let mut left = 8;
-    let mut number = 0;
-    while left > 0 {
-        left -= 1;
-        number = number * 256 + bytes[at + left] as u64;
-    }
-    number
-}
+use octets::number_at;
 
 // The first n numbers, put at the start of the table.
 fn read_numbers(bytes: &[u8], n: usize, table: &mut [u64])
@@ -27,7 +14,7 @@ fn read_numbers(bytes: &[u8], n: usize, table: &mut [u64])
     let mut left = n;
     while left > 0 {
         left -= 1;
-        table[left] = number_at(bytes, 8 * left);
+        table[left] = number_at(bytes, 8 * left, 8);
     }
 }
 

@@ -5,7 +5,7 @@ use mathlib.Core.Path.{_≡_, sym, ap}
 use lib.ListN.{length, take, replicate, length-take}
 use lib.Seq.{length-take-le}
 use Rattle.tour.specs.Tour.{played, codes}
-use Rattle.tour.proofs.LowFirst.{table-most}
+use Rattle.tour.proofs.Tables.{table-most}
 use Rattle.tour.proofs.Playing.{run-played, written-fits, printed-is}
 use borrow.Author.Needs.{needs}
 use Rattle.tour.proofs.play.Statement.{statement}

@@ -7,7 +7,7 @@ use Prim.Native.Nat.{ℕ, _≤_, _-_}
 use lib.ListN.{length}
 use Rattle.tour.specs.Put.{putBefore}
 use Rattle.tour.proofs.Putting.{Put, start, more, put-one, same-length as kept}
-use Rattle.tour.proofs.LowFirst.{from, from-none, from-next}
+use Rattle.tour.proofs.Tables.{from, from-none, from-next}
 use borrow.Author.Needs.{needs}
 use Rattle.tour.proofs.numbers.read_numbers.Statement.{statement}
 use Rattle.tour.proofs.numbers.read_numbers.Tie as tie

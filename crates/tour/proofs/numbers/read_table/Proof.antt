@@ -3,7 +3,7 @@ use mathlib.Core.Path.{_≡_, refl, sym, ap}
 use native.Mathlib.Omega.{arith}
 use lib.ListN.{length}
 use Rattle.tour.proofs.Putting.{put-none}
-use Rattle.tour.proofs.LowFirst.{length-numbers, table-uneven, table-long, table-fits}
+use Rattle.tour.proofs.Tables.{length-numbers, table-uneven, table-long, table-fits}
 use borrow.Author.Needs.{needs}
 use Rattle.tour.proofs.numbers.read_table.Statement.{statement}
 use Rattle.tour.proofs.numbers.read_table.Tie as tie

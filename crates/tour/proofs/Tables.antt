@@ -1,6 +1,6 @@
--- Numbers of eight bytes, low first, and the table of a file. Assumes nothing.
-use Prim.Native.Nat.{ℕ, zero, suc, _+_, _-_, _*_, _/_, _%_, _^_, _≤_, _<_}
-use native.Mathlib.Nat.{pow-suc, pow-le-pow-right, sub-self}
+-- The numbers of a file, put from the last one on, and its table. Assumes nothing.
+use Prim.Native.Nat.{ℕ, zero, suc, _+_, _-_, _*_, _/_, _%_, _≤_, _<_}
+use native.Mathlib.Nat.{sub-self}
 use native.Mathlib.Omega.{arith}
 use mathlib.Core.Bool.{true, false, _&&_, cond}
 use mathlib.Core.List.{List, [], _∷_, _++_}
@@ -8,48 +8,11 @@ use mathlib.Core.Path.{_≡_, refl, sym, ap, _∙_}
 use borrow.Author.Tests.{eq-eqb, ne-eqb, le-leb, lt-leb, leb-true}
 use lib.Dec.{eqb, leb}
 use lib.ListN.{length, take, drop, getD}
-use lib.Seq.{drop-cons, drop-drop, take-at}
-use Rattle.tour.specs.Tour.{lowFirst, numbers, tableOf}
+use lib.Seq.{drop-drop, take-at}
+use Rattle.octets.specs.Octets.{lowFirst}
+use Rattle.tour.specs.Tour.{numbers, tableOf}
 use Rattle.tour.specs.Put.{putBefore}
 use Rattle.tour.proofs.Putting.{Put, start}
-
--- the number of the bytes from left on, of the eight from a place on
-pub record Low (bytes : List ℕ) (at left number : ℕ) : Type 0 where
-  pub few : left ≤ 8
-  pub is : number ≡ lowFirst (take (8 - left) (drop (at + left) bytes))
-  pub small : number < 256 ^ (8 - left)
-
-pub low-none : (bytes : List ℕ) (at : ℕ) → Low bytes at 8 0
-unfolding lowFirst
-low-none bytes at = record { few = omega arith; is = refl; small = omega arith }
-
--- the byte before them
-module _ {bytes : List ℕ} {at left number : ℕ} (low : Low bytes at left number) (some : 0 < left) where
-  below : (x : ℕ) → x < 256 → number * 256 + x < 256 ^ suc (8 - left)
-  below x byte = omega (arith, low .small, pow-suc 256 (8 - left))
-
-  pub low-fits : (x : ℕ) → x < 256 → number * 256 + x < 2 ^ 64
-  low-fits x byte =
-      let most : 256 ^ suc (8 - left) ≤ 256 ^ 8 = pow-le-pow-right {n = 256} (omega arith) {i = suc (8 - left)} {j = 8} (omega (arith, low .few)) in
-      omega (arith, below x byte)
-
-  pub low-next : at + 8 ≤ length bytes → getD bytes (at + (left - 1)) 0 < 256
-      → Low bytes at (left - 1) (number * 256 + getD bytes (at + (left - 1)) 0)
-  unfolding lowFirst
-  low-next long byte =
-      let more : 8 - (left - 1) ≡ suc (8 - left) = omega (arith, low .few) in
-      let next : suc (at + (left - 1)) ≡ at + left = omega arith in
-      let opened : drop (at + (left - 1)) bytes ≡ getD bytes (at + (left - 1)) 0 ∷ drop (at + left) bytes =
-      drop-cons bytes (at + (left - 1)) 0 (omega (arith, low .few)) ∙ ap (λ (n : ℕ). getD bytes (at + (left - 1)) 0 ∷ drop n bytes) next in
-      record {
-        few = omega (arith, low .few);
-        is = omega (arith, low .is, ap lowFirst (ap (λ (n : ℕ). take n (drop (at + (left - 1)) bytes)) more ∙ ap (take (suc (8 - left))) opened));
-        small = rw more (below _ byte);
-      }
-
-pub low-all : (bytes : List ℕ) (at left number : ℕ) → Low bytes at left number → left ≡ 0 → number ≡ lowFirst (take 8 (drop at bytes))
-low-all bytes at left number low none =
-    low .is ∙ ap (λ (n : ℕ). lowFirst (take (8 - n) (drop (at + n) bytes))) none ∙ ap (λ (n : ℕ). lowFirst (take 8 (drop n bytes))) (let same : at + 0 ≡ at = omega arith in same)
 
 -- as many numbers as are asked for
 pub length-numbers : (n : ℕ) (bytes : List ℕ) → length (numbers n bytes) ≡ n

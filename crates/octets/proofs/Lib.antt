@@ -1,0 +1,4 @@
+-- Laws of numbers as bytes.
+pub mod Reading
+pub mod RoundTrip
+pub mod Writing
