@@ -1,7 +1,7 @@
 # make tour: plays the sample museum. make test: the gate. The other targets stand beside what they do.
 SHELL = /bin/bash
 .SHELLFLAGS = -o pipefail -c
-.PHONY: tour tours tourrun test fmt wrong expected
+.PHONY: tour tours tourrun test fmt wrong bench expected
 
 # Proves tourrun and builds it (minutes the first time), then plays the sample museum.
 tour: tourrun
@@ -25,7 +25,11 @@ fmt:
 wrong:
 	bash .ci/wrong
 
-# Writes again what the programs must print, computed independently, the cases that comparison reads and the table that tourrun reads.
+# Times the proved engine and one written for speed in plain Rust on the same programs (some minutes).
+bench:
+	bench/run
+
+# Writes again what the programs must print, computed independently, the cases that comparison reads and the tables that tourrun and laps read.
 expected:
 	mkdir -p target
 	rustc -O -o target/leaves-reference reference/leaves.rs
@@ -34,3 +38,7 @@ expected:
 	for file in stdin stdout; do target/reference comparison 1966 480 $$file > crates/comparison/$$file; done
 	tours/play --files tours/example.tour crates/tourrun/data
 	rm crates/tourrun/data/stops.in
+	tours/play --files bench/lists.tour crates/laps/data
+	rm crates/laps/data/stops.in
+	rustc -O --edition 2021 -o target/rival bench/main.rs
+	cd crates/laps/data && ../../../target/rival $$(cat ../args) > ../stdout

@@ -5,7 +5,7 @@ ghost use lib.ListN.{length};
 ghost use Rattle.tour.specs.Tour.{printed};
 ghost use Rattle.tour.specs.Put.{putBefore};
 
-mod numbers;
+pub mod numbers;
 mod text;
 
 use engine::fresh;

@@ -1,0 +1,223 @@
+// laps run LIMIT CALLS, laps step CALLS: the engine on the tour of tour.tab and stops.in, for its speed. It makes so many calls of run (one
+// where CALLS is left out) or of step, fewer up to a finish or refusal. Prints the last answer's number (0 running, 22 finished), the
+// count of steps and a checksum over the reports of the calls of step, the bugs and the storage.
+ghost use Prim.Native.Nat.{_≤_, _<_};
+ghost use Rattle.io.specs.Counts.{Counts};
+use cases::fold;
+use engine::answers::refusal_number;
+use libc::STDOUT_FILENO;
+use machine::Answer;
+use machine::Core;
+use machine::Report;
+use machine::Store;
+use std::num;
+use tour::numbers::read_table;
+
+// How the steps end: the last answer's number, the count and the checksum.
+struct Ended {
+    answer: u64,
+    count: u64,
+    sum: u64,
+}
+
+// Reads the first bytes of a file, and says how many: a missing file counts as empty.
+fn read_file(name: &[u8], bytes: &mut [u8]) -> usize
+    ensures { λ r. ⌜ Counts r (now (bytes .exit)) ⌝ }
+{
+    let file = os::open_read(name);
+    if file < 0 {
+        return 0;
+    }
+    let count = io::read_full(file, bytes);
+    libc::close(file);
+    count
+}
+
+// The number of decimal digits, of which the last thirteen count.
+fn number_of(digits: &[u8]) -> u64 {
+    let mut number: u64 = 0;
+    let mut i = 0;
+    while i < digits.len() {
+        number = number % 1000000000000 * 10 + (digits[i] % 16) as u64;
+        i += 1;
+    }
+    number
+}
+
+// The lesser of a length and 4,096.
+fn at_most_4096(length: usize) -> usize
+    ensures { λ r. ⌜ (r ≤ length) × (r ≤ 4096) ⌝ }
+{
+    if length < 4096 { length } else { 4096 }
+}
+
+// Words folded.
+fn fold_words(before: u64, words: &[u64]) -> u64 {
+    let mut sum = before;
+    let mut i = 0;
+    while i < words.len() {
+        sum = fold(sum, words[i]);
+        i += 1;
+    }
+    sum
+}
+
+// A store folded.
+fn fold_store(before: u64, store: Store) -> u64 {
+    let a = fold(before, store.address);
+    let b = fold(a, store.left as u64);
+    let c = fold(b, store.right as u64);
+    fold(c, store.bits)
+}
+
+// A report folded.
+fn fold_report(before: u64, report: Report) -> u64 {
+    let a = fold(before, report.freed);
+    let b = fold(a, report.delivered);
+    let c = fold(b, report.size);
+    let d = fold(c, report.copied);
+    fold_store(fold_store(d, report.first), report.second)
+}
+
+// What the steps leave folded: bugs and storage.
+fn fold_left(before: u64, core: Core, storage: &[u64]) -> u64 {
+    let bugs = core.bugs;
+    fold_words(fold_words(before, &bugs), storage)
+}
+
+// An answer's number: 0 running, 22 finished, otherwise the refusal.
+fn answer_number(answer: Answer) -> u64 {
+    match answer {
+        Answer::Running => 0,
+        Answer::Finished => 22,
+        Answer::Refused(refusal) => refusal_number(refusal),
+    }
+}
+
+// How many calls are left after one more: none if its answer is not that it is running.
+fn left_after(left: u64, answer: u64) -> u64
+    requires { ⌜ 0 < left ⌝ }
+    ensures { λ r. ⌜ r < left ⌝ }
+{
+    if answer == 0 { left - 1 } else { 0 }
+}
+
+// Calls of run, one after the other.
+fn run_all(
+    table: &[u64],
+    storage: &mut [u64],
+    input: &[u8],
+    output: &mut [u8],
+    limit: u64,
+    calls: u64,
+) -> Ended {
+    let mut state = engine::fresh();
+    let mut answer = 0;
+    let mut count = 0;
+    let mut left = calls;
+    while left > 0 {
+        let ran = engine::run(table, &mut *storage, input, &mut *output, state, limit);
+        let given = ran.answer;
+        state = ran.state;
+        answer = answer_number(given);
+        count = num::wrapping_add_u64(count, ran.count);
+        left = left_after(left, answer);
+    }
+    let core = state.core;
+    Ended {
+        answer: answer,
+        count: count,
+        sum: fold_left(1, core, storage),
+    }
+}
+
+// Calls of step, one after the other.
+fn step_all(
+    table: &[u64],
+    storage: &mut [u64],
+    input: &[u8],
+    output: &mut [u8],
+    calls: u64,
+) -> Ended {
+    let mut state = engine::fresh();
+    let mut answer = 0;
+    let mut sum = 1;
+    let mut count = 0;
+    let mut left = calls;
+    while left > 0 {
+        let stepped = engine::step(table, &mut *storage, input, &mut *output, state);
+        let given = stepped.answer;
+        let report = stepped.report;
+        state = stepped.state;
+        answer = answer_number(given);
+        sum = fold_report(sum, report);
+        count = num::wrapping_add_u64(count, 1);
+        left = left_after(left, answer);
+    }
+    let core = state.core;
+    Ended {
+        answer: answer,
+        count: count,
+        sum: fold_left(sum, core, storage),
+    }
+}
+
+// Writes how the steps end.
+fn write(ended: Ended) {
+    io::print_decimal(STDOUT_FILENO, ended.answer);
+    io::write_all(STDOUT_FILENO, b" ");
+    io::print_decimal(STDOUT_FILENO, ended.count);
+    io::write_all(STDOUT_FILENO, b" ");
+    io::print_decimal(STDOUT_FILENO, ended.sum);
+    io::write_all(STDOUT_FILENO, b"\n");
+}
+
+// Steps through a table, with new storage and output.
+fn play(stepping: bool, first: u64, second: u64, table: &[u64], input: &[u8]) {
+    let mut storage = [0u64; 4096];
+    let mut output = [0u8; 4096];
+    if stepping {
+        write(step_all(table, &mut storage, input, &mut output, first));
+    } else {
+        write(run_all(table, &mut storage, input, &mut output, first, second));
+    }
+}
+
+// The same, given both files' bytes.
+fn play_files(stepping: bool, first: u64, second: u64, tab: &[u8], stops: &[u8]) {
+    let mut table = [0u64; 8000];
+    let count = read_table(tab, &mut table);
+    let given = at_most_4096(stops.len());
+    play(stepping, first, second, &table[..count], &stops[..given]);
+}
+
+// The number that an argument gives, or another one where it is missing.
+fn argument(i: usize, missing: u64) -> u64 {
+    let mut digits = [0u8; 20];
+    let length = os::arg(i, &mut digits);
+    if length == 0 {
+        return missing;
+    }
+    number_of(&digits[..length])
+}
+
+// Whether the mode is step: its first letter is s.
+fn is_step() -> bool {
+    let mut mode = [0u8; 8];
+    os::arg(1, &mut mode);
+    mode[0] == 115
+}
+
+fn main() {
+    let mut tab = io::large_buffer();
+    let mut stops = io::large_buffer();
+    let table = read_file(b"tour.tab", &mut tab);
+    let given = read_file(b"stops.in", &mut stops);
+    play_files(
+        is_step(),
+        argument(2, 0),
+        argument(3, 1),
+        &tab[..table],
+        &stops[..given],
+    );
+}
