@@ -46,10 +46,26 @@ run-requires : tie.Need-run-requires
 run-requires c κs = search needs
 
 array-share-prefix-output : tie.Need-array-share-prefix-output
-array-share-prefix-output c = written-fits (c .before .before .before .before .before .before .before .before .before .before .before .before .before .before .before .before .before .args .tab .now) (c .before .before .before .before .before .before .before .before .before .before .before .before .before .before .before .before .before .args .stops .now) (run-played (c .before .before .before .before .before .before .before .before .before .before .before .before .before .before .before .before .before .args .tab .now) (c .before .before .before .before .before .before .before .before .before .before .before .before .before .before .before .before .before .args .stops .now) (replicate 8000 0) (c .before .before .before .before .before .before .before .before .before .before .before .before .before .read-table .ensures .0) (c .before .before .before .before .before .before .before .before .before .before .before .before .before .read-table .ensures .1) (c .before .before .before .before .before .before .before .before .before .before .before .least .ensures) (c .before .before .before .before .before .before .fresh .ensures) (c .before .before .before .before .before .run .ensures .0))
+array-share-prefix-output c =
+    let at-run = c .before .before .before .before .before in
+    let at-fresh = at-run .before in
+    let at-least = at-fresh .before .before .before .before .before in
+    let at-read-table = at-least .before .before in
+    let entry = at-read-table .before .before .before .before in
+    let ran = run-played (entry .args .tab .now) (entry .args .stops .now) (replicate 8000 0)
+    (at-read-table .read-table .ensures .0) (at-read-table .read-table .ensures .1) (at-least .least .ensures) (at-fresh .fresh .ensures) (at-run .run .ensures .0) in
+    written-fits (entry .args .tab .now) (entry .args .stops .now) ran
 
 slice-aggregate-put-lines : tie.Need-slice-aggregate-put-lines
-slice-aggregate-put-lines c = sym (length-take-le _ _ (written-fits (c .before .before .before .before .before .before .before .before .before .before .before .before .before .before .before .before .before .before .args .tab .now) (c .before .before .before .before .before .before .before .before .before .before .before .before .before .before .before .before .before .before .args .stops .now) (run-played (c .before .before .before .before .before .before .before .before .before .before .before .before .before .before .before .before .before .before .args .tab .now) (c .before .before .before .before .before .before .before .before .before .before .before .before .before .before .before .before .before .before .args .stops .now) (replicate 8000 0) (c .before .before .before .before .before .before .before .before .before .before .before .before .before .before .read-table .ensures .0) (c .before .before .before .before .before .before .before .before .before .before .before .before .before .before .read-table .ensures .1) (c .before .before .before .before .before .before .before .before .before .before .before .before .least .ensures) (c .before .before .before .before .before .before .before .fresh .ensures) (c .before .before .before .before .before .before .run .ensures .0))))
+slice-aggregate-put-lines c =
+    let at-run = c .before .before .before .before .before .before in
+    let at-fresh = at-run .before in
+    let at-least = at-fresh .before .before .before .before .before in
+    let at-read-table = at-least .before .before in
+    let entry = at-read-table .before .before .before .before in
+    let ran = run-played (entry .args .tab .now) (entry .args .stops .now) (replicate 8000 0)
+    (at-read-table .read-table .ensures .0) (at-read-table .read-table .ensures .1) (at-least .least .ensures) (at-fresh .fresh .ensures) (at-run .run .ensures .0) in
+    sym (length-take-le _ _ (written-fits (entry .args .tab .now) (entry .args .stops .now) ran))
 
 put-lines-requires : tie.Need-put-lines-requires
 put-lines-requires c κs =
@@ -59,8 +75,16 @@ put-lines-requires c κs =
 
 returns : tie.Need-returns
 unfolding codes
-returns c = let is = printed-is (c .before .before .before .before .before .before .before .before .before .before .before .before .before .before .before .before .before .before .before .args .tab .now) (c .before .before .before .before .before .before .before .before .before .before .before .before .before .before .before .before .before .before .before .args .stops .now) (run-played (c .before .before .before .before .before .before .before .before .before .before .before .before .before .before .before .before .before .before .before .args .tab .now) (c .before .before .before .before .before .before .before .before .before .before .before .before .before .before .before .before .before .before .before .args .stops .now) (replicate 8000 0) (c .before .before .before .before .before .before .before .before .before .before .before .before .before .before .before .read-table .ensures .0) (c .before .before .before .before .before .before .before .before .before .before .before .before .before .before .before .read-table .ensures .1) (c .before .before .before .before .before .before .before .before .before .before .before .before .before .least .ensures) (c .before .before .before .before .before .before .before .before .fresh .ensures) (c .before .before .before .before .before .before .before .run .ensures .0)) in
+returns c =
     let room : length (c .before .before .before .before .before .before .before .before .before .before .before .before .before .before .before .before .before .before .before .args .text .now) ≡ 12331 = search needs in
+    let at-run = c .before .before .before .before .before .before .before in
+    let at-fresh = at-run .before in
+    let at-least = at-fresh .before .before .before .before .before in
+    let at-read-table = at-least .before .before in
+    let entry = at-read-table .before .before .before .before in
+    let ran = run-played (entry .args .tab .now) (entry .args .stops .now) (replicate 8000 0)
+    (at-read-table .read-table .ensures .0) (at-read-table .read-table .ensures .1) (at-least .least .ensures) (at-fresh .fresh .ensures) (at-run .run .ensures .0) in
+    let is = printed-is (entry .args .tab .now) (entry .args .stops .now) ran in
     (rw (is, room) at (c .put-lines .ensures .0), rw (is, room) at (c .put-lines .ensures .1))
 
 pub play-spec : {M : Type 1} → statement M

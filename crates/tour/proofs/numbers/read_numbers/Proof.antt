@@ -41,9 +41,11 @@ loop-less c = search needs
 
 loop-again : tie.Need-loop-again Inv-loop μ-loop
 loop-again c =
-    let p = c .before .before .loop .inv .1 in
-    let one = put-one (c .before .before .loop .left) (c .number-at .result) (c .before .before .loop .table) (c .before .loop-test .taken) (omega (arith, kept p)) in
-    (omega arith, rw (from-next (c .before .before .before .before .before .args .bytes .now) (c .before .before .before .before .before .args .n) (c .before .before .loop .left) (c .before .loop-test .taken) (c .before .before .loop .inv .0)) (more p (_ ∷ []) (omega arith) (one ∙ ap (λ (v : ℕ). putBefore (c .before .before .loop .left) (v ∷ []) (c .before .before .loop .table)) (c .number-at .ensures))))
+    let at-loop = c .before .before in
+    let entry = at-loop .before .before .before in
+    let p = at-loop .loop .inv .1 in
+    let one = put-one (at-loop .loop .left) (c .number-at .result) (at-loop .loop .table) (c .before .loop-test .taken) (omega (arith, kept p)) in
+    (omega arith, rw (from-next (entry .args .bytes .now) (entry .args .n) (at-loop .loop .left) (c .before .loop-test .taken) (at-loop .loop .inv .0)) (more p (_ ∷ []) (omega arith) (one ∙ ap (λ (v : ℕ). putBefore (at-loop .loop .left) (v ∷ []) (at-loop .loop .table)) (c .number-at .ensures))))
 
 same-length : tie.Need-same-length Inv-loop μ-loop
 same-length c = kept (c .before .loop .inv .1)

@@ -25,9 +25,13 @@ same-length c = search needs
 
 returns : tie.Need-returns
 returns c =
-    let one = more (start (c .before .before .before .before .before .before .before .before .before .before .before .before .before .args .at) (c .before .before .before .before .before .before .before .before .before .before .before .before .before .args .text .now) (c .before .before .before .before .before .before .before .before .before .before .before .before .before .pre .1)) (_ ∷ []) (c .before .before .before .before .before .before .before .before .before .before .put .ensures .0) (c .before .before .before .before .before .before .before .before .before .before .put .ensures .1) in
-    let two = more one (_ ∷ []) (c .before .before .before .before .before .before .put2 .ensures .0) (c .before .before .before .before .before .before .put2 .ensures .1) in
-    let three = more two (_ ∷ []) (c .before .before .put3 .ensures .0) (c .before .before .put3 .ensures .1) in
+    let at-put3 = c .before .before in
+    let at-put2 = at-put3 .before .before .before .before in
+    let at-put = at-put2 .before .before .before .before in
+    let entry = at-put .before .before .before in
+    let one = more (start (entry .args .at) (entry .args .text .now) (entry .pre .1)) (_ ∷ []) (at-put .put .ensures .0) (at-put .put .ensures .1) in
+    let two = more one (_ ∷ []) (at-put2 .put2 .ensures .0) (at-put2 .put2 .ensures .1) in
+    let three = more two (_ ∷ []) (at-put3 .put3 .ensures .0) (at-put3 .put3 .ensures .1) in
     (three .starts, three .buffer)
 
 pub put-code-spec : {M : Type 1} → statement M

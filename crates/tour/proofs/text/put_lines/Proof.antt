@@ -19,8 +19,12 @@ same-length c = search needs
 
 returns : tie.Need-returns
 unfolding lines
-returns c = let last : Put (length (c .before .before .before .before .before .before .before .before .before .before .args .text .now)) _ _ _ _ = record { starts = c .before .before .before .before .before .before .put-last-line .ensures .0; buffer = c .before .before .before .before .before .before .put-last-line .ensures .1 .0; inside = omega arith } in
-    let both = more last (codesLine (c .before .before .before .before .before .before .before .before .before .before .args .codes .now)) (c .before .before .put-codes-line .ensures .0) (c .before .before .put-codes-line .ensures .1) in
+returns c =
+    let at-put-codes-line = c .before .before in
+    let at-put-last-line = at-put-codes-line .before .before .before .before in
+    let entry = at-put-last-line .before .before .before .before in
+    let last : Put (length (entry .args .text .now)) _ _ _ _ = record { starts = at-put-last-line .put-last-line .ensures .0; buffer = at-put-last-line .put-last-line .ensures .1 .0; inside = omega arith } in
+    let both = more last (codesLine (entry .args .codes .now)) (at-put-codes-line .put-codes-line .ensures .0) (at-put-codes-line .put-codes-line .ensures .1) in
     (both .starts, both .buffer)
 
 pub put-lines-spec : {M : Type 1} → statement M

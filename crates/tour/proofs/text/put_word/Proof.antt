@@ -36,9 +36,12 @@ loop-less c = search needs
 
 loop-again : tie.Need-loop-again Inv-loop μ-loop
 loop-again c =
-    let p = c .before .before .before .before .before .before .loop .inv .1 in
-    let long = length-drop (c .before .before .before .before .before .before .loop .left) (c .before .before .before .before .before .before .before .before .before .args .word .now) in
-    (omega arith, rw (one-before (c .before .before .before .before .before .before .before .before .before .args .word .now) (c .before .before .before .before .before .before .loop .left) (omega arith) (c .before .before .before .before .before .before .loop .inv .0)) (more p (_ ∷ []) (c .before .before .put .ensures .0) (c .before .before .put .ensures .1)))
+    let at-put = c .before .before in
+    let at-loop = at-put .before .before .before .before in
+    let entry = at-loop .before .before .before in
+    let p = at-loop .loop .inv .1 in
+    let long = length-drop (at-loop .loop .left) (entry .args .word .now) in
+    (omega arith, rw (one-before (entry .args .word .now) (at-loop .loop .left) (omega arith) (at-loop .loop .inv .0)) (more p (_ ∷ []) (at-put .put .ensures .0) (at-put .put .ensures .1)))
 
 same-length : tie.Need-same-length Inv-loop μ-loop
 same-length c = kept (c .before .loop .inv .1)
