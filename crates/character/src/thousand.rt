@@ -4,7 +4,7 @@ ghost use Prim.Native.Nat.{_<_};
 ghost use Rattle.character.specs.Character.{fromBinary};
 
 // Entry k: the decimal digits of k, each in six bits.
-const THOUSAND: [u64; 1000] = [
+const THOUSAND: [u16; 1000] = [
     0,
     1,
     2,
@@ -1007,10 +1007,17 @@ const THOUSAND: [u64; 1000] = [
     37449,
 ];
 
+// An entry as a word.
+fn wide(entry: u16) -> u64
+    ensures { λ r. ⌜ r ≡ entry ⌝ }
+{
+    entry as u64
+}
+
 // The three decimal digits of a number.
 pub(crate) fn three(k: u64) -> u64
     requires { ⌜ k < 1000 ⌝ }
     ensures { λ r. ⌜ r ≡ fromBinary 10 3 k ⌝ }
 {
-    THOUSAND[k as usize]
+    wide(THOUSAND[k as usize])
 }

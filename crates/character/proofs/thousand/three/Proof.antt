@@ -20,19 +20,22 @@ right k x = eqb x (fromBinary 10 3 k)
 entry : (xs : List ℕ) (k : ℕ) → T (every right 0 xs) → k < length xs → getD xs k 0 ≡ fromBinary 10 3 k
 entry xs k t h = eqb→eq (getD xs k 0) (fromBinary 10 3 k) (at right xs t k h)
 
-mul-result : tie.Need-mul-result
-mul-result c = search needs
+mul-wide : tie.Need-mul-wide
+mul-wide c = search needs
 
-array-read-result : tie.Need-array-read-result
-array-read-result c = search needs
+array-read-wide : tie.Need-array-read-wide
+array-read-wide c = search needs
+
+wide-requires : tie.Need-wide-requires
+wide-requires c = search needs
 
 -- `rw` takes the table from the goal, and `passes` is the test over it as it computes
 returns : tie.Need-returns
 unfolding digits number packed fromBinary
 returns c =
     let passes : Unit {0} = tt in
-    let inside : c .args .k < 1000 = c .pre in
-    rw entry
+    let inside : c .before .args .k < 1000 = c .before .pre in
+    rw (c .wide .ensures, entry)
 
 pub three-spec : {M : Type 1} → statement M
-three-spec = tie.close (tie.spec mul-result array-read-result returns)
+three-spec = tie.close (tie.spec mul-wide array-read-wide wide-requires returns)
