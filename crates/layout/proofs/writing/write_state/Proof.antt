@@ -1,0 +1,42 @@
+-- `layout::writing::write_state` meets its contract. Assumes nothing.
+use native.Mathlib.Omega.{arith}
+use mathlib.Core.Path.{_≡_, sym}
+use lib.ListN.{length}
+use Rattle.layout.specs.Ranged.{Ranged}
+use Rattle.layout.proofs.Parts.{state-put}
+use Rattle.layout.proofs.Back.{state-back}
+use borrow.Author.Needs.{needs}
+use Rattle.layout.proofs.writing.write_state.Statement.{statement}
+use Rattle.layout.proofs.writing.write_state.Tie as tie
+
+put-numbers-requires : tie.Need-put-numbers-requires
+put-numbers-requires c κs = search needs
+
+put-arrays-requires : tie.Need-put-arrays-requires
+put-arrays-requires c κs = search needs
+
+slice-aggregate-put-bytes : tie.Need-slice-aggregate-put-bytes
+slice-aggregate-put-bytes c = search needs
+
+put-bytes-requires : tie.Need-put-bytes-requires
+put-bytes-requires c κs = let long : length (c .before .before .before .before .before .before .before .before .before .before .before .before .before .args .state .map) ≡ 4096 = search needs in omega (arith, c .before .before .before .before .before .before .before .before .before .before .before .before .before .pre)
+
+same-length : tie.Need-same-length
+same-length c = search needs
+
+returns : tie.Need-returns
+returns c =
+    let long : length (c .before .before .before .before .before .before .before .before .before .before .before .before .before .before .before .before .args .state .map) ≡ 4096 = sym (slice-aggregate-put-bytes (c .before .before .before)) in
+    let ok : Ranged (c .before .before .before .before .before .before .before .before .before .before .before .before .before .before .before .before .args .state) = record { numbers = c .before .before .before .before .before .before .before .before .before .before .before .put-numbers .ensures .1; arrays = c .before .before .before .before .before .before .before .put-arrays .ensures .1; map = rw long at (c .before .before .put-bytes .ensures .1) } in
+    (state-put (c .before .before .before .before .before .before .before .before .before .before .before .before .before .before .before .before .args .state) ok (c .before .before .before .before .before .before .before .before .before .before .before .before .before .before .before .before .args .bytes .now) (c .before .before .before .before .before .before .before .before .before .before .before .before .before .before .before .before .pre) (c .before .before .before .before .before .before .before .before .before .before .before .put-numbers .ensures .0) (c .before .before .before .before .before .before .before .put-arrays .ensures .0) (c .before .before .put-bytes .ensures .0), state-back (c .before .before .before .before .before .before .before .before .before .before .before .before .before .before .before .before .args .state) ok)
+
+pub write-state-spec : {M : Type 1} → statement M
+write-state-spec =
+    tie.close
+    (tie.spec
+    put-numbers-requires
+    put-arrays-requires
+    slice-aggregate-put-bytes
+    put-bytes-requires
+    same-length
+    returns)
