@@ -1,0 +1,100 @@
+-- What the parts of a call come to, put together. Assumes nothing.
+use Prim.Native.Nat.{ℕ}
+use mathlib.Core.Bool.{Bool, true, false, cond}
+use mathlib.Core.List.{List}
+use mathlib.Core.Path.{_≡_, refl, sym, ap, subst, _∙_}
+use borrow.Author.Tests.{eq-eqb, ne-eqb}
+use lib.Dec.{eqb}
+use lib.ListN.{length}
+use Rattle.machine.specs.declared.Ran.{Ran}
+use Rattle.machine.specs.declared.State.{State}
+use Rattle.machine.specs.declared.Stepped.{Stepped}
+use Rattle.machine.specs.State.{fresh, isFinished}
+use Rattle.machine.specs.Sound.{Lent, Engine}
+use Rattle.machine.specs.Step.{Outcome, RunOutcome, step, run, lowest}
+use Rattle.layout.specs.Layout.{stateLength, bytesOfState, stateOf}
+use Rattle.player.specs.Calls.{stepCall, runCall, code, moved, bytesAfter, engineAt, FreshLeft, freshLeft, numbersOfReport, StepLeft, afterStep, noStep, stepLeft, RunLeft, afterRun, noRun, runLeft, wrongState, wrongReport}
+use Rattle.player.proofs.Moving.{step-kept, run-kept}
+
+-- bytes that were written, or left, tell the state afterwards
+told : (t : Bool) (bytes : List ℕ) (state : State) {after : List ℕ} → after ≡ cond t (bytesOfState state) bytes
+    → (t ≡ true → stateOf (bytesOfState state) ≡ state) → (t ≡ false → state ≡ stateOf bytes) → stateOf after ≡ state
+told true bytes state is back kept = ap stateOf is ∙ back refl
+told false bytes state is back kept = ap stateOf is ∙ sym (kept refl)
+
+module _ (l : Lent) (storage bytes report : List ℕ) where
+  pub step-short : (length bytes ≡ stateLength → ⊥) → noStep wrongState l storage bytes report ≡ stepLeft l storage bytes report
+  unfolding stepLeft
+  step-short h = rw (ne-eqb (length bytes) stateLength h)
+
+  pub step-unreported : length bytes ≡ stateLength → (length report ≡ 12 → ⊥) → noStep wrongReport l storage bytes report ≡ stepLeft l storage bytes report
+  unfolding stepLeft
+  step-unreported h k = rw (eq-eqb (length bytes) stateLength h, ne-eqb (length report) 12 k)
+
+  -- what the engine's step leaves, of a state that was read, and what is made of it
+  module _ {before : State} {stepped : Stepped} {storage' output' bytes' : List ℕ} (read : before ≡ stateOf bytes)
+      (is : _≡_ {A = Outcome} (record { stepped = stepped; storage = storage'; output = output' }) (step 36 lowest l (record { state = before; storage = storage })))
+      (kept : bytes' ≡ cond (moved (eqb (before .core .place .kind) 3) (stepped .answer) 1) (bytesOfState (stepped .state)) bytes) where
+    called : _≡_ {A = Outcome} (record { stepped = stepped; storage = storage'; output = output' }) (stepCall l (engineAt bytes storage))
+    unfolding stepCall
+    called = is ∙ ap (λ (s : State). step 36 lowest l (record { state = s; storage = storage })) read
+
+    pub step-leaves : {report' : List ℕ} {answer : ℕ} → length bytes ≡ stateLength → length report ≡ 12 → report' ≡ numbersOfReport (stepped .report) → answer ≡ code (stepped .answer)
+        → _≡_ {A = StepLeft} (record { answer = answer; storage = storage'; output = output'; state = bytes'; report = report' }) (stepLeft l storage bytes report)
+    unfolding stepLeft afterStep bytesAfter isFinished
+    step-leaves h k r a =
+        rw (eq-eqb (length bytes) stateLength h, eq-eqb (length report) 12 k, ← called, a, r, kept, read)
+
+    still-so : moved (eqb (before .core .place .kind) 3) (stepped .answer) 1 ≡ false
+        → moved (isFinished (stateOf bytes .core .place)) (stepCall l (engineAt bytes storage) .stepped .answer) 1 ≡ false
+    unfolding isFinished
+    still-so k = rw (← called, ← read) k
+
+    pub step-told : (moved (eqb (before .core .place .kind) 3) (stepped .answer) 1 ≡ true → stateOf (bytesOfState (stepped .state)) ≡ stepped .state)
+        → stateOf bytes' ≡ stepCall l (engineAt bytes storage) .stepped .state
+    unfolding isFinished
+    step-told back =
+        told (moved (eqb (before .core .place .kind) 3) (stepped .answer) 1) bytes (stepped .state) kept back
+        (λ still. ap (λ (o : Outcome). o .stepped .state) called ∙ step-kept l (engineAt bytes storage) (still-so still) .state)
+        ∙ ap (λ (o : Outcome). o .stepped .state) called
+
+module _ (limit : ℕ) (l : Lent) (storage bytes : List ℕ) where
+  pub run-short : (count : ℕ) → (length bytes ≡ stateLength → ⊥) → noRun wrongState l storage bytes count ≡ runLeft limit l storage bytes count
+  unfolding runLeft
+  run-short count h = rw (ne-eqb (length bytes) stateLength h)
+
+  -- what the engine's run leaves
+  module _ {before : State} {ran : Ran} {storage' output' bytes' : List ℕ} (read : before ≡ stateOf bytes)
+      (is : _≡_ {A = RunOutcome} (record { ran = ran; storage = storage'; output = output' }) (run 36 (λ i. lowest) limit l (record { state = before; storage = storage })))
+      (kept : bytes' ≡ cond (moved (eqb (before .core .place .kind) 3) (ran .answer) (ran .count)) (bytesOfState (ran .state)) bytes) where
+    run-called : _≡_ {A = RunOutcome} (record { ran = ran; storage = storage'; output = output' }) (runCall limit l (engineAt bytes storage))
+    unfolding runCall
+    run-called = is ∙ ap (λ (s : State). run 36 (λ i. lowest) limit l (record { state = s; storage = storage })) read
+
+    pub run-leaves : (count : ℕ) {answer : ℕ} → length bytes ≡ stateLength → answer ≡ code (ran .answer)
+        → _≡_ {A = RunLeft} (record { answer = answer; storage = storage'; output = output'; state = bytes'; count = ran .count }) (runLeft limit l storage bytes count)
+    unfolding runLeft afterRun bytesAfter isFinished
+    run-leaves count h a = rw (eq-eqb (length bytes) stateLength h, ← run-called, a, kept, read)
+
+    run-still : moved (eqb (before .core .place .kind) 3) (ran .answer) (ran .count) ≡ false
+        → moved (isFinished (stateOf bytes .core .place)) (runCall limit l (engineAt bytes storage) .ran .answer) (runCall limit l (engineAt bytes storage) .ran .count) ≡ false
+    unfolding isFinished
+    run-still k = rw (← run-called, ← read) k
+
+    pub run-told : (moved (eqb (before .core .place .kind) 3) (ran .answer) (ran .count) ≡ true → stateOf (bytesOfState (ran .state)) ≡ ran .state)
+        → stateOf bytes' ≡ runCall limit l (engineAt bytes storage) .ran .state
+    unfolding isFinished
+    run-told back =
+        told (moved (eqb (before .core .place .kind) 3) (ran .answer) (ran .count)) bytes (ran .state) kept back
+        (λ still. ap (λ (r : RunOutcome). r .ran .state) run-called ∙ run-kept limit l (engineAt bytes storage) (run-still still) .state)
+        ∙ ap (λ (r : RunOutcome). r .ran .state) run-called
+
+-- a fresh state
+pub fresh-short : (bytes : List ℕ) → (length bytes ≡ stateLength → ⊥) → _≡_ {A = FreshLeft} (record { answer = wrongState; state = bytes }) (freshLeft bytes)
+unfolding freshLeft
+fresh-short bytes h = rw (ne-eqb (length bytes) stateLength h)
+
+pub fresh-leaves : (bytes : List ℕ) {state : State} {after : List ℕ} → length bytes ≡ stateLength → state ≡ fresh → after ≡ bytesOfState state
+    → _≡_ {A = FreshLeft} (record { answer = 0; state = after }) (freshLeft bytes)
+unfolding freshLeft
+fresh-leaves bytes h s is = rw (eq-eqb (length bytes) stateLength h, is, s)

@@ -1,0 +1,3 @@
+-- Laws of the library's calls.
+pub mod Moving
+pub mod Leaving

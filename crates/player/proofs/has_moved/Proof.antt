@@ -1,0 +1,46 @@
+-- `player::has_moved` meets its contract. Assumes nothing.
+use Rattle.player.specs.Calls.{isRefused}
+use Rattle.player.proofs.Moving.{moved-many, moved-finished, moved-one}
+use borrow.Author.Needs.{needs}
+use Rattle.player.proofs.has_moved.Statement.{statement}
+use Rattle.player.proofs.has_moved.Tie as tie
+
+returns : tie.Need-returns
+returns c = moved-many (c .before .args .kind) (c .before .args .answer) (c .before .args .count) (c .if1 .taken)
+
+returns-2 : tie.Need-returns-2
+returns-2 c = moved-finished (c .before .before .args .kind) (c .before .before .args .answer) (c .before .before .args .count) (c .before .if1 .left) (c .if2 .taken)
+
+enum-told : tie.Need-enum-told
+enum-told c = search needs
+
+enum-told-2 : tie.Need-enum-told-2
+enum-told-2 c = search needs
+
+enum-told-3 : tie.Need-enum-told-3
+enum-told-3 c = search needs
+
+returns-3 : tie.Need-returns-3
+unfolding isRefused
+returns-3 c = rw (c .enum-told .given .1) (moved-one (c .before .before .before .before .args .kind) _ (c .before .before .before .before .args .count) (c .before .before .before .if1 .left) (c .before .before .if2 .left))
+
+returns-4 : tie.Need-returns-4
+unfolding isRefused
+returns-4 c = rw (c .enum-told2 .given .1) (moved-one (c .before .before .before .before .args .kind) _ (c .before .before .before .before .args .count) (c .before .before .before .if1 .left) (c .before .before .if2 .left))
+
+returns-5 : tie.Need-returns-5
+unfolding isRefused
+returns-5 c = rw (c .enum-told3 .given .1) (moved-one (c .before .before .before .before .args .kind) _ (c .before .before .before .before .args .count) (c .before .before .before .if1 .left) (c .before .before .if2 .left))
+
+pub has-moved-spec : {M : Type 1} → statement M
+has-moved-spec =
+    tie.close
+    (tie.spec
+    returns
+    returns-2
+    enum-told
+    enum-told-2
+    enum-told-3
+    returns-3
+    returns-4
+    returns-5)

@@ -1,0 +1,145 @@
+-- The library's calls: what each answers, and what it leaves in the memory lent to it. The state is its bytes (layout/specs/Layout).
+-- Assumes nothing.
+use Prim.Native.Nat.{ℕ}
+use mathlib.Core.Bool.{Bool, true, false, not, _&&_, _||_, cond}
+use mathlib.Core.List.{List, [], _∷_, _++_}
+use lib.Dec.{eqb, ltb}
+use lib.ListN.{length}
+use Rattle.table.specs.declared.TableCheck.{TableCheck}
+use Rattle.table.specs.declared.TableCheck.the-variants.{Lowest, BadLength}
+use Rattle.table.specs.Table.{checked}
+use Rattle.machine.specs.declared.Answer.{Answer}
+use Rattle.machine.specs.declared.Answer.the-variants.{Running, Finished, Refused}
+use Rattle.machine.specs.declared.Report.{Report}
+use Rattle.machine.specs.declared.State.{State}
+use Rattle.machine.specs.declared.Store.{Store}
+use Rattle.machine.specs.Answer.{refusalNumber}
+use Rattle.machine.specs.State.{fresh, isFinished}
+use Rattle.machine.specs.Sound.{Lent, Engine}
+use Rattle.machine.specs.Step.{Outcome, RunOutcome, step, run, lowest}
+use Rattle.layout.specs.Layout.{stateLength, bytesOfState, stateOf}
+
+-- a step of the engine, and a run
+unfoldable pub stepCall : Lent → Engine → Outcome
+stepCall = step 36 lowest
+
+unfoldable pub runCall : ℕ → Lent → Engine → RunOutcome
+runCall = run 36 (λ i. lowest)
+
+-- the number of an answer: 0 running, 100 finished, document 01's number of a refusal
+unfoldable pub code : Answer → ℕ
+code Running = 0
+code Finished = 100
+code (Refused r) = refusalNumber r
+
+-- answers of the library's own: the length of the state, of the report, of a list is wrong
+abbrev pub wrongState : ℕ
+wrongState = 101
+
+abbrev pub wrongReport : ℕ
+wrongReport = 102
+
+abbrev pub wrongList : ℕ
+wrongList = 103
+
+unfoldable pub isRefused : Answer → Bool
+isRefused Running = false
+isRefused Finished = false
+isRefused (Refused r) = true
+
+-- steps were carried out: more than one, or one that was not refused of an engine that was not finished
+unfoldable pub moved : Bool → Answer → ℕ → Bool
+moved finished answer count = ltb 1 count || (eqb count 1 && not finished && not (isRefused answer))
+
+-- the bytes of the state after count steps: written anew only where some were carried out
+unfoldable pub bytesAfter : List ℕ → Answer → ℕ → State → List ℕ
+bytesAfter bytes answer count after = cond (moved (isFinished (stateOf bytes .core .place)) answer count) (bytesOfState after) bytes
+
+-- the engine of these bytes over a storage
+abbrev pub engineAt : List ℕ → List ℕ → Engine
+engineAt bytes storage = record { state = stateOf bytes; storage = storage }
+
+-- l6_fresh
+pub record FreshLeft : Type 0 where
+  pub answer : ℕ
+  pub state : List ℕ
+
+unfoldable pub freshLeft : List ℕ → FreshLeft
+freshLeft bytes =
+    cond (eqb (length bytes) stateLength) (record { answer = 0; state = bytesOfState fresh }) (record { answer = wrongState; state = bytes })
+
+-- a report as twelve numbers
+unfoldable pub numbersOfStore : Store → List ℕ
+numbersOfStore x = x .address ∷ x .left ∷ x .right ∷ x .bits ∷ []
+
+unfoldable pub numbersOfReport : Report → List ℕ
+numbersOfReport r =
+    (r .freed ∷ r .delivered ∷ r .size ∷ r .copied ∷ []) ++ (numbersOfStore (r .first) ++ numbersOfStore (r .second))
+
+-- l6_step
+pub record StepLeft : Type 0 where
+  pub answer : ℕ
+  pub storage : List ℕ
+  pub output : List ℕ
+  pub state : List ℕ
+  pub report : List ℕ
+
+-- a step is left so: a refused one reports zeros, as the engine's does
+unfoldable pub afterStep : List ℕ → Outcome → StepLeft
+afterStep bytes o =
+    record {
+      answer = code (o .stepped .answer);
+      storage = o .storage;
+      output = o .output;
+      state = bytesAfter bytes (o .stepped .answer) 1 (o .stepped .state);
+      report = numbersOfReport (o .stepped .report);
+    }
+
+-- nothing is changed
+unfoldable pub noStep : ℕ → Lent → List ℕ → List ℕ → List ℕ → StepLeft
+noStep answer l storage bytes report =
+    record { answer = answer; storage = storage; output = l .output; state = bytes; report = report }
+
+unfoldable pub stepLeft : Lent → List ℕ → List ℕ → List ℕ → StepLeft
+stepLeft l storage bytes report =
+    cond (eqb (length bytes) stateLength)
+    (cond (eqb (length report) 12) (afterStep bytes (stepCall l (engineAt bytes storage))) (noStep wrongReport l storage bytes report))
+    (noStep wrongState l storage bytes report)
+
+-- l6_run
+pub record RunLeft : Type 0 where
+  pub answer : ℕ
+  pub storage : List ℕ
+  pub output : List ℕ
+  pub state : List ℕ
+  pub count : ℕ
+
+unfoldable pub afterRun : List ℕ → RunOutcome → RunLeft
+afterRun bytes r =
+    record {
+      answer = code (r .ran .answer);
+      storage = r .storage;
+      output = r .output;
+      state = bytesAfter bytes (r .ran .answer) (r .ran .count) (r .ran .state);
+      count = r .ran .count;
+    }
+
+unfoldable pub noRun : ℕ → Lent → List ℕ → List ℕ → ℕ → RunLeft
+noRun answer l storage bytes count =
+    record { answer = answer; storage = storage; output = l .output; state = bytes; count = count }
+
+unfoldable pub runLeft : ℕ → Lent → List ℕ → List ℕ → ℕ → RunLeft
+runLeft limit l storage bytes count =
+    cond (eqb (length bytes) stateLength) (afterRun bytes (runCall limit l (engineAt bytes storage))) (noRun wrongState l storage bytes count)
+
+-- l6_check: the lowest ill-formed row, or 1 with row as it was
+pub record CheckLeft : Type 0 where
+  pub answer : ℕ
+  pub row : ℕ
+
+unfoldable pub afterCheck : TableCheck → ℕ → CheckLeft
+afterCheck (Lowest r) row = record { answer = 0; row = r }
+afterCheck BadLength row = record { answer = 1; row = row }
+
+unfoldable pub checkLeft : List ℕ → ℕ → CheckLeft
+checkLeft table row = afterCheck (checked 36 table) row

@@ -1,0 +1,185 @@
+// The engine as a library for players in C and Rust: numbers and slices alone.
+ghost use Prim.Native.Nat.{_≤_};
+ghost use mathlib.Core.Bool.{true, cond};
+ghost use mathlib.Core.List.{[], _∷_};
+ghost use mathlib.Core.Path.{_≡_};
+ghost use lib.Dec.{eqb};
+ghost use lib.ListN.{length};
+ghost use Rattle.machine.specs.State.{fresh as freshState};
+ghost use Rattle.machine.specs.Storage.{placed};
+ghost use Rattle.layout.specs.Layout.{stateLength, bytesOfState, stateOf};
+ghost use Rattle.player.specs.Calls.{code, moved, numbersOfStore, numbersOfReport, engineAt, stepCall, runCall, freshLeft, stepLeft, runLeft, checkLeft};
+use engine::answers::refusal_number;
+use engine::fresh;
+use engine::run;
+use engine::step;
+use layout::reading::read_state;
+use layout::writing::write_state;
+use machine::Answer;
+use machine::Report;
+use machine::State;
+use machine::Store;
+use table::TableCheck;
+use table::check::check;
+
+// The number of an answer: 0 running, 100 finished, otherwise document 01's number of the refusal.
+fn code_of(answer: Answer) -> u64
+    ensures { λ r. ⌜ r ≡ code answer ⌝ }
+{
+    match answer {
+        Answer::Running => 0,
+        Answer::Finished => 100,
+        Answer::Refused(refusal) => refusal_number(refusal),
+    }
+}
+
+// Whether steps were carried out: more than one, or one that was not refused of an engine that was not finished.
+fn has_moved(kind: u8, answer: Answer, count: u64) -> bool
+    ensures { λ r. ⌜ r ≡ moved (eqb kind 3) answer count ⌝ }
+{
+    if count != 1 {
+        return 1 < count;
+    }
+    if kind == 3 {
+        return false;
+    }
+    match answer {
+        Answer::Running => true,
+        Answer::Finished => true,
+        Answer::Refused(_) => false,
+    }
+}
+
+// Writes the state where steps were carried out.
+fn keep_state(bytes: &mut [u8], kind: u8, answer: Answer, count: u64, after: State)
+    requires { ⌜ length (now bytes) ≡ stateLength ⌝ }
+    ensures { λ _. ⌜ now (bytes .exit) ≡ cond (moved (eqb kind 3) answer count) (bytesOfState after) (now (bytes .entry)) ⌝ }
+    ensures back { λ _. ⌜ (moved (eqb kind 3) answer count ≡ true → stateOf (bytesOfState after) ≡ after) ⌝ }
+{
+    if !has_moved(kind, answer, count) {
+        return;
+    }
+    write_state(bytes, after);
+}
+
+// Four numbers from a place on.
+fn put_four(report: &mut [u64], at: usize, a: u64, b: u64, c: u64, d: u64)
+    requires { ⌜ (length (now report) ≡ 12) × (at ≤ 8) ⌝ }
+    ensures { λ _. ⌜ now (report .exit) ≡ placed at (a ∷ b ∷ c ∷ d ∷ []) (now (report .entry)) ⌝ }
+{
+    report[at] = a;
+    report[at + 1] = b;
+    report[at + 2] = c;
+    report[at + 3] = d;
+}
+
+// A store, from a place on.
+fn put_store(report: &mut [u64], at: usize, of: Store)
+    requires { ⌜ (length (now report) ≡ 12) × (at ≤ 8) ⌝ }
+    ensures { λ _. ⌜ now (report .exit) ≡ placed at (numbersOfStore of) (now (report .entry)) ⌝ }
+{
+    put_four(
+        report,
+        at,
+        of.address,
+        of.left as u64,
+        of.right as u64,
+        of.bits,
+    );
+}
+
+// A report as twelve numbers.
+fn put_report(report: &mut [u64], of: Report)
+    requires { ⌜ length (now report) ≡ 12 ⌝ }
+    ensures { λ _. ⌜ now (report .exit) ≡ numbersOfReport of ⌝ }
+{
+    put_four(report, 0, of.freed, of.delivered, of.size, of.copied);
+    put_store(report, 4, of.first);
+    put_store(report, 8, of.second);
+}
+
+// A fresh state.
+#[no_mangle]
+pub extern "C" fn l6_fresh(state: &mut [u8]) -> u64
+    ensures { λ r. ⌜ record { answer = r; state = now (state .exit) } ≡ freshLeft (now (state .entry)) ⌝ }
+    ensures back { λ _. ⌜ (length (now (state .entry)) ≡ stateLength → stateOf (now (state .exit)) ≡ freshState) ⌝ }
+{
+    if state.len() != 6675 {
+        return 101;
+    }
+    write_state(state, fresh());
+    0
+}
+
+// One step, with its report.
+#[no_mangle]
+pub extern "C" fn l6_step(
+    table: &[u64],
+    storage: &mut [u64],
+    input: &[u8],
+    output: &mut [u8],
+    state: &mut [u8],
+    report: &mut [u64],
+) -> u64
+    ensures { λ r. ⌜ record { answer = r; storage = now (storage .exit); output = now (output .exit); state = now (state .exit); report = now (report .exit) } ≡ stepLeft (record { table = now (table .entry); input = now (input .entry); output = now (output .entry) }) (now (storage .entry)) (now (state .entry)) (now (report .entry)) ⌝ }
+    ensures back { λ _. ⌜ (length (now (state .entry)) ≡ stateLength → length (now (report .entry)) ≡ 12 → stateOf (now (state .exit)) ≡ stepCall (record { table = now (table .entry); input = now (input .entry); output = now (output .entry) }) (engineAt (now (state .entry)) (now (storage .entry))) .stepped .state) ⌝ }
+{
+    if state.len() != 6675 {
+        return 101;
+    }
+    if report.len() != 12 {
+        return 102;
+    }
+    let before = read_state(&*state);
+    let core = before.core;
+    let place = core.place;
+    let stepped = step(table, storage, input, output, before);
+    let after = stepped.state;
+    let answer = stepped.answer;
+    put_report(report, stepped.report);
+    keep_state(state, place.kind, answer, 1, after);
+    code_of(answer)
+}
+
+// A run, with its count.
+#[no_mangle]
+pub extern "C" fn l6_run(
+    table: &[u64],
+    storage: &mut [u64],
+    input: &[u8],
+    output: &mut [u8],
+    state: &mut [u8],
+    limit: u64,
+    count: &mut u64,
+) -> u64
+    ensures { λ r. ⌜ record { answer = r; storage = now (storage .exit); output = now (output .exit); state = now (state .exit); count = now (count .exit) } ≡ runLeft limit (record { table = now (table .entry); input = now (input .entry); output = now (output .entry) }) (now (storage .entry)) (now (state .entry)) (now (count .entry)) ⌝ }
+    ensures back { λ _. ⌜ (length (now (state .entry)) ≡ stateLength → stateOf (now (state .exit)) ≡ runCall limit (record { table = now (table .entry); input = now (input .entry); output = now (output .entry) }) (engineAt (now (state .entry)) (now (storage .entry))) .ran .state) ⌝ }
+{
+    if state.len() != 6675 {
+        return 101;
+    }
+    let before = read_state(&*state);
+    let core = before.core;
+    let place = core.place;
+    let ran = run(table, storage, input, output, before, limit);
+    let after = ran.state;
+    let answer = ran.answer;
+    *count = ran.count;
+    keep_state(state, place.kind, answer, ran.count, after);
+    code_of(answer)
+}
+
+// The table check.
+#[no_mangle]
+pub extern "C" fn l6_check(table: &[u64], row: &mut u64) -> u64
+    ensures { λ r. ⌜ record { answer = r; row = now (row .exit) } ≡ checkLeft (now (table .entry)) (now (row .entry)) ⌝ }
+{
+    let found = check(36, table);
+    match found {
+        TableCheck::Lowest(r) => {
+            *row = r;
+            0
+        }
+        TableCheck::BadLength => 1,
+    }
+}
