@@ -1,0 +1,307 @@
+//! The L6 tour engine (libplayer.a) for Rust: add this file to a program as a module. It needs no crate. docs/EMBEDDING.md says how to
+//! link the archive, and include/l6.h what each function of it does.
+//!
+//! A tour is a [`State`] and what a host lends to each call, a [`Lent`]: the table and the stop list, which are only read, and storage
+//! and output, which the tour goes on with. Whoever saves a tour saves state, storage and output. All of them may hold anything: a
+//! call answers with a [`Refusal`] where they are not sound.
+//!
+//!     let mut state = State::fresh();
+//!     let (mut storage, mut output) = (vec![0; 4096], vec![0; 4096]);
+//!     let mut lent = Lent { table: &table, storage: &mut storage, input: &stops, output: &mut output };
+//!     match state.run(&mut lent, 100_000).0 {
+//!         Answer::Running => println!("not at its end yet"),
+//!         Answer::Finished => println!("{}", text(&lent.output[..state.written()])),
+//!         Answer::Refused(refusal) => println!("row {}: {refusal}", state.row()),
+//!     }
+#![allow(dead_code)] // a host need not use all of it
+
+use std::fmt;
+
+/// How many bytes a state has.
+pub const STATE_LENGTH: usize = 6675;
+const REPORT_LENGTH: usize = 12;
+
+/// Why a step is refused: document 01's refusals, with its numbers. As text it is explained in words.
+#[derive(Clone, Copy, Debug, PartialEq, Eq)]
+pub enum Refusal {
+    TableLength = 1,
+    BadRow,
+    SetUpNumbers,
+    InputByte,
+    InputShort,
+    NotADigit,
+    DefinitionNumber,
+    BlockSize,
+    ZeroDivisor,
+    CharacterCount,
+    Unsound,
+    BeforeSetUp,
+    SecondSetUp,
+    UndefinedField,
+    NotABlock,
+    OutsideBlock,
+    NoRun,
+    FieldFreed,
+    StackFull,
+    StackEmpty,
+    OutputFull,
+}
+use Refusal::*;
+
+/// Every refusal, and what it means.
+pub const REFUSALS: [(Refusal, &str); 21] = [
+    (TableLength, "the table has fewer than 20 numbers, more than 8,000, or no multiple of ten"),
+    (BadRow, "the row, or a test of it, is missing, ill-formed or of another kind than is needed here"),
+    (SetUpNumbers, "the set-up's numbers are not allowed, or ask for more words than there are"),
+    (InputByte, "a byte of the stop list is above 63"),
+    (InputShort, "the stop list has too few characters left"),
+    (NotADigit, "a character to convert is no digit"),
+    (DefinitionNumber, "a number of a field's definition is out of range"),
+    (BlockSize, "a block of no words, or of more than the set-up allows, is wanted"),
+    (ZeroDivisor, "a division by zero"),
+    (CharacterCount, "more than 6 characters to take, or more than 120 to print"),
+    (Unsound, "the state is damaged, or does not go with the storage, stop list and output"),
+    (BeforeSetUp, "an operation before the set-up"),
+    (SecondSetUp, "a second set-up"),
+    (UndefinedField, "a field that is not defined"),
+    (NotABlock, "a pointer that leads to no block in use"),
+    (OutsideBlock, "a field whose word lies outside its block"),
+    (NoRun, "no room for a block of that size"),
+    (FieldFreed, "the field to change lies in the block that is freed"),
+    (StackFull, "a stack has 128 entries already"),
+    (StackEmpty, "a stack has no entry to restore or to return to"),
+    (OutputFull, "there is no room for more output"),
+];
+
+impl Refusal {
+    /// Document 01's number.
+    pub fn number(self) -> u64 {
+        self as u64
+    }
+    /// The refusal of a number. Any other number comes from an archive that this file does not belong to.
+    fn of(number: u64) -> Refusal {
+        let found = REFUSALS.iter().find(|(refusal, _)| refusal.number() == number);
+        found.unwrap_or_else(|| panic!("libplayer.a answers {number}, which l6.rs does not know")).0
+    }
+}
+impl fmt::Display for Refusal {
+    fn fmt(&self, f: &mut fmt::Formatter) -> fmt::Result {
+        f.write_str(REFUSALS[*self as usize - 1].1)
+    }
+}
+impl std::error::Error for Refusal {}
+
+/// What a step or a run answers.
+#[derive(Clone, Copy, Debug, PartialEq, Eq)]
+pub enum Answer {
+    Running,
+    Finished,
+    Refused(Refusal),
+}
+impl Answer {
+    fn of(number: u64) -> Answer {
+        match number {
+            0 => Answer::Running,
+            100 => Answer::Finished,
+            _ => Answer::Refused(Refusal::of(number)),
+        }
+    }
+}
+
+/// What a host lends to each step and run of one tour.
+pub struct Lent<'a> {
+    pub table: &'a [u64],
+    pub storage: &'a mut [u64],
+    pub input: &'a [u8],
+    pub output: &'a mut [u8],
+}
+
+/// A store into storage: its address, leftmost and rightmost bit, and the bits kept; all 0 where there is none.
+#[derive(Clone, Copy, Debug, Default, PartialEq, Eq)]
+pub struct Store {
+    pub address: u64,
+    pub left: u64,
+    pub right: u64,
+    pub bits: u64,
+}
+
+/// What a step reports, each 0 where there is none: addresses of the block freed, of the one delivered with its size, and of the one
+/// that it is a copy of.
+#[derive(Clone, Copy, Debug, Default, PartialEq, Eq)]
+pub struct Report {
+    pub freed: u64,
+    pub delivered: u64,
+    pub size: u64,
+    pub copied: u64,
+    pub first: Store,
+    pub second: Store,
+}
+impl Report {
+    fn of(numbers: [u64; REPORT_LENGTH]) -> Report {
+        let [freed, delivered, size, copied, ..] = numbers;
+        let store = |i: usize| Store { address: numbers[i], left: numbers[i + 1], right: numbers[i + 2], bits: numbers[i + 3] };
+        Report { freed, delivered, size, copied, first: store(4), second: store(8) }
+    }
+}
+
+/// Where a tour stands. Only a state that is refused as unsound stands nowhere.
+#[derive(Clone, Copy, Debug, PartialEq, Eq)]
+pub enum Place {
+    Tests,
+    Operation,
+    Exit,
+    Finished,
+    Nowhere,
+}
+
+/// A block of the storage.
+#[derive(Clone, Copy, Debug, PartialEq, Eq)]
+pub struct Block {
+    pub address: u64,
+    pub size: u64,
+}
+
+/// Where a tour stands and what it has set up, defined and saved. Its bytes can be kept and handed to another process.
+#[derive(Clone, PartialEq, Eq)]
+pub struct State([u8; STATE_LENGTH]);
+
+impl State {
+    /// A tour at the tests of row 1, nothing set up, defined, saved, taken or written.
+    pub fn fresh() -> State {
+        let mut state = State([0; STATE_LENGTH]);
+        unsafe { raw::l6_fresh(state.0.as_mut_ptr(), STATE_LENGTH) };
+        state
+    }
+    /// The state of bytes that were saved. `None` where they are not STATE_LENGTH; any others are a state, if no sound one.
+    pub fn from_bytes(bytes: &[u8]) -> Option<State> {
+        Some(State(bytes.try_into().ok()?))
+    }
+    pub fn bytes(&self) -> &[u8; STATE_LENGTH] {
+        &self.0
+    }
+
+    /// One step, and what it reports. A refused one changes nothing and reports zeros.
+    pub fn step(&mut self, lent: &mut Lent) -> (Answer, Report) {
+        let (Lent { table, storage, input, output }, state) = (lent, &mut self.0);
+        let mut report = [0; REPORT_LENGTH];
+        let answer = unsafe {
+            raw::l6_step(
+                table.as_ptr(), table.len(), storage.as_mut_ptr(), storage.len(), input.as_ptr(), input.len(), output.as_mut_ptr(),
+                output.len(), state.as_mut_ptr(), state.len(), report.as_mut_ptr(), report.len(),
+            )
+        };
+        (Answer::of(answer), Report::of(report))
+    }
+    /// As many steps as the limit says, or fewer up to the end of the tour or to a refusal, and how many were taken, a refused one
+    /// included. The steps before a refused one stand.
+    pub fn run(&mut self, lent: &mut Lent, limit: u64) -> (Answer, u64) {
+        let (Lent { table, storage, input, output }, state) = (lent, &mut self.0);
+        let mut count = 0;
+        let answer = unsafe {
+            raw::l6_run(
+                table.as_ptr(), table.len(), storage.as_mut_ptr(), storage.len(), input.as_ptr(), input.len(), output.as_mut_ptr(),
+                output.len(), state.as_mut_ptr(), state.len(), limit, &mut count,
+            )
+        };
+        (Answer::of(answer), count)
+    }
+
+    /// Where the tour stands.
+    pub fn place(&self) -> Place {
+        [Place::Tests, Place::Operation, Place::Exit, Place::Finished].get(self.0[0] as usize).copied().unwrap_or(Place::Nowhere)
+    }
+    /// The row that the next step takes: that of the operation, or of the line; 0 where the tour is finished. After a refusal it is
+    /// the row that was refused.
+    pub fn row(&self) -> usize {
+        self.number(if self.place() == Place::Operation { 1 } else { 3 }, 2)
+    }
+    /// How many bytes of the input are taken.
+    pub fn taken(&self) -> usize {
+        self.number(5, 8)
+    }
+    /// How many bytes of the output are written. In an unsound state this may be more than there are.
+    pub fn written(&self) -> usize {
+        self.number(13, 8)
+    }
+    fn number(&self, at: usize, length: usize) -> usize {
+        self.0[at..at + length].iter().rev().fold(0, |number, &byte| number << 8 | byte as usize)
+    }
+
+    /// How many blocks are live, and how many are free; refused where the blocks in the state are unsound.
+    pub fn count_blocks(&self) -> Result<[u64; 2], Refusal> {
+        let mut counts = [0; 2];
+        done(unsafe { raw::l6_count_blocks(self.0.as_ptr(), STATE_LENGTH, counts.as_mut_ptr(), 2) })?;
+        Ok(counts)
+    }
+    /// The blocks in use, the lowest first.
+    pub fn live_blocks(&self) -> Result<Vec<Block>, Refusal> {
+        self.list_blocks(1)
+    }
+    /// The free blocks, the lowest first.
+    pub fn free_blocks(&self) -> Result<Vec<Block>, Refusal> {
+        self.list_blocks(0)
+    }
+    fn list_blocks(&self, live: u64) -> Result<Vec<Block>, Refusal> {
+        let [used, free] = self.count_blocks()?;
+        let mut list = vec![0; 2 * if live != 0 { used } else { free } as usize];
+        done(unsafe { raw::l6_list_blocks(self.0.as_ptr(), STATE_LENGTH, live, list.as_mut_ptr(), list.len()) })?;
+        Ok(list.chunks_exact(2).map(|pair| Block { address: pair[0], size: pair[1] }).collect())
+    }
+}
+
+/// What is wrong with a table.
+#[derive(Clone, Copy, Debug, PartialEq, Eq)]
+pub enum BadTable {
+    Length,
+    Row(u64),
+}
+impl fmt::Display for BadTable {
+    fn fmt(&self, f: &mut fmt::Formatter) -> fmt::Result {
+        match self {
+            BadTable::Length => write!(f, "{TableLength}"),
+            BadTable::Row(row) => write!(f, "row {row} is ill-formed"),
+        }
+    }
+}
+impl std::error::Error for BadTable {}
+
+/// The table check: whether every row is well-formed, those too that no step comes to. If not, the lowest that is not.
+pub fn check(table: &[u64]) -> Result<(), BadTable> {
+    let mut row = 0;
+    done(unsafe { raw::l6_check(table.as_ptr(), table.len(), &mut row) }).map_err(|_| BadTable::Length)?;
+    if row == 0 { Ok(()) } else { Err(BadTable::Row(row)) }
+}
+
+/// The character of a code of the output: a line's end for octal 77, '?' for a code that has no character.
+pub fn character(code: u8) -> char {
+    let all = b"0123456789???????ABCDEFGHI?.?????JKLMNOPQR?????? ?STUVWXYZ?????\n";
+    all.get(code as usize).map_or('?', |&byte| byte as char)
+}
+/// What the codes of an output say.
+pub fn text(codes: &[u8]) -> String {
+    codes.iter().map(|&code| character(code)).collect()
+}
+
+/// Whether a call did what it was asked for.
+fn done(answer: u64) -> Result<(), Refusal> {
+    if answer == 0 { Ok(()) } else { Err(Refusal::of(answer)) }
+}
+
+/// The functions of libplayer.a, as l6.h declares them. The pointers lead to so many numbers or bytes as the lengths after them say.
+pub mod raw {
+    #[link(name = "player", kind = "static")]
+    unsafe extern "C" {
+        pub fn l6_fresh(state: *mut u8, state_length: usize) -> u64;
+        pub fn l6_step(
+            table: *const u64, table_length: usize, storage: *mut u64, storage_length: usize, input: *const u8, input_length: usize,
+            output: *mut u8, output_length: usize, state: *mut u8, state_length: usize, report: *mut u64, report_length: usize,
+        ) -> u64;
+        pub fn l6_run(
+            table: *const u64, table_length: usize, storage: *mut u64, storage_length: usize, input: *const u8, input_length: usize,
+            output: *mut u8, output_length: usize, state: *mut u8, state_length: usize, limit: u64, count: *mut u64,
+        ) -> u64;
+        pub fn l6_check(table: *const u64, table_length: usize, row: *mut u64) -> u64;
+        pub fn l6_count_blocks(state: *const u8, state_length: usize, counts: *mut u64, counts_length: usize) -> u64;
+        pub fn l6_list_blocks(state: *const u8, state_length: usize, live: u64, list: *mut u64, list_length: usize) -> u64;
+    }
+}

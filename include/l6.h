@@ -1,0 +1,199 @@
+/* The L6 tour engine for C: the functions of libplayer.a. docs/EMBEDDING.md says how to link it and what is proved.
+ *
+ * A host keeps four buffers and lends them to each call, with their lengths:
+ *   table    numbers, ten for each row (document 01, "The table"); only read
+ *   storage  the words of the tour's blocks, 4,096 at most are used; they need no first value
+ *   input    the stop list, a six-bit code in each byte; only read
+ *   output   what the tour prints, a six-bit code in each byte; they need no first value
+ * and the state, a buffer of L6_STATE_LENGTH bytes. State, storage and output go on together from call to call: whoever saves a tour
+ * saves these three, and lends them with the same table and input when it goes on. They can be saved between any two calls and be
+ * loaded in another process.
+ *
+ * Any bytes may stand in these buffers, and any lengths may be given: a call then answers with a refusal. What a host owes is what
+ * C asks of every call: each pointer leads to so many numbers or bytes as the length beside it says (any pointer where that is 0),
+ * 64-bit numbers lie on addresses that 8 divides, and no buffer that a call writes overlaps another one of the call.
+ *
+ * Calls keep nothing of their own between them and share nothing, so threads may make them at once, each with its own state, storage
+ * and output. No call allocates memory, and every call returns. */
+#ifndef L6_H
+#define L6_H
+
+#include <stddef.h>
+#include <stdint.h>
+
+#ifdef __cplusplus
+extern "C" {
+#endif
+
+/* ---------------------------------------------------------------- answers */
+
+/* What the calls answer. From 1 to 99 they are document 01's refusals, with its numbers; a refused step changes nothing. l6_words
+ * has each of them in words. */
+enum {
+    L6_RUNNING = 0,           /* the tour can go on; from calls other than l6_step and l6_run: done */
+
+    L6_TABLE_LENGTH = 1,      /* the table has fewer than 20 numbers, more than 8,000, or no multiple of ten */
+    L6_BAD_ROW = 2,           /* the row to take, or a test that it comes to, is missing, ill-formed or of another kind */
+    L6_SET_UP_NUMBERS = 3,    /* the set-up's numbers are not allowed, or ask for more words than the storage has */
+    L6_INPUT_BYTE = 4,        /* a byte of the input is above 63 */
+    L6_INPUT_SHORT = 5,       /* the input has too few characters left */
+    L6_NOT_A_DIGIT = 6,       /* a character to convert is no digit */
+    L6_DEFINITION_NUMBER = 7, /* a number of a field's definition is out of range */
+    L6_BLOCK_SIZE = 8,        /* a block of no words, or of more than the set-up allows, is wanted */
+    L6_ZERO_DIVISOR = 9,      /* a division by zero */
+    L6_CHARACTER_COUNT = 10,  /* more than 6 characters to take, or more than 120 to print */
+    L6_UNSOUND = 11,          /* the state is no sound one, or does not go with the storage, input and output lent */
+    L6_BEFORE_SET_UP = 12,    /* an operation before the set-up */
+    L6_SECOND_SET_UP = 13,    /* a second set-up */
+    L6_UNDEFINED_FIELD = 14,  /* a field that is not defined */
+    L6_NOT_A_BLOCK = 15,      /* a pointer that leads to no block in use */
+    L6_OUTSIDE_BLOCK = 16,    /* a field whose word lies outside its block */
+    L6_NO_RUN = 17,           /* no room for a block of that size */
+    L6_FIELD_FREED = 18,      /* the field to change lies in the block that is freed */
+    L6_STACK_FULL = 19,       /* a stack has 128 entries already */
+    L6_STACK_EMPTY = 20,      /* a stack has no entry to restore or to return to */
+    L6_OUTPUT_FULL = 21,      /* the output has no room for the characters */
+
+    L6_FINISHED = 100,        /* the tour has come to its end */
+
+    /* A buffer of a fixed length has another one. Nothing is changed. */
+    L6_BAD_STATE_LENGTH = 101,  /* the state has not L6_STATE_LENGTH bytes */
+    L6_BAD_REPORT_LENGTH = 102, /* the report has not L6_REPORT_LENGTH numbers */
+    L6_BAD_LIST_LENGTH = 103    /* the counts have not 2 numbers, or the list not two for each block */
+};
+
+/* ---------------------------------------------------------------- the state */
+
+/* The state's bytes. Numbers stand low byte first. Every buffer of this length is a state; one that is not sound is refused by
+ * L6_UNSOUND at every step. */
+#define L6_STATE_LENGTH 6675
+
+/* Where a host may look. The rest is laid out in docs/EMBEDDING.md. */
+enum {
+    L6_AT_KIND = 0,    /* 1 byte: where the tour stands, an L6_KIND_.. */
+    L6_AT_ROW = 1,     /* 2 bytes: at an operation its row, otherwise 0 */
+    L6_AT_LINE = 3,    /* 2 bytes: the row of the line; 0 where the tour is finished */
+    L6_AT_TAKEN = 5,   /* 8 bytes: how many bytes of the input are taken */
+    L6_AT_WRITTEN = 13 /* 8 bytes: how many bytes of the output are written */
+};
+
+/* Where a tour stands: at the tests of a line, at an operation, at the exit of a line, or at its end. */
+enum { L6_KIND_TESTS = 0, L6_KIND_OPERATION = 1, L6_KIND_EXIT = 2, L6_KIND_FINISHED = 3 };
+
+/* The number of so many bytes. */
+static inline uint64_t l6_number(const uint8_t *bytes, size_t length) {
+    uint64_t number = 0;
+    while (length > 0) number = number << 8 | bytes[--length];
+    return number;
+}
+
+/* What stands in a state of L6_STATE_LENGTH bytes. In one that is refused by L6_UNSOUND these are any numbers: a host that takes
+ * l6_written for an index compares it with its output's length first. */
+static inline uint64_t l6_kind(const uint8_t *state) { return state[L6_AT_KIND]; }
+static inline uint64_t l6_line(const uint8_t *state) { return l6_number(state + L6_AT_LINE, 2); }
+static inline uint64_t l6_taken(const uint8_t *state) { return l6_number(state + L6_AT_TAKEN, 8); }
+static inline uint64_t l6_written(const uint8_t *state) { return l6_number(state + L6_AT_WRITTEN, 8); }
+
+/* The row that the next step takes: that of the operation or of the line; 0 where the tour is finished. After a refusal it is the row
+ * that was refused. */
+static inline uint64_t l6_row(const uint8_t *state) {
+    return l6_kind(state) == L6_KIND_OPERATION ? l6_number(state + L6_AT_ROW, 2) : l6_line(state);
+}
+
+/* ---------------------------------------------------------------- the calls */
+
+/* A fresh tour: at the tests of row 1, nothing set up, defined, saved, taken or written.
+ * Writes all of state. Answers 0, or L6_BAD_STATE_LENGTH, and then nothing is written. */
+uint64_t l6_fresh(uint8_t *state, size_t state_length);
+
+/* The numbers of a report, each 0 where there is none. A store is its address, leftmost and rightmost bit, and the bits kept; one into
+ * a bug or a null field is not reported. */
+enum {
+    L6_FREED = 0,        /* the address of the block freed */
+    L6_DELIVERED = 1,    /* the address of the block delivered, */
+    L6_SIZE = 2,         /* its size in words, */
+    L6_COPIED = 3,       /* and the address of the block that it is a copy of */
+    L6_FIRST_STORE = 4,  /* four numbers */
+    L6_SECOND_STORE = 8  /* four numbers */
+};
+#define L6_REPORT_LENGTH 12
+
+/* One step: the tests of a line, an operation, or the exit of a line.
+ * Reads all buffers. Writes the report, and where the step is carried out state, storage and output; of a refused step, and of one at
+ * the end of the tour, the report is zeros and nothing else is written.
+ * Answers L6_RUNNING, L6_FINISHED, a refusal, L6_BAD_STATE_LENGTH, or else L6_BAD_REPORT_LENGTH, and after these two nothing is
+ * written. */
+uint64_t l6_step(const uint64_t *table, size_t table_length, uint64_t *storage, size_t storage_length, const uint8_t *input,
+                 size_t input_length, uint8_t *output, size_t output_length, uint8_t *state, size_t state_length, uint64_t *report,
+                 size_t report_length);
+
+/* As many steps as limit says, or fewer up to the end of the tour or to a refusal. The steps before a refused one stand.
+ * Reads all buffers. Writes state, storage and output where a step is carried out, and into count how many steps were taken, the last
+ * one included where it was refused. With a limit of 0 it answers L6_RUNNING with a count of 0, whatever the buffers hold.
+ * Answers L6_RUNNING, L6_FINISHED, a refusal, or L6_BAD_STATE_LENGTH, and then count is unchanged. */
+uint64_t l6_run(const uint64_t *table, size_t table_length, uint64_t *storage, size_t storage_length, const uint8_t *input,
+                size_t input_length, uint8_t *output, size_t output_length, uint8_t *state, size_t state_length, uint64_t limit,
+                uint64_t *count);
+
+/* The table check: whether every row is well-formed, those too that no step comes to.
+ * Reads the table. Answers 0 and writes into row the lowest ill-formed row, or 0 where there is none; or answers L6_TABLE_LENGTH and
+ * row is unchanged. */
+uint64_t l6_check(const uint64_t *table, size_t table_length, uint64_t *row);
+
+/* How many blocks are in use, and how many are free.
+ * Reads state. Writes the two numbers into counts, whose length is 2; where there was no set-up yet both are 0.
+ * Answers 0, L6_BAD_STATE_LENGTH, L6_BAD_LIST_LENGTH, or L6_UNSOUND where the set-up numbers or the blocks in the state are not
+ * sound; nothing is written then. The order of these is the order of the tests. */
+uint64_t l6_count_blocks(const uint8_t *state, size_t state_length, uint64_t *counts, size_t counts_length);
+
+/* The blocks in use (live is not 0) or the free ones (live is 0), the lowest first.
+ * Reads state. Writes address and size of each into list, whose length is twice their number.
+ * Answers 0, L6_BAD_STATE_LENGTH, L6_UNSOUND as above, or L6_BAD_LIST_LENGTH; nothing is written then. The order of these is the
+ * order of the tests. */
+uint64_t l6_list_blocks(const uint8_t *state, size_t state_length, uint64_t live, uint64_t *list, size_t list_length);
+
+/* ---------------------------------------------------------------- for people */
+
+/* An answer in words. */
+static inline const char *l6_words(uint64_t answer) {
+    switch (answer) {
+    case L6_RUNNING: return "the tour can go on";
+    case L6_TABLE_LENGTH: return "the table has fewer than 20 numbers, more than 8,000, or no multiple of ten";
+    case L6_BAD_ROW: return "the row, or a test of it, is missing, ill-formed or of another kind than is needed here";
+    case L6_SET_UP_NUMBERS: return "the set-up's numbers are not allowed, or ask for more words than there are";
+    case L6_INPUT_BYTE: return "a byte of the stop list is above 63";
+    case L6_INPUT_SHORT: return "the stop list has too few characters left";
+    case L6_NOT_A_DIGIT: return "a character to convert is no digit";
+    case L6_DEFINITION_NUMBER: return "a number of a field's definition is out of range";
+    case L6_BLOCK_SIZE: return "a block of no words, or of more than the set-up allows, is wanted";
+    case L6_ZERO_DIVISOR: return "a division by zero";
+    case L6_CHARACTER_COUNT: return "more than 6 characters to take, or more than 120 to print";
+    case L6_UNSOUND: return "the state is damaged, or does not go with the storage, stop list and output";
+    case L6_BEFORE_SET_UP: return "an operation before the set-up";
+    case L6_SECOND_SET_UP: return "a second set-up";
+    case L6_UNDEFINED_FIELD: return "a field that is not defined";
+    case L6_NOT_A_BLOCK: return "a pointer that leads to no block in use";
+    case L6_OUTSIDE_BLOCK: return "a field whose word lies outside its block";
+    case L6_NO_RUN: return "no room for a block of that size";
+    case L6_FIELD_FREED: return "the field to change lies in the block that is freed";
+    case L6_STACK_FULL: return "a stack has 128 entries already";
+    case L6_STACK_EMPTY: return "a stack has no entry to restore or to return to";
+    case L6_OUTPUT_FULL: return "there is no room for more output";
+    case L6_FINISHED: return "the tour has come to its end";
+    case L6_BAD_STATE_LENGTH: return "the state's length is wrong";
+    case L6_BAD_REPORT_LENGTH: return "the report's length is wrong";
+    case L6_BAD_LIST_LENGTH: return "the list's length is wrong";
+    default: return "an answer that this header does not know";
+    }
+}
+
+/* The character of a code of the output: a line's end for octal 77, '?' for a code that has no character. */
+static inline char l6_character(uint8_t code) {
+    return code > 63 ? '?' : "0123456789???????ABCDEFGHI?.?????JKLMNOPQR?????? ?STUVWXYZ?????\n"[code];
+}
+
+#ifdef __cplusplus
+}
+#endif
+
+#endif
