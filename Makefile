@@ -1,7 +1,7 @@
 # make tour: plays the sample museum. make test: the gate. The other targets stand beside what they do.
 SHELL = /bin/bash
 .SHELLFLAGS = -o pipefail -c
-.PHONY: tour tours tourrun test fmt wrong bench expected
+.PHONY: tour tours tourrun libplayer player test fmt wrong bench expected
 
 # Proves tourrun and builds it (minutes the first time), then plays the sample museum.
 tour: tourrun
@@ -13,6 +13,14 @@ tours: tourrun
 
 tourrun:
 	rt check tourrun | grep '^rt:'
+
+# Proves the library for players and writes target/staticlib/libplayer.a (minutes the first time).
+libplayer:
+	rt staticlib player | grep '^rt:'
+
+# Builds the example hosts in C and in Rust, plays the sample museum with both, in one go and in two processes, and compares what they print.
+player: libplayer
+	host/run
 
 test:
 	bash .ci/run
