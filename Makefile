@@ -1,7 +1,7 @@
 # make tour: plays the sample museum. make test: the gate. The other targets stand beside what they do.
 SHELL = /bin/bash
 .SHELLFLAGS = -o pipefail -c
-.PHONY: tour tours tourrun libplayer player test fmt wrong bench expected
+.PHONY: tour tours tourrun libplayer player compare test fmt wrong bench expected
 
 # Proves tourrun and builds it (minutes the first time), then plays the sample museum.
 tour: tourrun
@@ -21,6 +21,14 @@ libplayer:
 # Builds the example hosts in C and in Rust, plays the sample museum with both, in one go and in two processes, and compares what they print.
 player: libplayer
 	host/run
+
+# Holds libplayer.a against the reference engine on generated and damaged tours, by step and by run: make compare SEED=7 STEPS=50000.
+SEED = 1966
+STEPS = 1000000
+compare: libplayer
+	gcc -O2 -Wall -Wextra -Werror -Iinclude -c -o target/header.o reference/header.c
+	rustc -O --edition 2021 -L target/staticlib -C link-arg=target/header.o -o target/compare reference/compare.rs
+	target/compare $(SEED) $(STEPS)
 
 test:
 	bash .ci/run

@@ -15,7 +15,7 @@ use crate::raw::*;
 #[derive(Clone, Default)]
 pub struct Trial {
     label: String, table: Vec<u64>, input: Vec<u8>, storage: usize, output: usize,
-    before: u64, damages: Vec<Damage>, limit: u64,
+    before: u64, damages: Vec<Damage>, pub limit: u64,
 }
 
 impl Trial {
@@ -33,7 +33,7 @@ impl Trial {
         all
     }
     /// The engine with what is lent, and its numbers after the steps and damages that the case begins with.
-    fn started(&self) -> (Engine, Raw) {
+    pub fn started(&self) -> (Engine, Raw) {
         let storage: Vec<u64> = (1..=self.storage as u64).map(next).collect();
         let output: Vec<u8> = (0..self.output).map(|i| 128 + (i % 128) as u8).collect();
         let mut engine = Engine::fresh(self.table.clone(), self.input.clone(), vec![], self.output);
@@ -381,9 +381,11 @@ fn drawn_damage(seed: u64, i: u64) -> Trial {
     trial.limit = 20;
     trial
 }
-/// All cases: those above, then generated programs, of which the last quarter with damaged states.
+/// The cases above that are not drawn.
+pub fn fixed() -> Vec<Trial> { [bench(), lengths(), storages(), clauses(), full_stacks()].concat() }
+/// All cases: those, then generated programs, of which the last quarter with damaged states.
 fn trials(seed: u64, count: u64) -> Vec<Trial> {
-    let mut all = [bench(), lengths(), storages(), clauses(), full_stacks()].concat();
+    let mut all = fixed();
     for i in 0..count {
         all.push(if i < count / 4 * 3 { Trial::of("generated", &make(seed, i)) } else { drawn_damage(seed, i) });
     }

@@ -88,7 +88,7 @@ fn line_formed(row: &Row, rows: u64) -> bool {
         && (mode == 0) == (test == 0) && (operation != 0 || goto != 0)
 }
 /// The table: "A row is ill-formed when it breaks this section or its code's operands".
-fn well_formed(row: &Row, number: u64, rows: u64) -> bool {
+pub fn well_formed(row: &Row, number: u64, rows: u64) -> bool {
     let [kind, next, code, name, ..] = *row;
     let highest_name = if matches!(code, 2 | 34 | 35) { 35 } else { 0 };
     (next == 0 || next > number && next < rows) && match kind {

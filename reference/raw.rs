@@ -102,7 +102,7 @@ impl Raw {
     }
 
     /// The blocks that the map tells, in the order of addresses, with whether they are live.
-    fn blocks(&self) -> Vec<(Block, bool)> {
+    pub fn blocks(&self) -> Vec<(Block, bool)> {
         let tagged = (0..4096).filter(|&i| self.map[i] != 0);
         tagged.map(|i| {
             let (start, tag) = (self.setup[1] + i as u64, self.map[i]);
@@ -111,7 +111,7 @@ impl Raw {
     }
     /// "blocks breaking their section": sizes up to d, each on an address that its size divides, tiling the set-up words,
     /// and no two free halves of one block standing separately.
-    fn blocks_sound(&self, words: u64) -> bool {
+    pub fn blocks_sound(&self, words: u64) -> bool {
         let [d, s1, _] = self.setup;
         let (blocks, mut next) = (self.blocks(), s1);
         for (block, _) in &blocks {

@@ -1,0 +1,115 @@
+//! A tour as a player keeps it, the state's bytes with storage and output, and what the reference engine makes of it.
+use crate::engine::*;
+use crate::raw::*;
+
+pub const STATE: usize = 6675;
+/// Where the parts of a state start, in the order of its bytes: the place, taken and written, the set-up, how many entries of each
+/// stack are used, the bugs, the contents saved, the definitions, those saved, the places saved, the block map.
+pub const PARTS: [usize; 10] = [0, 5, 21, 27, 51, 259, 1283, 1427, 1939, MAP];
+const MAP: usize = 2579;
+
+#[derive(Clone, PartialEq)]
+pub struct Tour { pub state: Vec<u8>, pub storage: Vec<u64>, pub output: Vec<u8> }
+
+/// Every number of a state but the map, in the order of its bytes, with how many bytes it has.
+fn numbers(raw: &mut Raw) -> Vec<(&mut u64, usize)> {
+    let Raw { place, bugs, definitions, contents, saved, calls, counts, setup, streams, .. } = raw;
+    let mut all = Vec::with_capacity(1400);
+    all.extend(place.iter_mut().zip([1, 2, 2]));
+    all.extend(streams.iter_mut().map(|n| (n, 8)));
+    all.extend(setup.iter_mut().map(|n| (n, 2)));
+    all.extend(counts.iter_mut().chain(bugs).chain(contents).map(|n| (n, 8)));
+    all.extend(definitions.iter_mut().chain(saved).flatten().map(|n| (n, 1)));
+    for place in calls { all.extend(place.iter_mut().zip([1, 2, 2])) }
+    all
+}
+/// The numbers of a tour. A definition whose flag is not 0 is defined.
+fn read(tour: Tour) -> Raw {
+    let Tour { state, storage, output } = tour;
+    let mut raw = Raw::fresh(vec![], vec![]);
+    let mut rest = &state[..];
+    for (number, length) in numbers(&mut raw) {
+        *number = rest[..length].iter().rev().fold(0, |number, &byte| number << 8 | byte as u64);
+        rest = &rest[length..];
+    }
+    for four in raw.definitions.iter_mut().chain(&mut raw.saved) { four[0] = (four[0] != 0) as u64 }
+    raw.map = rest.try_into().unwrap();
+    Raw { storage, output, ..raw }
+}
+/// The bytes of these numbers.
+pub fn written(mut raw: Raw) -> Tour {
+    let mut state = Vec::with_capacity(STATE);
+    for (number, length) in numbers(&mut raw) { state.extend(&number.to_le_bytes()[..length]) }
+    state.extend(raw.map);
+    Tour { state, storage: raw.storage, output: raw.output }
+}
+
+/// What document 01 leaves open, and the reference engine's lists do not hold: entries of a stack that are no longer used stay as they
+/// are, and an undefined definition has the numbers that it had; a save or restore (of field `name`) moves them along.
+fn keep_unused(before: &Raw, after: &mut Raw, name: usize) {
+    let used = after.counts.map(|count| count as usize);
+    after.contents[used[0]..].copy_from_slice(&before.contents[used[0]..]);
+    after.saved[used[1]..].copy_from_slice(&before.saved[used[1]..]);
+    after.calls[used[2]..].copy_from_slice(&before.calls[used[2]..]);
+    let undefined = |four: &[u64; 4]| four[0] == 0;
+    let saves = after.counts[1] > before.counts[1];
+    let restores = after.counts[1] < before.counts[1];
+    for (i, four) in after.saved[..used[1]].iter_mut().enumerate().filter(|(_, four)| undefined(four)) {
+        *four = if saves && i + 1 == used[1] { before.definitions[name] } else { before.saved[i] }
+    }
+    for (i, four) in after.definitions.iter_mut().enumerate().filter(|(_, four)| undefined(four)) {
+        *four = if restores && i == name { before.saved[used[1]] } else { before.definitions[i] }
+    }
+}
+
+/// Answers by the library's numbers.
+fn number(answer: Answer) -> u64 {
+    match answer { Answer::Running => 0, Answer::Finished => 100, Answer::Refused(k) => k }
+}
+fn report_numbers(r: Report) -> [u64; 12] {
+    let [f, s] = [r.first, r.second];
+    [r.freed, r.delivered, r.size, r.copied, f.address, f.left, f.right, f.kept, s.address, s.left, s.right, s.kept]
+}
+
+impl Tour {
+    /// A fresh engine. Its saved places that are not used are the tests of row 1.
+    pub fn fresh(storage: Vec<u64>, output: Vec<u8>) -> Tour {
+        let mut raw = Raw::fresh(storage, output);
+        raw.calls = [[0, 0, 1]; STACK];
+        written(raw)
+    }
+    /// Up to so many steps: the answer, the count of steps, and the last one's report. The bytes are written anew where a step was
+    /// carried out.
+    pub fn walk(&mut self, engine: &mut Engine, limit: u64) -> (u64, u64, [u64; 12]) {
+        let (mut answer, mut count, mut report, mut carried) = (Answer::Running, 0, Report::default(), false);
+        let mut raw = read(self.clone());
+        while count < limit && answer == Answer::Running {
+            let before = raw.clone();
+            (answer, report) = raw.step(engine);
+            count += 1;
+            if matches!(answer, Answer::Refused(_)) || before.place[0] == 3 { break; }
+            carried = true;
+            let name = engine.lent.table.get(10 * before.place[1] as usize + 3).map_or(0, |&name| name as usize);
+            keep_unused(&before, &mut raw, name);
+        }
+        if carried { *self = written(raw) }
+        (number(answer), count, report_numbers(report))
+    }
+    /// Address and size of the live blocks, and of the free ones; none where the set-up numbers or the blocks are not sound.
+    pub fn blocks(&self) -> Option<[Vec<u64>; 2]> {
+        let raw = read(self.clone());
+        let [d, s1, s2] = raw.setup;
+        let absent = raw.setup == [0; 3];
+        let sound = (absent || set_up_fits(d, s1, s2, 4096)) && raw.blocks_sound(if absent { 0 } else { s2 - s1 + 1 });
+        let those = |wanted| raw.blocks().into_iter().filter(|b| b.1 == wanted).flat_map(|(b, _)| [b.start, b.size]).collect();
+        sound.then(|| [those(true), those(false)])
+    }
+}
+
+/// The table check: the lowest ill-formed row, 0 if none; nothing where the length is refused.
+pub fn lowest_ill_formed(table: &[u64]) -> Option<u64> {
+    let rows = table.len() as u64 / 10;
+    let formed = |&row: &u64| well_formed(table[10 * row as usize..][..10].try_into().unwrap(), row, rows);
+    let length = (20..=8000).contains(&table.len()) && table.len() % 10 == 0;
+    length.then(|| (1..rows).find(|row| !formed(row)).unwrap_or(0))
+}

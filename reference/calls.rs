@@ -1,0 +1,82 @@
+//! The library's functions, called through the header (header.c) or through the Rust module, with buffers of any length.
+use crate::bytes::Tour;
+use crate::l6::raw as module;
+use std::ffi::c_char;
+
+type Step = unsafe extern "C" fn(
+    *const u64, usize, *mut u64, usize, *const u8, usize, *mut u8, usize, *mut u8, usize, *mut u64, usize,
+) -> u64;
+type Run = unsafe extern "C" fn(
+    *const u64, usize, *mut u64, usize, *const u8, usize, *mut u8, usize, *mut u8, usize, u64, *mut u64,
+) -> u64;
+
+pub struct Calls {
+    fresh: unsafe extern "C" fn(*mut u8, usize) -> u64,
+    step: Step,
+    run: Run,
+    check: unsafe extern "C" fn(*const u64, usize, *mut u64) -> u64,
+    count_blocks: unsafe extern "C" fn(*const u8, usize, *mut u64, usize) -> u64,
+    list_blocks: unsafe extern "C" fn(*const u8, usize, u64, *mut u64, usize) -> u64,
+}
+
+extern "C" {
+    fn header_fresh(state: *mut u8, length: usize) -> u64;
+    fn header_step(
+        table: *const u64, numbers: usize, storage: *mut u64, words: usize, input: *const u8, given: usize, output: *mut u8, room: usize,
+        state: *mut u8, length: usize, report: *mut u64, reports: usize,
+    ) -> u64;
+    fn header_run(
+        table: *const u64, numbers: usize, storage: *mut u64, words: usize, input: *const u8, given: usize, output: *mut u8, room: usize,
+        state: *mut u8, length: usize, limit: u64, count: *mut u64,
+    ) -> u64;
+    fn header_check(table: *const u64, numbers: usize, row: *mut u64) -> u64;
+    fn header_count_blocks(state: *const u8, length: usize, counts: *mut u64, numbers: usize) -> u64;
+    fn header_list_blocks(state: *const u8, length: usize, live: u64, list: *mut u64, numbers: usize) -> u64;
+    // what else the header has
+    pub fn header_reads(state: *const u8, numbers: *mut u64);
+    pub fn header_words(answer: u64) -> *const c_char;
+    pub fn header_character(code: u8) -> u8;
+    pub static header_constants: [u64; 28];
+}
+
+pub static HEADER: Calls = Calls {
+    fresh: header_fresh, step: header_step, run: header_run, check: header_check, count_blocks: header_count_blocks,
+    list_blocks: header_list_blocks,
+};
+pub static MODULE: Calls = Calls {
+    fresh: module::l6_fresh, step: module::l6_step, run: module::l6_run, check: module::l6_check,
+    count_blocks: module::l6_count_blocks, list_blocks: module::l6_list_blocks,
+};
+
+/// What is lent and only read.
+#[derive(Clone)]
+pub struct Given { pub table: Vec<u64>, pub input: Vec<u8> }
+
+impl Calls {
+    pub fn fresh(&self, state: &mut [u8]) -> u64 { unsafe { (self.fresh)(state.as_mut_ptr(), state.len()) } }
+    pub fn step(&self, Given { table, input }: &Given, tour: &mut Tour, report: &mut [u64]) -> u64 {
+        let Tour { state, storage, output } = tour;
+        unsafe {
+            (self.step)(
+                table.as_ptr(), table.len(), storage.as_mut_ptr(), storage.len(), input.as_ptr(), input.len(), output.as_mut_ptr(),
+                output.len(), state.as_mut_ptr(), state.len(), report.as_mut_ptr(), report.len(),
+            )
+        }
+    }
+    pub fn run(&self, Given { table, input }: &Given, tour: &mut Tour, limit: u64, count: &mut u64) -> u64 {
+        let Tour { state, storage, output } = tour;
+        unsafe {
+            (self.run)(
+                table.as_ptr(), table.len(), storage.as_mut_ptr(), storage.len(), input.as_ptr(), input.len(), output.as_mut_ptr(),
+                output.len(), state.as_mut_ptr(), state.len(), limit, count,
+            )
+        }
+    }
+    pub fn check(&self, table: &[u64], row: &mut u64) -> u64 { unsafe { (self.check)(table.as_ptr(), table.len(), row) } }
+    pub fn count_blocks(&self, state: &[u8], counts: &mut [u64]) -> u64 {
+        unsafe { (self.count_blocks)(state.as_ptr(), state.len(), counts.as_mut_ptr(), counts.len()) }
+    }
+    pub fn list_blocks(&self, state: &[u8], live: u64, list: &mut [u64]) -> u64 {
+        unsafe { (self.list_blocks)(state.as_ptr(), state.len(), live, list.as_mut_ptr(), list.len()) }
+    }
+}

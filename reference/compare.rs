@@ -1,0 +1,283 @@
+//! Holds libplayer.a against the reference engine, byte for byte.   compare SEED STEPS
+//! First come the cases of `comparison` that are not drawn and set-ups of 4,096 words, then generated tours until so many steps are
+//! compared: each is stepped and run from its start, and again from places on its way after damages of its state's bytes, storage,
+//! table, input or lengths. Calls go through the header and through the Rust module in turn; wrong lengths are tried with both.
+//! Prints how many steps and answers of each number there were, and how many differences.
+#![allow(dead_code)]
+mod bytes;
+mod calls;
+mod comparison;
+mod damage;
+mod engine;
+mod generator;
+#[path = "../host/l6.rs"]
+mod l6;
+mod raw;
+
+use bytes::*;
+use calls::*;
+use engine::*;
+use generator::*;
+use l6::{BadTable, State};
+use std::ffi::CStr;
+
+/// What was compared so far; `label` says of what the present case is.
+#[derive(Default)]
+struct Compared { steps: u64, calls: u64, answers: Vec<u64>, differences: u64, label: String }
+
+/// Gets and frees in a drawn order, so that live blocks come to stand between free ones.
+fn gets_and_frees(rng: &mut Rng) -> Case {
+    let d = 1 << rng.below(8);
+    let n = d * (1 + rng.below(4096 / d).min(15));
+    let mut held = [false; 26];
+    let mut operations = vec![row(3, 1, 0, &[(1, d), (1, 7 * d), (1, 7 * d + n - 1)])];
+    for _ in 0..300 {
+        let (i, largest) = (rng.below(26) as usize, d >> rng.below(8));
+        let (bug, size) = ((2, 11 + i as u64), 1 + rng.below(largest));
+        operations.push(if held[i] { row(3, 4, 0, &[bug, (1, 0)]) } else { row(3, 3, 0, &[bug, (1, size)]) });
+        held[i] = !held[i];
+    }
+    operations.push(row(3, 3, 0, &[(2, 11), (1, rng.pick(&[0, d, d + 1, 2 * d]))]));
+    let lines = vec![Line { operations, ..Line::default() }];
+    Case { lines, storage: n as usize + 2, limit: 310, ..Case::default() }
+}
+/// The reference engine on what is lent.
+fn engine_of(given: &Given, tour: &Tour) -> Engine {
+    Engine::fresh(given.table.clone(), given.input.clone(), vec![], tour.output.len())
+}
+
+impl Compared {
+    fn same<T: PartialEq>(&mut self, what: &str, library: T, reference: T) -> bool {
+        let same = library == reference;
+        if !same {
+            self.differences += 1;
+            if self.differences <= 20 { eprintln!("{}: {what} differs", self.label) }
+        }
+        same
+    }
+    fn same_tour(&mut self, library: &Tour, reference: &Tour) -> bool {
+        self.same("the state", &library.state, &reference.state)
+            & self.same("the storage", &library.storage, &reference.storage)
+            & self.same("the output", &library.output, &reference.output)
+    }
+    fn answered(&mut self, answer: u64, steps: u64) {
+        self.steps += steps;
+        self.calls += 1;
+        self.answers[answer.min(104) as usize] += 1;
+    }
+
+    // ------------------------------------------------------------ walks
+
+    /// Up to so many calls of step. Gives the tours on the way.
+    fn by_steps(&mut self, calls: &Calls, given: &Given, start: &Tour, limit: u64) -> Vec<Tour> {
+        let (mut engine, mut tour, mut passed) = (engine_of(given, start), start.clone(), vec![start.clone()]);
+        for _ in 0..limit {
+            let mut report = [77; 12];
+            let answer = calls.step(given, &mut tour, &mut report);
+            let mut other = passed[passed.len() - 1].clone();
+            let (expected, _, reported) = other.walk(&mut engine, 1);
+            self.answered(answer, 1);
+            let same = self.same("a step's answer", answer, expected) & self.same("a report", report, reported);
+            if !(self.same_tour(&tour, &other) & same) { break; }
+            passed.push(other);
+            if answer != 0 { break; }
+        }
+        passed
+    }
+    /// Calls of run with drawn limits, until so many steps are taken or a run does not go on.
+    fn by_runs(&mut self, calls: &Calls, rng: &mut Rng, given: &Given, start: &Tour, limit: u64) {
+        let (mut engine, mut tour, mut other, mut left) = (engine_of(given, start), start.clone(), start.clone(), limit);
+        while left > 0 {
+            let portion = rng.pick(&[0, 1, 2, 7, 30, 100, left]).min(left);
+            let mut count = 77;
+            let answer = calls.run(given, &mut tour, portion, &mut count);
+            let (expected, taken, _) = other.walk(&mut engine, portion);
+            self.answered(answer, taken);
+            let same = self.same("a run's answer", answer, expected) & self.same("a count", count, taken);
+            if !(self.same_tour(&tour, &other) & same) || answer != 0 { break; }
+            left -= taken;
+        }
+    }
+
+    // ------------------------------------------------------------ the other calls
+
+    /// The blocks of a state: counts and both lists.
+    fn blocks(&mut self, calls: &Calls, tour: &Tour) {
+        let expected = tour.blocks();
+        let mut counts = [77; 2];
+        let answer = calls.count_blocks(&tour.state, &mut counts);
+        self.answered(answer, 0);
+        let wanted = expected.as_ref().map_or([77; 2], |lists| [0, 1].map(|i| lists[i].len() as u64 / 2));
+        let refusal = if expected.is_some() { 0 } else { 11 };
+        self.same("an answer on counts of blocks", answer, refusal);
+        self.same("counts of blocks", counts, wanted);
+        for (live, which) in [(1, 0), (u64::MAX, 0), (0, 1)] {
+            let wanted = expected.as_ref().map_or(vec![77; 4], |lists| lists[which].clone());
+            let mut list = vec![77; wanted.len()];
+            let answer = calls.list_blocks(&tour.state, live, &mut list);
+            self.answered(answer, 0);
+            self.same("an answer on a list of blocks", answer, refusal);
+            self.same("a list of blocks", list, wanted);
+        }
+    }
+    fn table(&mut self, calls: &Calls, table: &[u64]) {
+        let mut row = 77;
+        let answer = calls.check(table, &mut row);
+        self.answered(answer, 0);
+        let expected = lowest_ill_formed(table).map_or((1, 77), |lowest| (0, lowest));
+        self.same("the table check", (answer, row), expected);
+    }
+    /// Buffers of fixed length that have another one: the answers in their order, and nothing changed.
+    fn lengths(&mut self, calls: &Calls, rng: &mut Rng, given: &Given, tour: &Tour) {
+        let blocks = tour.blocks();
+        let state = rng.pick(&[0, 1, STATE - 1, STATE, STATE, STATE + 1, 2 * STATE]);
+        let numbers = rng.pick(&[0, 1, 3, 11, 13, 24]);
+        let mut wrong = tour.clone();
+        wrong.state.resize(state, 5);
+        let (before, mut list, mut count) = (wrong.clone(), vec![77; numbers], 77);
+        let bad = |otherwise| if state == STATE { otherwise } else { 101 };
+        let answer = calls.step(given, &mut wrong, &mut list);
+        self.answered(answer, 0);
+        self.same("an answer on lengths of a step", answer, bad(102));
+        if state != STATE {
+            let answers = [calls.run(given, &mut wrong, 9, &mut count), calls.fresh(&mut wrong.state)];
+            for answer in answers { self.answered(answer, 0) }
+            self.same("answers on a state's length", answers, [101; 2]);
+        }
+        let answer = calls.count_blocks(&wrong.state, &mut list);
+        self.answered(answer, 0);
+        self.same("an answer on lengths of counts", answer, bad(103));
+        for (live, which) in [(0, 1), (1, 0)] {
+            let fits = blocks.as_ref().is_some_and(|lists| lists[which].len() == numbers);
+            if state == STATE && fits { continue; }
+            let answer = calls.list_blocks(&wrong.state, live, &mut list);
+            self.answered(answer, 0);
+            self.same("an answer on lengths of a list", answer, bad(if blocks.is_some() { 103 } else { 11 }));
+        }
+        self.same("what is lent with wrong lengths", (list, count), (vec![77; numbers], 77));
+        self.same_tour(&wrong, &before);
+    }
+    /// The Rust module's safe calls, and what both it and the header read of a state.
+    fn wrapped(&mut self, given: &Given, start: &Tour) {
+        let (mut engine, mut tour, mut other) = (engine_of(given, start), start.clone(), start.clone());
+        let mut state = State::from_bytes(&start.state).unwrap();
+        let mut lent = l6::Lent { table: &given.table, storage: &mut tour.storage, input: &given.input, output: &mut tour.output };
+        let number = |answer| match answer { l6::Answer::Running => 0, l6::Answer::Finished => 100, l6::Answer::Refused(k) => k.number() };
+        let ((stepped, report), (ran, count)) = (state.step(&mut lent), state.run(&mut lent, 5));
+        tour.state = state.bytes().to_vec();
+        let (a, _, reported) = other.walk(&mut engine, 1);
+        let (b, taken, _) = other.walk(&mut engine, 5);
+        self.answered(number(stepped), 1);
+        self.answered(number(ran), taken);
+        let stores = [report.first, report.second].map(|s| [s.address, s.left, s.right, s.bits]);
+        let report = [&[report.freed, report.delivered, report.size, report.copied][..], &stores.concat()].concat();
+        self.same("a safe step", (number(stepped), &report[..]), (a, &reported[..]));
+        self.same("a safe run", (number(ran), count), (b, taken));
+        self.same_tour(&tour, &other);
+        let list = |blocks: Vec<l6::Block>| blocks.iter().flat_map(|b| [b.address, b.size]).collect::<Vec<_>>();
+        let lists = state.live_blocks().and_then(|live| Ok([list(live), list(state.free_blocks()?)]));
+        self.same("a safe list", lists.ok(), other.blocks());
+        let expected = match lowest_ill_formed(&given.table) { None => Err(BadTable::Length), Some(0) => Ok(()), Some(k) => Err(BadTable::Row(k)) };
+        self.same("a safe check", l6::check(&given.table), expected);
+        let mut reads = [0; 5];
+        unsafe { header_reads(tour.state.as_ptr(), reads.as_mut_ptr()) };
+        let two = |i: usize| tour.state[i] as u64 + 256 * tour.state[i + 1] as u64;
+        let row = if tour.state[0] == 1 { two(1) } else { two(3) };
+        let eight = |i: usize| u64::from_le_bytes(tour.state[i..i + 8].try_into().unwrap());
+        self.same("what the header reads", reads, [tour.state[0] as u64, row, two(3), eight(5), eight(13)]);
+        let safe = [state.place() as usize, state.row(), state.taken(), state.written()].map(|n| n as u64);
+        self.same("what the module reads", safe, [tour.state[0].min(4) as u64, row, eight(5), eight(13)]);
+    }
+    /// Numbers and words of the header against the Rust module's.
+    fn constants(&mut self) {
+        let numbers: Vec<u64> = [6675, 12].into_iter().chain(0..=21).chain(100..=103).collect();
+        self.same("the header's numbers", unsafe { header_constants }, numbers[..].try_into().unwrap());
+        self.same("the module's length", l6::STATE_LENGTH, STATE);
+        let words = |answer| unsafe { CStr::from_ptr(header_words(answer)) }.to_str().unwrap();
+        for (refusal, _) in l6::REFUSALS { self.same("words", words(refusal.number()), &refusal.to_string()); }
+        let characters = |code| (unsafe { header_character(code) } as char, l6::character(code));
+        (0..=255).for_each(|code| { let (c, rust) = characters(code); self.same("a character", c, rust); });
+        for calls in [&HEADER, &MODULE] {
+            let mut state = vec![77; STATE];
+            let answer = calls.fresh(&mut state);
+            self.same("a fresh state", (answer, state), (0, Tour::fresh(vec![], vec![]).state));
+        }
+        self.same("a safe fresh state", &State::fresh().bytes()[..], &Tour::fresh(vec![], vec![]).state);
+    }
+
+    // ------------------------------------------------------------ the cases
+
+    /// Everything on one tour from its start.
+    fn whole(&mut self, turn: u64, rng: &mut Rng, given: &Given, start: &Tour, limit: u64) -> Vec<Tour> {
+        let (one, other) = if turn % 2 == 0 { (&HEADER, &MODULE) } else { (&MODULE, &HEADER) };
+        let passed = self.by_steps(one, given, start, limit);
+        self.by_runs(other, rng, given, start, limit);
+        let last = &passed[passed.len() - 1];
+        self.blocks(one, last);
+        self.table(other, &given.table);
+        self.lengths(one, rng, given, last);
+        self.lengths(other, rng, given, start);
+        self.wrapped(given, &passed[passed.len() / 2]);
+        passed
+    }
+    /// A generated tour, every eighth of gets and frees alone, and again after damages on its way.
+    fn drawn(&mut self, seed: u64, i: u64) {
+        let mut rng = Rng(seed ^ !i << 20);
+        let case = if i % 8 == 7 { gets_and_frees(&mut rng) } else { make(seed, i) };
+        let given = Given { table: case.table(), input: case.input };
+        let storage = (0..case.storage).map(|_| rng.next() >> rng.below(64)).collect();
+        let start = Tour::fresh(storage, (0..case.output).map(|_| rng.next() as u8).collect());
+        let passed = self.whole(i, &mut rng, &given, &start, case.limit);
+        for turn in 0..12 {
+            let mut tour = passed[rng.below(passed.len() as u64) as usize].clone();
+            let mut given = given.clone();
+            for _ in 0..rng.pick(&[1, 1, 1, 2, 5]) { damage::spoil(&mut rng, &mut given, &mut tour) }
+            self.whole(turn, &mut rng, &given, &tour, 60);
+        }
+    }
+    /// A set-up of 4,096 words with each d, and gets of one word.
+    fn large(&mut self) {
+        for d in (0..8).map(|k| 1 << k) {
+            let set_up = row(3, 1, 0, &[(1, d), (1, d), (1, d + 4095)]);
+            let gets = Line { operations: vec![row(3, 3, 0, &[named("W"), (1, 1)])], goto: 2, ..Line::default() };
+            let lines = vec![Line { operations: vec![set_up], ..Line::default() }, gets];
+            let given = Given { table: Case { lines, ..Case::default() }.table(), input: vec![] };
+            let start = Tour::fresh(vec![u64::MAX; 4100], vec![]);
+            for tour in self.whole(d, &mut Rng(d), &given, &start, 100) { self.blocks(&HEADER, &tour) }
+        }
+    }
+}
+
+fn main() {
+    let arguments: Vec<u64> = std::env::args().skip(1).filter_map(|text| text.parse().ok()).collect();
+    let [seed, steps] = arguments[..] else { return eprintln!("usage: compare SEED STEPS") };
+    let mut compared = Compared { answers: vec![0; 105], label: "constants".to_string(), ..Compared::default() };
+    compared.constants();
+    compared.label = "large set-ups".to_string();
+    compared.large();
+    for (i, trial) in comparison::fixed().iter().enumerate() {
+        compared.label = format!("case {i} of comparison");
+        let (engine, raw) = trial.started();
+        let given = Given { table: engine.lent.table, input: engine.lent.input };
+        compared.whole(i as u64, &mut Rng(i as u64), &given, &written(raw), trial.limit);
+    }
+    let mut i = 0;
+    while compared.steps < steps {
+        compared.label = format!("tour {i} of seed {seed}");
+        compared.drawn(seed, i);
+        i += 1;
+    }
+    println!("{} steps in {} calls, {i} generated tours of seed {seed}", compared.steps, compared.calls);
+    for (answer, count) in compared.answers.iter().enumerate() {
+        match answer {
+            0 => println!("running, or done: {count} calls"),
+            100 => println!("finished: {count}"),
+            101..=103 => println!("wrong length, {answer}: {count}"),
+            1..=21 => println!("refusal {answer}: {count}"),
+            _ if *count > 0 => println!("an unknown answer, {answer}: {count}"),
+            _ => {}
+        }
+    }
+    println!("{} differences", compared.differences);
+    std::process::exit((compared.differences > 0) as i32);
+}

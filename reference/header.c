@@ -1,0 +1,43 @@
+/* The functions of include/l6.h under other names, for compare.rs: so it calls the library through the header's declarations, which
+ * nothing else checks. An empty buffer is handed over as NULL. */
+#include "l6.h"
+
+#define LENT(buffer) buffer##_length ? buffer : NULL, buffer##_length
+
+uint64_t header_fresh(uint8_t *state, size_t state_length) { return l6_fresh(LENT(state)); }
+uint64_t header_step(const uint64_t *table, size_t table_length, uint64_t *storage, size_t storage_length, const uint8_t *input,
+                     size_t input_length, uint8_t *output, size_t output_length, uint8_t *state, size_t state_length, uint64_t *report,
+                     size_t report_length) {
+    return l6_step(LENT(table), LENT(storage), LENT(input), LENT(output), LENT(state), LENT(report));
+}
+uint64_t header_run(const uint64_t *table, size_t table_length, uint64_t *storage, size_t storage_length, const uint8_t *input,
+                    size_t input_length, uint8_t *output, size_t output_length, uint8_t *state, size_t state_length, uint64_t limit,
+                    uint64_t *count) {
+    return l6_run(LENT(table), LENT(storage), LENT(input), LENT(output), LENT(state), limit, count);
+}
+uint64_t header_check(const uint64_t *table, size_t table_length, uint64_t *row) { return l6_check(LENT(table), row); }
+uint64_t header_count_blocks(const uint8_t *state, size_t state_length, uint64_t *counts, size_t counts_length) {
+    return l6_count_blocks(LENT(state), LENT(counts));
+}
+uint64_t header_list_blocks(const uint8_t *state, size_t state_length, uint64_t live, uint64_t *list, size_t list_length) {
+    return l6_list_blocks(LENT(state), live, LENT(list));
+}
+
+/* What the header reads of a state. */
+void header_reads(const uint8_t *state, uint64_t numbers[5]) {
+    numbers[0] = l6_kind(state);
+    numbers[1] = l6_row(state);
+    numbers[2] = l6_line(state);
+    numbers[3] = l6_taken(state);
+    numbers[4] = l6_written(state);
+}
+const char *header_words(uint64_t answer) { return l6_words(answer); }
+char header_character(uint8_t code) { return l6_character(code); }
+
+/* The lengths, and the answers by their names: 0 and 1 to 21 in their order, and then the others. */
+const uint64_t header_constants[28] = {
+    L6_STATE_LENGTH, L6_REPORT_LENGTH, L6_RUNNING, L6_TABLE_LENGTH, L6_BAD_ROW, L6_SET_UP_NUMBERS, L6_INPUT_BYTE, L6_INPUT_SHORT,
+    L6_NOT_A_DIGIT, L6_DEFINITION_NUMBER, L6_BLOCK_SIZE, L6_ZERO_DIVISOR, L6_CHARACTER_COUNT, L6_UNSOUND, L6_BEFORE_SET_UP,
+    L6_SECOND_SET_UP, L6_UNDEFINED_FIELD, L6_NOT_A_BLOCK, L6_OUTSIDE_BLOCK, L6_NO_RUN, L6_FIELD_FREED, L6_STACK_FULL, L6_STACK_EMPTY,
+    L6_OUTPUT_FULL, L6_FINISHED, L6_BAD_STATE_LENGTH, L6_BAD_REPORT_LENGTH, L6_BAD_LIST_LENGTH,
+};
