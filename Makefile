@@ -41,7 +41,7 @@ fmt:
 wrong:
 	bash .ci/wrong
 
-# Times the proved engine and one written for speed in plain Rust on the same programs (some minutes).
+# Times the proved engine and one written for speed in plain Rust on the same programs, and what libplayer.a adds to a call (some minutes).
 bench:
 	bench/run
 
