@@ -1,5 +1,5 @@
 -- The aligned runs of a set-up are those that lie in its words outside the live blocks: what the test of a run says of each block, that
--- each run listed is one, and that each one is listed. Assumes nothing.
+-- each run listed is one, that each one is listed, and that the first is the lowest. Assumes nothing.
 use mathlib.Core.Path.{_≡_, refl}
 use mathlib.Core.Bool.{Bool, true, false, _||_, cond}
 use mathlib.Core.List.{List, [], _∷_, List·Memᴰ, List·Memᴰ·head, List·Memᴰ·tail, List·Memᴰ·not-nil, List·Memᴰ·cases-cons}
@@ -85,6 +85,18 @@ module _ (n : ℕ) (live : List Block) {b : ℕ} where
       (λ h m. ⊎-elim (run-first h) later (List·Memᴰ·cases-cons m))
       (λ h. later)
 
+  -- the first that is listed is the lowest
+  from-lowest : (a count : ℕ) {r : ℕ} {rs : List ℕ} → runsFrom n a live count ≡ r ∷ rs → List·Memᴰ b (runsFrom n a live count) → r ≤ b
+  unfolding runsFrom
+  from-lowest a zero = λ e m. absurd (List·Memᴰ·not-nil m)
+  from-lowest a (suc count) {r} {rs} =
+      let others = runsFrom n (a + n) live count in
+      by-test (λ t. cond t (a ∷ others) others ≡ r ∷ rs → List·Memᴰ b (cond t (a ∷ others) others) → r ≤ b) (outside a n live)
+      (λ h e m.
+      let same : a ≡ r = cc in
+      ⊎-elim (λ at. omega arith) (λ later. let (i, l, k) = from-sound (a + n) count later .place in omega arith) (List·Memᴰ·cases-cons m))
+      (λ h. from-lowest (a + n) count)
+
   -- and each one is listed
   from-complete : (a count i : ℕ) → i < count → b ≡ a + i * n → outside b n live ≡ true → List·Memᴰ b (runsFrom n a live count)
   unfolding runsFrom
@@ -106,6 +118,11 @@ module _ (n : ℕ) (u : SetUp) (live : List Block) {a : ℕ} (pos : 0 < n) where
       let (i, l, e) = r .place in
       let fit = le-div-iff-mul-le {x = suc i} pos .0 l in
       (omega arith, omega arith, r .clear, (i, e))
+
+  -- none is lower than the first
+  pub runs-lowest : {r : ℕ} {rs : List ℕ} → runs n u live ≡ r ∷ rs → List·Memᴰ a (runs n u live) → r ≤ a
+  unfolding runs
+  runs-lowest = from-lowest n live (u .s1) (words u / n)
 
   -- aligned if the first word is
   pub runs-aligned : u .s1 % n ≡ 0 → List·Memᴰ a (runs n u live) → a % n ≡ 0

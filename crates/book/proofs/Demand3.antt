@@ -27,7 +27,7 @@ use Rattle.machine.specs.Storage.{noStore, noReport}
 use Rattle.machine.specs.Sound.{Lent, Engine}
 use Rattle.machine.specs.Locate.{liveBlocks}
 use Rattle.machine.specs.Effects.{Effects, storageAfter, engineAfter}
-use Rattle.machine.specs.Step.{Outcome, Answers, unchanged, carriedOut, step, engineOf, setUpAt}
+use Rattle.machine.specs.Step.{Outcome, unchanged, carriedOut, step, engineOf, setUpAt}
 use Rattle.machine.proofs.Checks.{or-parts}
 use Rattle.machine.proofs.Facts.{CoreFacts, StorageFacts, Facts}
 use Rattle.machine.proofs.Fresh.{no-words, fresh-facts}
@@ -197,31 +197,27 @@ module _ (b : ℕ) (events : List Event) (e : Engine) (h : Holds b events e) (l 
   finished-enters f = ap (λ (v : SetUp). record { setup = v; report = noReport }) (finished-asks-none f)
 
   -- any step
-  after-step : (o : Outcome) → Answers b l e o → Holds b (stepped l e o ∷ events) (engineOf o)
-  after-step o a =
-      subst (λ o. Holds b (stepped l e o ∷ events) (engineOf o)) (sym (a .same)) (go (stepping b (a .choose) l e))
+  after-step : Holds b (stepped l e (step b l e) ∷ events) (engineOf (step b l e))
+  after-step = go (stepping b l e)
     where
-      go : Stepping b (a .choose) l e (step b (a .choose) l e) → Holds b (stepped l e (step b (a .choose) l e) ∷ events) (engineOf (step b (a .choose) l e))
+      go : Stepping b l e (step b l e) → Holds b (stepped l e (step b l e) ∷ events) (engineOf (step b l e))
       go (refusing r o) = subst (λ o. Holds b (stepped l e o ∷ events) (engineOf o)) (sym o) (kept (Refused r) (refused-enters r))
       go (staying f o) = subst (λ o. Holds b (stepped l e o ∷ events) (engineOf o)) (sym o) (kept Finished (finished-enters f))
       go (forward x facts f p o) =
-          let plan = planned b (a .choose) l e facts (a .admissible) f x p in
+          let plan = planned b l e facts f x p in
           subst (λ o. Holds b (stepped l e o ∷ events) (engineOf o)) (sym o) (after-plan x plan (planned-facts b e facts x l plan))
 
 -- what holds after every list of events
 holds : {b : ℕ} {ws : List ℕ} {events : List Event} {e : Engine} → Leads b ws events e → Holds b events e
 holds {b} {ws} begin = holds-at-first b ws
-holds {b} (after {events = events} {e = e} before l o a) = after-step b events e (holds before) l o a
+holds {b} (after {events = events} {e = e} before l) = after-step b events e (holds before) l
 
 -- each get and duplicate of the list
 all-served : {b : ℕ} {ws : List ℕ} {events : List Event} {e : Engine} → Leads b ws events e → Served b events
 unfolding Served
 all-served begin = tt
-all-served {b} (after {events = events} {e = e} before l o a) = (
-  λ w wants. subst (λ o. (o .stepped .answer ≡ Refused NoRun) ↔ ((at : ℕ) → AlignedRun (e .state .core .setup) events (w .words) at → ⊥)) (sym (a .same))
-      (served b (a .choose) l e w wants events (holds before .reported)),
-  all-served before,
-)
+all-served {b} (after {events = events} {e = e} before l) =
+    (λ w wants. served b l e w wants events (holds before .reported), all-served before)
 
 -- before a set-up there is nothing to tile
 tiled-none : (v : SetUp) → words v ≡ 0 → Tiled v [] []

@@ -25,7 +25,7 @@ use Rattle.machine.specs.State.{isSetUp, isFinished, onCore, movedTo}
 use Rattle.machine.specs.Sound.{Lent, Engine}
 use Rattle.machine.specs.Locate.{World, world, liveBlocks, linkBy, link, follow, locate, contents}
 use Rattle.machine.specs.Effects.{Effects, engineAfter}
-use Rattle.machine.specs.Operations.{Given, Wanted, getWants, duplicateWants, delivering, andStoring, get, duplicate, oneOf, chosen, meaning, meaningOf, operationOf, operations}
+use Rattle.machine.specs.Operations.{Given, Wanted, getWants, duplicateWants, delivering, andStoring, get, duplicate, firstRun, lowestRun, meaning, meaningOf, operationOf, operations}
 use Rattle.machine.specs.Step.{given, inTurn, operationStep, plan, outcome, unchanged, carriedOut, step}
 use Rattle.machine.proofs.Checks.{or-parts, nonzero, need-passed, bind-passed, passed-same}
 use Rattle.machine.proofs.Facts.{Facts}
@@ -73,11 +73,11 @@ unfolding locate
 never-locate b w p = never-follow b w _ _
 
 -- a delivery is refused for want of storage exactly when there is no run
-refused-without-run : {A : Type 0} (choose : List ℕ → ℕ) (rs : List ℕ) (rest : ℕ → Checked A) → ((a : ℕ) → Never (rest a))
-    → (oneOf choose rs >>= rest) ≡ refused NoRun ↔ rs ≡ []
-unfolding oneOf _>>=_
-refused-without-run choose [] rest h = (λ e. refl, λ e. refl)
-refused-without-run choose (r ∷ rs) rest h =
+refused-without-run : {A : Type 0} (rs : List ℕ) (rest : ℕ → Checked A) → ((a : ℕ) → Never (rest a))
+    → (firstRun rs >>= rest) ≡ refused NoRun ↔ rs ≡ []
+unfolding firstRun _>>=_
+refused-without-run [] rest h = (λ e. refl, λ e. refl)
+refused-without-run (r ∷ rs) rest h =
     (λ e. absurd (h _ e), λ e. absurd (List·Memᴰ·not-nil (subst (List·Memᴰ r) e (List·Memᴰ·head refl))))
 
 module _ (b : ℕ) (g : Given) (w : Wanted) where
@@ -86,10 +86,10 @@ module _ (b : ℕ) (g : Given) (w : Wanted) where
 
   -- get, and duplicate
   get-refused : getWants b g ≡ passed w → get b g ≡ refused NoRun ↔ found ≡ []
-  unfolding get chosen _>>=_
+  unfolding get lowestRun _>>=_
   get-refused k =
       rw (k, _>>=_)
-      (refused-without-run (g .choose) found _
+      (refused-without-run found _
       (λ a. rest a (eqb (g .row .third .form) 0)))
     where
       rest : (a : ℕ) (t : Bool) → Never (cond t (passed (delivering b w a (g .engine .state)))
@@ -99,8 +99,8 @@ module _ (b : ℕ) (g : Given) (w : Wanted) where
       rest a false = never-bind _ _ (never-locate b _ (g .row .third)) (λ a2. never-passed _)
 
   duplicate-refused : duplicateWants b g ≡ passed w → duplicate b g ≡ refused NoRun ↔ found ≡ []
-  unfolding duplicate chosen _>>=_
-  duplicate-refused k = rw (k, _>>=_) (refused-without-run (g .choose) found _ (λ a. never-passed _))
+  unfolding duplicate lowestRun _>>=_
+  duplicate-refused k = rw (k, _>>=_) (refused-without-run found _ (λ a. never-passed _))
 
 -- the answer is a refusal for want of storage exactly when the plan is
 never-carried : (t : Bool) → cond t Finished Running ≡ Refused NoRun → ⊥
@@ -115,7 +115,7 @@ outcome-refused b (passed x) l e = (λ k. absurd (never-carried (isFinished (x .
 both-ways : {A B C : Type 0} → A ↔ B → B ↔ C → A ↔ C
 both-ways f g = (λ a. g .0 (f .0 a), λ c. f .1 (g .1 c))
 
-module _ (b : ℕ) (choose : List ℕ → ℕ) (l : Lent) (e : Engine) (w : Wanted) (h : Wants b l e w) where
+module _ (b : ℕ) (l : Lent) (e : Engine) (w : Wanted) (h : Wants b l e w) where
   abbrev code : ℕ
   code = rowAt (l .table) (e .state .core .place .row) .code
 
@@ -124,7 +124,7 @@ module _ (b : ℕ) (choose : List ℕ → ℕ) (l : Lent) (e : Engine) (w : Want
   not-finished = ne-eqb (e .state .core .place .kind) 3 (λ k. absurd (omega (arith, h .atOperation)))
 
   -- the step comes to the operation
-  comes-to : (code ≡ 1 → ⊥) → plan b choose l e ≡ meaning code b (given choose l e)
+  comes-to : (code ≡ 1 → ⊥) → plan b l e ≡ meaning code b (given l e)
   unfolding plan operationStep inTurn need _>>_
   comes-to other =
       rw (
@@ -136,30 +136,30 @@ module _ (b : ℕ) (choose : List ℕ → ℕ) (l : Lent) (e : Engine) (w : Want
         h .inTurn,
       )
 
-  answered : (code ≡ 1 → ⊥) → step b choose l e .stepped .answer ≡ Refused NoRun ↔ meaning code b (given choose l e) ≡ refused NoRun
+  answered : (code ≡ 1 → ⊥) → step b l e .stepped .answer ≡ Refused NoRun ↔ meaning code b (given l e) ≡ refused NoRun
   unfolding step
   answered other =
       rw (h .isSound, not-finished)
-      (subst (λ p. outcome b p l e .stepped .answer ≡ Refused NoRun ↔ meaning code b (given choose l e) ≡ refused NoRun) (sym (comes-to other))
-      (outcome-refused b (meaning code b (given choose l e)) l e))
+      (subst (λ p. outcome b p l e .stepped .answer ≡ Refused NoRun ↔ meaning code b (given l e) ≡ refused NoRun) (sym (comes-to other))
+      (outcome-refused b (meaning code b (given l e)) l e))
 
-  -- the runs are those of the engine's blocks, whatever is chosen
+  -- the runs are those of the engine's blocks
   abbrev engineRuns : List ℕ
   engineRuns = runs (w .words) (e .state .core .setup) (liveBlocks e)
 
-  meant : (code ≡ 1 → ⊥) × (meaning code b (given choose l e) ≡ refused NoRun ↔ engineRuns ≡ [])
+  meant : (code ≡ 1 → ⊥) × (meaning code b (given l e) ≡ refused NoRun ↔ engineRuns ≡ [])
   unfolding given onCore movedTo meaning meaningOf operationOf operations getWants duplicateWants
   meant = go (h .cleared)
     where
-      go : ((code ≡ 3) × (getWants b (given (λ runs. 0) l e) ≡ passed w)) ⊎ ((code ≡ 5) × (duplicateWants b (given (λ runs. 0) l e) ≡ passed w))
-          → (code ≡ 1 → ⊥) × (meaning code b (given choose l e) ≡ refused NoRun ↔ engineRuns ≡ [])
+      go : ((code ≡ 3) × (getWants b (given l e) ≡ passed w)) ⊎ ((code ≡ 5) × (duplicateWants b (given l e) ≡ passed w))
+          → (code ≡ 1 → ⊥) × (meaning code b (given l e) ≡ refused NoRun ↔ engineRuns ≡ [])
       go (inl (c, k)) = (
         λ one. absurd (omega arith),
-        subst (λ n. meaning n b (given choose l e) ≡ refused NoRun ↔ engineRuns ≡ []) (sym c) (get-refused b (given choose l e) w k),
+        subst (λ n. meaning n b (given l e) ≡ refused NoRun ↔ engineRuns ≡ []) (sym c) (get-refused b (given l e) w k),
       )
       go (inr (c, k)) = (
         λ one. absurd (omega arith),
-        subst (λ n. meaning n b (given choose l e) ≡ refused NoRun ↔ engineRuns ≡ []) (sym c) (duplicate-refused b (given choose l e) w k),
+        subst (λ n. meaning n b (given l e) ≡ refused NoRun ↔ engineRuns ≡ []) (sym c) (duplicate-refused b (given l e) w k),
       )
 
   -- the size wanted is one of the sizes
@@ -167,7 +167,7 @@ module _ (b : ℕ) (choose : List ℕ → ℕ) (l : Lent) (e : Engine) (w : Want
   unfolding given onCore movedTo getWants duplicateWants
   wanted-size facts = go (h .cleared)
     where
-      go : ((code ≡ 3) × (getWants b (given (λ runs. 0) l e) ≡ passed w)) ⊎ ((code ≡ 5) × (duplicateWants b (given (λ runs. 0) l e) ≡ passed w))
+      go : ((code ≡ 3) × (getWants b (given l e) ≡ passed w)) ⊎ ((code ≡ 5) × (duplicateWants b (given l e) ≡ passed w))
           → (j : ℕ) × (j ≤ top (e .state .core .setup .d)) × (w .words ≡ size j)
       go (inl (c, k)) =
           let (a, _, k₂) = bind-passed _ _ k in
@@ -227,5 +227,5 @@ module _ (b : ℕ) (choose : List ℕ → ℕ) (l : Lent) (e : Engine) (w : Want
         empty none [] k = k
         empty none (r ∷ rs) k = absurd (none r (is-run r (subst (List·Memᴰ r) (sym k) (List·Memᴰ·head refl))))
 
-    pub served : step b choose l e .stepped .answer ≡ Refused NoRun ↔ ((at : ℕ) → AlignedRun (e .state .core .setup) events (w .words) at → ⊥)
+    pub served : step b l e .stepped .answer ≡ Refused NoRun ↔ ((at : ℕ) → AlignedRun (e .state .core .setup) events (w .words) at → ⊥)
     served = both-ways (answered (meant .0)) (both-ways (meant .1) no-run)

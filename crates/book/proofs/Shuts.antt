@@ -19,7 +19,7 @@ use Rattle.machine.specs.declared.Store.{Store}
 use Rattle.machine.specs.Sound.{Lent, Engine}
 use Rattle.machine.specs.Locate.{liveBlocks}
 use Rattle.machine.specs.Operations.{Wanted}
-use Rattle.machine.specs.Step.{Outcome, Answers, engineOf}
+use Rattle.machine.specs.Step.{step, engineOf}
 use Rattle.machine.proofs.Steps.{sound-engine}
 use Rattle.book.specs.Book.{LiveBlock, storedBits}
 use Rattle.book.specs.Steps.{Event, stepped, Leads, after, reportOf, LiveBy}
@@ -39,14 +39,14 @@ first-run : (b : ℕ) (ws : List ℕ) (events : List Event) (e : Engine) → Lea
 first-run b ws events e leads none l w wants =
     let u = e .state .core .setup in
     let reported = demand-3 b ws events e leads .reported in
-    let (j, fits, same) = wanted-size b (λ runs. 0) l e w wants (sound-engine b l e (wants .isSound)) in
-    let f = fitting-facts _ u (numbers-fit b (λ runs. 0) l e w wants events reported) in
+    let (j, fits, same) = wanted-size b l e w wants (sound-engine b l e (wants .isSound)) in
+    let f = fitting-facts _ u (numbers-fit b l e w wants events reported) in
     let some : 0 < words u = omega (arith, f .count, f .order) in
     let full : words u / u .d * u .d ≡ words u = omega (arith, div-add-mod' (words u) (u .d), f .whole) in
     let large = at-least (u .d) (words u) (words u / u .d) full some in
     let small : w .words ≤ u .d = rw same (subst (λ d. size j ≤ d) (f .largest) (size-mono fits)) in
     record {
-      aligned = first-aligned b (λ runs. 0) l e w wants events reported;
+      aligned = first-aligned b l e w wants events reported;
       first = omega arith;
       last = omega arith;
       outside = λ x h. absurd (none x h);
@@ -54,10 +54,10 @@ first-run b ws events e leads none l w wants =
 
 -- where no block is live, on a fresh set-up or once all is freed, no get or duplicate is refused for want of storage
 pub never-refused : (b : ℕ) (ws : List ℕ) (events : List Event) (e : Engine) → Leads b ws events e → ((x : Block) → LiveBy x events → ⊥)
-    → (l : Lent) (o : Outcome) → Answers b l e o → (w : Wanted) → Wants b l e w → o .stepped .answer ≡ Refused NoRun → ⊥
+    → (l : Lent) (w : Wanted) → Wants b l e w → step b l e .stepped .answer ≡ Refused NoRun → ⊥
 unfolding Served
-never-refused b ws events e leads none l o a w wants k =
-    let d = demand-3 b ws (stepped l e o ∷ events) (engineOf o) (after leads l o a) in
+never-refused b ws events e leads none l w wants k =
+    let d = demand-3 b ws (stepped l e (step b l e) ∷ events) (engineOf (step b l e)) (after leads l) in
     d .served .0 w wants .0 k _ (first-run b ws events e leads none l w wants)
 
 -- a block that a step reports freed, and delivers none, is not live after it

@@ -60,8 +60,8 @@ pub record Wants (b : ℕ) (l : Lent) (e : Engine) (w : Wanted) : Type 0 where
   pub hasTable : lengthFits (l .table) ≡ true
   pub hasRow : usable 3 b (l .table) (e .state .core .place .row) ≡ true
   pub inTurn : isSetUp (e .state .core) ≡ true
-  pub cleared : ((rowAt (l .table) (e .state .core .place .row) .code ≡ 3) × (getWants b (given (λ runs. 0) l e) ≡ passed w))
-      ⊎ ((rowAt (l .table) (e .state .core .place .row) .code ≡ 5) × (duplicateWants b (given (λ runs. 0) l e) ≡ passed w))
+  pub cleared : ((rowAt (l .table) (e .state .core .place .row) .code ≡ 3) × (getWants b (given l e) ≡ passed w))
+      ⊎ ((rowAt (l .table) (e .state .core .place .row) .code ≡ 5) × (duplicateWants b (given l e) ≡ passed w))
 
 -- each get or duplicate that clears its earlier checks is refused by 17 exactly when there is no aligned run of its size
 unfoldable pub Served : ℕ → List Event → Type 0

@@ -12,7 +12,7 @@ use Rattle.machine.specs.State.{fresh, noSetUp}
 use Rattle.machine.specs.Storage.{noReport}
 use Rattle.machine.specs.Sound.{Lent, Engine}
 use Rattle.machine.specs.Answer.{isRunning}
-use Rattle.machine.specs.Step.{Outcome, Answers, step, engineOf, setUpAt}
+use Rattle.machine.specs.Step.{Outcome, step, engineOf, setUpAt}
 use Rattle.book.specs.Book.{Book, Entry, emptyBook, enter}
 
 -- an event: a step, with what was lent to it, the engine before it and what it left
@@ -20,20 +20,20 @@ pub data Event : Type 0 where
   stepped : Lent → Engine → Outcome → Event
 
 -- these events lead to this engine: the first has a fresh engine over the storage ws, each other the state and storage that the
--- one before it left, and each step its own table, input and output; each answers as demand 2 has it, refused or not
+-- one before it left, and each step its own table, input and output, refused or not
 pub data Leads (b : ℕ) (ws : List ℕ) : List Event → Engine → Type 0 where
   begin : Leads b ws [] (record { state = fresh; storage = ws })
-  after : {events : List Event} {e : Engine} → Leads b ws events e → (l : Lent) (o : Outcome) → Answers b l e o
-      → Leads b ws (stepped l e o ∷ events) (engineOf o)
+  after : {events : List Event} {e : Engine} → Leads b ws events e → (l : Lent)
+      → Leads b ws (stepped l e (step b l e) ∷ events) (engineOf (step b l e))
 
--- these events and then the steps of a run, as runFrom takes them: step i of it asks choose i, count steps came before
-unfoldable pub withRun : ℕ → ℕ → (ℕ → List ℕ → ℕ) → ℕ → Lent → Engine → List Event → List Event
-withRun count b choose zero l e events = events
-withRun count b choose (suc limit) l e events =
-    let o : Outcome = step b (choose count) l e in
+-- these events and then the steps of a run, as runFrom takes them
+unfoldable pub withRun : ℕ → ℕ → Lent → Engine → List Event → List Event
+withRun b zero l e events = events
+withRun b (suc limit) l e events =
+    let o : Outcome = step b l e in
     elim (isRunning (o .stepped .answer)) [
       | true ↦
-          withRun (suc count) b choose limit (record { table = l .table; input = l .input; output = o .output }) (engineOf o)
+          withRun b limit (record { table = l .table; input = l .input; output = o .output }) (engineOf o)
           (stepped l e o ∷ events)
       | false ↦ stepped l e o ∷ events
     ]

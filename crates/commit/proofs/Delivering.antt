@@ -15,16 +15,14 @@ use Rattle.block.proofs.Size.{size-pos, level-le, level-size, fitting-facts}
 use Rattle.block.proofs.Runs.{runs-sound}
 use Rattle.machine.specs.Answer.{passed}
 use Rattle.machine.specs.Storage.{placed}
-use Rattle.machine.specs.Operations.{oneOf}
-use Rattle.machine.specs.Step.{lowest}
+use Rattle.machine.specs.Operations.{firstRun, lowestRun}
 use Rattle.machine.proofs.Checks.{passed-same}
-use Rattle.operations.specs.Plans.{lowestRun}
 use Rattle.commit.specs.Carried.{zeroed, copied}
 use Rattle.commit.specs.Feasible.{Ground, groundOf, Run, Copy}
 
 -- the lowest of a list is its first, and one of it
-first-lowest : (rs : List ℕ) (a : ℕ) → oneOf lowest rs ≡ passed a → (firstOf rs ≡ At a) × List·Memᴰ a rs
-unfolding oneOf lowest firstOf
+first-lowest : (rs : List ℕ) (a : ℕ) → firstRun rs ≡ passed a → (firstOf rs ≡ At a) × List·Memᴰ a rs
+unfolding firstRun firstOf
 first-lowest [] a e = let z : _≡_ {A = ℕ} 0 1 = cc in absurd (omega arith)
 first-lowest (r ∷ rs) a e = let same : r ≡ a = passed-same e in (ap At same, List·Memᴰ·head (sym same))
 

@@ -14,7 +14,7 @@ use Rattle.operands.specs.Reading.{Reached}
 use Rattle.operations.specs.declared.Counts.{Counts}
 use Rattle.operations.specs.declared.Action.{Action}
 use Rattle.operations.specs.declared.Action.the-variants.{Nothing, Store, StoreTwo, SetUpWords, Define, Deliver, DeliverTwo, Free, Input, Print, Save, Restore, SaveDefinition, RestoreDefinition, Call, Return}
-use Rattle.operations.specs.Plans.{lowestRun}
+use Rattle.machine.specs.Operations.{lowestRun}
 
 -- what an action is carried out on: set-up numbers, map and storage, how far stacks, input and output are used, and the lengths of
 -- input and output

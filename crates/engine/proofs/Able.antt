@@ -28,15 +28,15 @@ use Rattle.machine.specs.Answer.{Checked, refused, passed, _>>=_, _>>_, need}
 use Rattle.machine.specs.State.{testsOf, theEnd}
 use Rattle.machine.specs.Sound.{Lent, Engine, sound}
 use Rattle.machine.specs.Locate.{World, Value, world, liveBlocks, contents, read, locate}
-use Rattle.machine.specs.Operations.{asked}
-use Rattle.machine.specs.Step.{Choice, lowest, nextLine}
+use Rattle.machine.specs.Operations.{asked, lowestRun}
+use Rattle.machine.specs.Step.{nextLine}
 use Rattle.machine.proofs.Checks.{and-parts, nonzero, need-passed, bind-passed, passed-same}
 use Rattle.machine.proofs.Facts.{Facts}
 use Rattle.machine.proofs.Located.{located}
 use Rattle.machine.proofs.Live.{live-lies, live-size}
 use Rattle.machine.proofs.Keeps.{run-fits}
 use Rattle.machine.proofs.Blocks.{one-of-runs}
-use Rattle.machine.proofs.Steps.{lowest-choice, sound-engine}
+use Rattle.machine.proofs.Steps.{sound-engine}
 use Rattle.operands.specs.declared.Pending.the-variants.{Delivery}
 use Rattle.operands.specs.Reading.{Readable, Reached, Taken}
 use Rattle.operands.specs.Storing.{bugsStored}
@@ -49,7 +49,7 @@ use Rattle.operations.proofs.Doing.{stored-readable}
 use Rattle.operations.specs.declared.Action.{Action}
 use Rattle.operations.specs.declared.Action.the-variants.{Nothing, Deliver, DeliverTwo, Save, Restore, SaveDefinition, RestoreDefinition, Call, Return}
 use Rattle.operations.specs.Seen.{sight, Ready, countsOf}
-use Rattle.operations.specs.Plans.{setUpPlan, defining, definePlan, sizeOf, lowestRun, afterDelivery, delivering, getting, freeing, duplicating, taking, valueBy, storing, acting, twoPlan, swapPlan, printing, printPlan, contentsPlan, recordPlan, stackPlan, planOf, nameOf}
+use Rattle.operations.specs.Plans.{setUpPlan, defining, definePlan, sizeOf, afterDelivery, delivering, getting, freeing, duplicating, taking, valueBy, storing, acting, twoPlan, swapPlan, printing, printPlan, contentsPlan, recordPlan, stackPlan, planOf, nameOf}
 use Rattle.plans.specs.Rows.{Two, Three, Operates}
 use Rattle.plans.specs.Steps.{Plan, goingTo, testsPlan, orderedPlan, operationPlan, exitPlan, stepPlan}
 use Rattle.plans.proofs.Ready.{ready-is}
@@ -187,7 +187,7 @@ module _ (b : ℕ) (l : Lent) (e : Engine) (h : Facts b e) (ready : Ready b (sig
   module _ (address n j : ℕ) (low : j ≤ top (u .d)) (isSize : n ≡ size j) (k : lowestRun u (e .state .map) n ≡ passed address) where
     run-there : List·Memᴰ address (runs n u (liveBlocks e))
     unfolding lowestRun
-    run-there = one-of-runs lowest lowest-choice _ address k
+    run-there = one-of-runs _ address k
 
     run-some : 0 < n
     run-some = rw isSize (size-pos j)

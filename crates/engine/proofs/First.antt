@@ -20,7 +20,7 @@ use Rattle.machine.specs.Answer.{isRunning, need, _>>_}
 use Rattle.machine.specs.State.{isFinished}
 use Rattle.machine.specs.Storage.{noReport}
 use Rattle.machine.specs.Sound.{Lent, Engine, sound}
-use Rattle.machine.specs.Step.{Outcome, RunOutcome, unchanged, outcome, plan, step, lowest, ending as ends, runFrom, run}
+use Rattle.machine.specs.Step.{Outcome, RunOutcome, unchanged, outcome, plan, step, ending as ends, runFrom, run}
 use Rattle.machine.proofs.Checks.{need-no}
 use Rattle.engine.specs.declared.Walked.{Walked}
 use Rattle.engine.specs.Walking.{Walk, walks, ending, walkFrom}
@@ -43,7 +43,7 @@ unfinished-is p z = ne-eqb (p .kind) 3 z
 
 -- a first step that leaves all as it was
 module _ (b more : ℕ) (l : Lent) (e : Engine) where
-  stays : (answer : Answer) → isRunning answer ≡ false → step b lowest l e ≡ unchanged answer l e → {r : Walked}
+  stays : (answer : Answer) → isRunning answer ≡ false → step b l e ≡ unchanged answer l e → {r : Walked}
       → r ≡ record { state = e .state; answer = answer; report = noReport; count = 1 } → returning r (e .storage) (l .output) ≡ walkFrom 0 b more l e
   unfolding unchanged ending
   stays answer over is same = rw same (sym (walk-stops 0 b l e is over more))
@@ -71,17 +71,17 @@ module _ {answer : TableCheck} {found : TableCheck} (is : answer ≡ found) wher
 
 -- the public calls, by the walk
 pub steps-once : (b : ℕ) (l : Lent) (e : Engine) (storage output : List ℕ) {r : Walked} → returning r storage output ≡ walkFrom 0 b (1 - 1) l e
-    → _≡_ {A = Outcome} (record { stepped = record { state = r .state; answer = r .answer; report = r .report }; storage = storage; output = output }) (step b lowest l e)
+    → _≡_ {A = Outcome} (record { stepped = record { state = r .state; answer = r .answer; report = r .report }; storage = storage; output = output }) (step b l e)
 steps-once b l e storage output is = ap steppedOf is ∙ walk-step b l e
 
 module _ (b limit : ℕ) (l : Lent) (e : Engine) where
-  pub runs-none : limit ≡ 0 → _≡_ {A = RunOutcome} (record { ran = record { state = e .state; answer = Running; count = 0 }; storage = e .storage; output = l .output }) (run b (λ i. lowest) limit l e)
+  pub runs-none : limit ≡ 0 → _≡_ {A = RunOutcome} (record { ran = record { state = e .state; answer = Running; count = 0 }; storage = e .storage; output = l .output }) (run b limit l e)
   unfolding run runFrom ends
   runs-none z = rw z
 
   pub runs-some : (limit ≡ 0 → ⊥) → {storage output : List ℕ} {r : Walked} → returning r storage output ≡ walkFrom 0 b (limit - 1) l e
-      → _≡_ {A = RunOutcome} (record { ran = record { state = r .state; answer = r .answer; count = r .count }; storage = storage; output = output }) (run b (λ i. lowest) limit l e)
+      → _≡_ {A = RunOutcome} (record { ran = record { state = r .state; answer = r .answer; count = r .count }; storage = storage; output = output }) (run b limit l e)
   unfolding run
   runs-some some is =
       let more : suc (limit - 1) ≡ limit = omega arith in
-      ap ranOf is ∙ sym (walk-run 0 b (limit - 1) l e) ∙ ap (λ (n : ℕ). runFrom 0 b (λ i. lowest) n l e) more
+      ap ranOf is ∙ sym (walk-run 0 b (limit - 1) l e) ∙ ap (λ (n : ℕ). runFrom 0 b n l e) more

@@ -9,7 +9,7 @@ use Rattle.machine.specs.declared.Answer.the-variants.{Running, Finished, Refus
 use Rattle.machine.specs.declared.Ran.{Ran}
 use Rattle.machine.specs.Answer.{isRunning}
 use Rattle.machine.specs.Sound.{Lent, Engine}
-use Rattle.machine.specs.Step.{Outcome, step, lowest, engineOf, RunOutcome, ending as ends, runFrom, run}
+use Rattle.machine.specs.Step.{Outcome, step, engineOf, RunOutcome, ending as ends, runFrom, run}
 use Rattle.engine.specs.Walking.{Walk, ending, lentAfter, walkFrom}
 
 -- a walk without its report, and without its count
@@ -29,7 +29,7 @@ steppedOf w =
       output = w .output;
     }
 
-pub walk-step : (b : ℕ) (l : Lent) (e : Engine) → steppedOf (walkFrom 0 b 0 l e) ≡ step b lowest l e
+pub walk-step : (b : ℕ) (l : Lent) (e : Engine) → steppedOf (walkFrom 0 b 0 l e) ≡ step b l e
 unfolding walkFrom ending
 walk-step b l e = refl
 
@@ -43,23 +43,23 @@ running (Refused r) h = let never : _≡_ {A = ℕ} 0 1 = cc in absurd (omega ar
 pick : {A : Type 0} → Bool → A → A → A
 pick t x y = elim t [ true ↦ x | false ↦ y ]
 
-pub walk-run : (count b more : ℕ) (l : Lent) (e : Engine) → runFrom count b (λ i. lowest) (suc more) l e ≡ ranOf (walkFrom count b more l e)
+pub walk-run : (count b more : ℕ) (l : Lent) (e : Engine) → runFrom count b (suc more) l e ≡ ranOf (walkFrom count b more l e)
 unfolding walkFrom ending runFrom ends engineOf
 walk-run count b zero l e =
-    let o : Outcome = step b lowest l e in
+    let o : Outcome = step b l e in
     elim (isRunning (o .stepped .answer)) as (λ t. isRunning (o .stepped .answer) ≡ t
     → (elim t [
-      | true ↦ runFrom (suc count) b (λ i. lowest) 0 (lentAfter l o) (engineOf o)
+      | true ↦ runFrom (suc count) b 0 (lentAfter l o) (engineOf o)
       | false ↦ ends (o .stepped .answer) (suc count) (engineOf o) (o .output)
     ]) ≡ ranOf (ending (suc count) o)) [
       | true ↦ λ k. ap (λ (a : Answer). ends a (suc count) (engineOf o) (o .output)) (sym (running (o .stepped .answer) k))
       | false ↦ λ k. refl
     ] refl
 walk-run count b (suc more) l e =
-    let o : Outcome = step b lowest l e in
+    let o : Outcome = step b l e in
     elim (isRunning (o .stepped .answer)) as (λ t.
     (elim t [
-      | true ↦ runFrom (suc count) b (λ i. lowest) (suc more) (lentAfter l o) (engineOf o)
+      | true ↦ runFrom (suc count) b (suc more) (lentAfter l o) (engineOf o)
       | false ↦ ends (o .stepped .answer) (suc count) (engineOf o) (o .output)
     ]) ≡ ranOf (elim t [
       | true ↦ walkFrom (suc count) b more (lentAfter l o) (engineOf o)

@@ -18,9 +18,9 @@ use Rattle.machine.specs.State.{isFinished, movedTo, onCore}
 use Rattle.machine.specs.Storage.{noReport, placed}
 use Rattle.machine.specs.Sound.{Lent, Engine, sound}
 use Rattle.machine.specs.Effects.{Effects, engineAfter}
-use Rattle.machine.specs.Step.{Outcome, unchanged, carriedOut, outcome, step, lowest, engineOf}
+use Rattle.machine.specs.Step.{Outcome, unchanged, carriedOut, outcome, step, engineOf}
 use Rattle.machine.proofs.Facts.{Facts}
-use Rattle.machine.proofs.Steps.{sound-engine, lowest-choice}
+use Rattle.machine.proofs.Steps.{sound-engine}
 use Rattle.machine.proofs.Soundness.{next, step-keeps-sound}
 use Rattle.operations.specs.Effects.{effects}
 use Rattle.operations.specs.Seen.{sight}
@@ -50,17 +50,17 @@ module _ (b : ℕ) (l : Lent) (e : Engine) (fine : sound b l e ≡ true) (unfini
   facts : Facts b e
   facts = sound-engine b l e fine
 
-  step-refused : {r : Refusal} → stepPlan b (sight l e) (l .table) (e .state .core .place) ≡ refused r → step b lowest l e ≡ unchanged (Refused r) l e
+  step-refused : {r : Refusal} → stepPlan b (sight l e) (l .table) (e .state .core .place) ≡ refused r → step b l e ≡ unchanged (Refused r) l e
   unfolding step outcome
   step-refused k = rw (fine, unfinished, plan-refused b l e facts fits k)
 
   step-carried : {p : Plan} → stepPlan b (sight l e) (l .table) (e .state .core .place) ≡ passed p
-      → step b lowest l e ≡ carriedOut b (effects b (p .action) (onCore (movedTo (p .to)) (e .state))) l e
+      → step b l e ≡ carriedOut b (effects b (p .action) (onCore (movedTo (p .to)) (e .state))) l e
   unfolding step outcome
   step-carried k = rw (fine, unfinished, plan-passed b l e facts fits k)
 
   step-does : (p : Plan) → stepPlan b (sight l e) (l .table) (e .state .core .place) ≡ passed p → Sure (p .action)
-      → step b lowest l e ≡ leaves (engineThen b (p .to) (p .action) e) (reportOf (p .action)) (outputAfter (e .state .core .written) (p .action) (l .output))
+      → step b l e ≡ leaves (engineThen b (p .to) (p .action) e) (reportOf (p .action)) (outputAfter (e .state .core .written) (p .action) (l .output))
   step-does p k sure =
       let x = effects b (p .action) (onCore (movedTo (p .to)) (e .state)) in
       let out = placed (e .state .core .written) (x .printed) (l .output) in
@@ -77,10 +77,10 @@ pick t x y = elim t [ true ↦ x | false ↦ y ]
 picked : (t : Bool) (x y : Walk) {s : Bool} → t ≡ s → pick t x y ≡ pick s x y
 picked t x y e = rw e
 
-module _ (count b : ℕ) (l : Lent) (e : Engine) {o : Outcome} (is : step b lowest l e ≡ o) where
+module _ (count b : ℕ) (l : Lent) (e : Engine) {o : Outcome} (is : step b l e ≡ o) where
   turn : (more : ℕ) → walkFrom count b (suc more) l e
-      ≡ pick (isRunning (step b lowest l e .stepped .answer)) (walkFrom (suc count) b more (lentAfter l (step b lowest l e)) (engineOf (step b lowest l e)))
-      (ending (suc count) (step b lowest l e))
+      ≡ pick (isRunning (step b l e .stepped .answer)) (walkFrom (suc count) b more (lentAfter l (step b l e)) (engineOf (step b l e)))
+      (ending (suc count) (step b l e))
   unfolding walkFrom pick
   turn more = refl
 
@@ -138,7 +138,7 @@ module _ (b : ℕ) (table input : List ℕ) (start : Walk) (limit count : ℕ) (
     abbrev out : List ℕ
     out = outputAfter (e .state .core .written) (p .action) output
 
-    does : step b lowest l e ≡ leaves after (reportOf (p .action)) out
+    does : step b l e ≡ leaves after (reportOf (p .action)) out
     does = step-does b l e (g .fine) (g .unfinished) fits p k sure
 
     going-finished : isFinished (after .state .core .place) ≡ true
@@ -152,7 +152,7 @@ module _ (b : ℕ) (table input : List ℕ) (start : Walk) (limit count : ℕ) (
         (does ∙ rw end) refl (limit - 1 - count)))
 
     goes : isFinished (after .state .core .place) ≡ false
-        → step b lowest l e ≡ record { stepped = record { state = after .state; answer = Running; report = reportOf (p .action) }; storage = after .storage; output = out }
+        → step b l e ≡ record { stepped = record { state = after .state; answer = Running; report = reportOf (p .action) }; storage = after .storage; output = out }
     goes on = does ∙ rw on
 
     going-last : isFinished (after .state .core .place) ≡ false → count + 1 ≡ limit
@@ -181,7 +181,7 @@ module _ (b : ℕ) (table input : List ℕ) (start : Walk) (limit count : ℕ) (
               ∙ ap (λ (n : ℕ). walkFrom n b (limit - 1 - (count + 1)) (lends table input out) after) (sym (add-one count));
           fine =
               subst (λ (o : Outcome). sound b (lends table input (o .output)) (record { state = o .stepped .state; storage = o .storage }) ≡ true) (goes on)
-              (step-keeps-sound b lowest l e lowest-choice (g .fine));
+              (step-keeps-sound b l e (g .fine));
           unfinished = on;
           few = omega arith;
         }

@@ -6,14 +6,14 @@ use mathlib.Core.Path.{_≡_}
 use Prim.Native.Nat.{ℕ}
 use Rattle.machine.specs.State.{fresh}
 use Rattle.machine.specs.Sound.{Lent, Engine}
-use Rattle.machine.specs.Step.{Outcome, RunOutcome, step, run, lowest, engineOf, engineRan}
+use Rattle.machine.specs.Step.{Outcome, RunOutcome, step, run, engineOf, engineRan}
 use Rattle.book.specs.Steps.{Event, stepped, withRun}
 
 -- the steps of these calls, newest first, lead to this engine: the first call has a fresh engine over the storage ws, each other the
 -- state and storage that the one before it left; each may be lent any table, input and output, and a run any limit
 pub data Called (ws : List ℕ) : List Event → Engine → Type 0 where
   begin : Called ws [] (record { state = fresh; storage = ws })
-  step-called : {events : List Event} {e : Engine} → Called ws events e → (l : Lent) (o : Outcome) → o ≡ step 36 lowest l e
+  step-called : {events : List Event} {e : Engine} → Called ws events e → (l : Lent) (o : Outcome) → o ≡ step 36 l e
       → Called ws (stepped l e o ∷ events) (engineOf o)
   run-called : {events : List Event} {e : Engine} → Called ws events e → (limit : ℕ) (l : Lent) (r : RunOutcome)
-      → r ≡ run 36 (λ i. lowest) limit l e → Called ws (withRun 0 36 (λ i. lowest) limit l e events) (engineRan r)
+      → r ≡ run 36 limit l e → Called ws (withRun 36 limit l e events) (engineRan r)

@@ -8,7 +8,7 @@ use Rattle.machine.specs.declared.Answer.{Answer}
 use Rattle.machine.specs.declared.Report.{Report}
 use Rattle.machine.specs.Answer.{isRunning}
 use Rattle.machine.specs.Sound.{Lent, Engine}
-use Rattle.machine.specs.Step.{Outcome, step, lowest, engineOf}
+use Rattle.machine.specs.Step.{Outcome, step, engineOf}
 use Rattle.engine.specs.declared.Walked.{Walked}
 
 -- what a walk leaves: what it returns, and the lent storage and output
@@ -32,9 +32,9 @@ lentAfter l o = record { table = l .table; input = l .input; output = o .output 
 
 -- a step and at most so many more, after count of them
 unfoldable pub walkFrom : ℕ → ℕ → ℕ → Lent → Engine → Walk
-walkFrom count b zero l e = ending (suc count) (step b lowest l e)
+walkFrom count b zero l e = ending (suc count) (step b l e)
 walkFrom count b (suc more) l e =
-    let o : Outcome = step b lowest l e in
+    let o : Outcome = step b l e in
     elim (isRunning (o .stepped .answer)) [
       | true ↦ walkFrom (suc count) b more (lentAfter l o) (engineOf o)
       | false ↦ ending (suc count) o

@@ -7,7 +7,7 @@ ghost use Rattle.table.specs.Table.{checked};
 ghost use Rattle.machine.specs.Answer.{answerNumber};
 ghost use Rattle.machine.specs.State.{fresh as freshState};
 ghost use Rattle.machine.specs.Storage.{noReport};
-ghost use Rattle.machine.specs.Step.{step as stepOf, run as runOf, lowest};
+ghost use Rattle.machine.specs.Step.{step as stepOf, run as runOf};
 ghost use Rattle.engine.specs.Walking.{walkFrom};
 
 pub mod answers;
@@ -142,7 +142,7 @@ fn walk_from(
     walk(b, core, map, table, storage, input, output, limit, judged)
 }
 
-// One step, at the lowest admissible address. The second promise gives the answer as document 01's number, 0 where it is no refusal.
+// One step. The second promise gives the answer as document 01's number, 0 where it is no refusal.
 pub fn step(
     table: &[u64],
     storage: &mut [u64],
@@ -150,8 +150,8 @@ pub fn step(
     output: &mut [u8],
     state: State,
 ) -> Stepped
-    ensures { λ r. ⌜ record { stepped = r; storage = now (storage .exit); output = now (output .exit) } ≡ stepOf 36 lowest (record { table = now (table .entry); input = now (input .entry); output = now (output .entry) }) (record { state = state; storage = now (storage .entry) }) ⌝ }
-    ensures numbered { λ r. ⌜ answerNumber (r .answer) ≡ answerNumber (stepOf 36 lowest (record { table = now (table .entry); input = now (input .entry); output = now (output .entry) }) (record { state = state; storage = now (storage .entry) }) .stepped .answer) ⌝ }
+    ensures { λ r. ⌜ record { stepped = r; storage = now (storage .exit); output = now (output .exit) } ≡ stepOf 36 (record { table = now (table .entry); input = now (input .entry); output = now (output .entry) }) (record { state = state; storage = now (storage .entry) }) ⌝ }
+    ensures numbered { λ r. ⌜ answerNumber (r .answer) ≡ answerNumber (stepOf 36 (record { table = now (table .entry); input = now (input .entry); output = now (output .entry) }) (record { state = state; storage = now (storage .entry) }) .stepped .answer) ⌝ }
 {
     let last = walk_from(36, state, table, storage, input, output, 1);
     let after = last.state;
@@ -173,8 +173,8 @@ pub fn run(
     state: State,
     limit: u64,
 ) -> Ran
-    ensures { λ r. ⌜ record { ran = r; storage = now (storage .exit); output = now (output .exit) } ≡ runOf 36 (λ i. lowest) limit (record { table = now (table .entry); input = now (input .entry); output = now (output .entry) }) (record { state = state; storage = now (storage .entry) }) ⌝ }
-    ensures numbered { λ r. ⌜ answerNumber (r .answer) ≡ answerNumber (runOf 36 (λ i. lowest) limit (record { table = now (table .entry); input = now (input .entry); output = now (output .entry) }) (record { state = state; storage = now (storage .entry) }) .ran .answer) ⌝ }
+    ensures { λ r. ⌜ record { ran = r; storage = now (storage .exit); output = now (output .exit) } ≡ runOf 36 limit (record { table = now (table .entry); input = now (input .entry); output = now (output .entry) }) (record { state = state; storage = now (storage .entry) }) ⌝ }
+    ensures numbered { λ r. ⌜ answerNumber (r .answer) ≡ answerNumber (runOf 36 limit (record { table = now (table .entry); input = now (input .entry); output = now (output .entry) }) (record { state = state; storage = now (storage .entry) }) .ran .answer) ⌝ }
 {
     if limit == 0 {
         return Ran {

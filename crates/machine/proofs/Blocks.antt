@@ -3,16 +3,18 @@
 use Prim.Native.Nat.{ℕ, _+_, _≤_, _<_}
 use native.Mathlib.Omega.{arith}
 use mathlib.Core.Bool.{Bool, true, false, not, _&&_, cond}
-use mathlib.Core.List.{List, [], _∷_, List·Memᴰ}
+use mathlib.Core.List.{List, [], _∷_, List·Memᴰ, List·Memᴰ·head, List·Memᴰ·not-nil}
 use mathlib.Core.Logic.{_⊎_, inl, inr}
 use mathlib.Core.Path.{_≡_, refl, subst, sym, ap, _∙_}
 use borrow.Author.Tests.{leb-false, ltb-false}
 use lib.Dec.{eqb, leb, ltb}
 use Rattle.word.specs.Field.{width, kept}
-use Rattle.block.specs.Blocks.{size, level, sizeAt}
+use Rattle.block.specs.declared.SetUp.{SetUp}
+use Rattle.block.specs.Blocks.{Block, size, level, sizeAt}
 use Rattle.block.specs.SetUp.{top, runs}
 use Rattle.block.specs.Map.{deliveredMap}
-use Rattle.block.proofs.Size.{level-le, level-size}
+use Rattle.block.proofs.Size.{size-pos, level-le, level-size}
+use Rattle.block.proofs.Runs.{runs-lowest}
 use Rattle.machine.specs.declared.Core.{Core}
 use Rattle.machine.specs.declared.Location.{Location}
 use Rattle.machine.specs.declared.Location.the-variants.{Bug, Field}
@@ -22,19 +24,28 @@ use Rattle.machine.specs.State.{onCore, withMap}
 use Rattle.machine.specs.Storage.{noStore}
 use Rattle.machine.specs.Locate.{world, liveBlocks, contents, locate}
 use Rattle.machine.specs.Effects.{Effects, reporting, assigned, storeTo, engineAfter}
-use Rattle.machine.specs.Operations.{Given, Wanted, oneOf, chosen, delivering, andStoring, getWants, get, liesIn, free, duplicateWants, duplicate}
-use Rattle.machine.specs.Step.{Choice}
+use Rattle.machine.specs.Operations.{Given, Wanted, firstRun, lowestRun, delivering, andStoring, getWants, get, liesIn, free, duplicateWants, duplicate}
 use Rattle.machine.proofs.Checks.{need-passed, bind-passed, passed-same, clash}
 use Rattle.machine.proofs.Facts.{CoreFacts, Facts, assigned-facts}
 use Rattle.machine.proofs.Located.{Located, StoreFacts, nowhere, located, store-facts}
 use Rattle.machine.proofs.Moves.{frees, delivers, Done, liveAfter}
 use Rattle.machine.proofs.Meanings.{assigned-setup}
 
--- an admissible address is one of the runs
-pub one-of-runs : (choose : List ℕ → ℕ) → Choice choose → (rs : List ℕ) (a : ℕ) → oneOf choose rs ≡ passed a → List·Memᴰ a rs
-unfolding oneOf
-one-of-runs choose c [] a k = let never : _≡_ {A = ℕ} 0 1 = cc in absurd (omega arith)
-one-of-runs choose c (r ∷ rs) a k = subst (λ x. List·Memᴰ x (r ∷ rs)) (passed-same k) (c r rs)
+-- the first of the runs is one of them
+pub one-of-runs : (rs : List ℕ) (a : ℕ) → firstRun rs ≡ passed a → List·Memᴰ a rs
+unfolding firstRun
+one-of-runs [] a k = let never : _≡_ {A = ℕ} 0 1 = cc in absurd (omega arith)
+one-of-runs (r ∷ rs) a k = List·Memᴰ·head (sym (passed-same k))
+
+-- and none of them is lower
+lowest-of-runs : (n : ℕ) (u : SetUp) (live : List Block) → 0 < n → (a : ℕ) → firstRun (runs n u live) ≡ passed a
+    → (b : ℕ) → List·Memᴰ b (runs n u live) → a ≤ b
+unfolding firstRun
+lowest-of-runs n u live pos a k b m = go (runs n u live) refl k
+  where
+    go : (rs : List ℕ) → runs n u live ≡ rs → firstRun rs ≡ passed a → a ≤ b
+    go [] e q = absurd (List·Memᴰ·not-nil (subst (List·Memᴰ b) e m))
+    go (r ∷ rs) e q = subst (λ x. x ≤ b) (passed-same q) (runs-lowest n u live pos e m)
 
 -- a word that does not lie in a block lies before or after it
 before-or-after : (word p n : ℕ) (x y : Bool) → leb p word ≡ x → ltb word (p + n) ≡ y → not (x && y) ≡ true → (word < p) ⊎ (p + n ≤ word)
@@ -79,14 +90,18 @@ module _ (b : ℕ) (g : Given) (h : Facts b (g .engine)) where
         });
       })
 
-  -- what is delivered at an admissible address, and perhaps a second store
-  module _ (choice : Choice (g .choose)) (w : Wanted) (j : ℕ) (fits : j ≤ top (g .engine .state .core .setup .d))
+  -- what is delivered at the lowest run, and perhaps a second store
+  module _ (w : Wanted) (j : ℕ) (fits : j ≤ top (g .engine .state .core .setup .d))
       (isSize : w .words ≡ size j)
       (isCopy : (w .copied ≡ 0) ⊎ ((not (eqb (sizeAt (w .copied) (liveBlocks (g .engine))) 0) ≡ true) × (sizeAt (w .copied) (liveBlocks (g .engine)) ≡ w .words)))
-      (l : Located b (liveBlocks (g .engine)) (w .a)) (address : ℕ) (k : chosen g (w .words) ≡ passed address) where
-    run-chosen : List·Memᴰ address (runs (size j) (g .engine .state .core .setup) (liveBlocks (g .engine)))
-    unfolding chosen
-    run-chosen = one-of-runs (g .choose) choice _ address (rw isSize at k)
+      (l : Located b (liveBlocks (g .engine)) (w .a)) (address : ℕ) (k : lowestRun (g .engine .state .core .setup) (g .engine .state .map) (w .words) ≡ passed address) where
+    run-there : List·Memᴰ address (runs (size j) (g .engine .state .core .setup) (liveBlocks (g .engine)))
+    unfolding lowestRun
+    run-there = one-of-runs _ address (rw isSize at k)
+
+    lowest-there : (a : ℕ) → List·Memᴰ a (runs (size j) (g .engine .state .core .setup) (liveBlocks (g .engine))) → address ≤ a
+    unfolding lowestRun
+    lowest-there = lowest-of-runs (size j) (g .engine .state .core .setup) (liveBlocks (g .engine)) (size-pos j) address (rw isSize at k)
 
     same-map : deliveredMap (level (top (g .engine .state .core .setup .d)) (w .words)) address (g .engine .state .core .setup) (g .engine .state .map)
         ≡ deliveredMap j address (g .engine .state .core .setup) (g .engine .state .map)
@@ -124,7 +139,8 @@ module _ (b : ℕ) (g : Given) (h : Facts b (g .engine)) where
             level = j;
             levelFits = fits;
             size = isSize;
-            isRun = run-chosen;
+            isRun = run-there;
+            isLowest = lowest-there;
             map = same-map;
             copied = isCopy;
             zeroed = refl;
@@ -150,9 +166,9 @@ module _ (b : ℕ) (g : Given) (h : Facts b (g .engine)) where
         (store-facts b _ a2 v (rw (assigned-setup b a2 v (assigned b (w .a) address (g .engine .state .core))) l2))
 
   -- 3 get
-  pub get-done : Choice (g .choose) → (x : Effects) → get b g ≡ passed x → Done b (g .engine) x
+  pub get-done : (x : Effects) → get b g ≡ passed x → Done b (g .engine) x
   unfolding get getWants
-  get-done choice x k =
+  get-done x k =
       let (w, k₁, k₂) = bind-passed _ _ k in
       let (address, k₃, k₄) = bind-passed _ _ k₂ in
       let (a, l₁, l₂) = bind-passed _ _ k₁ in
@@ -167,19 +183,18 @@ module _ (b : ℕ) (g : Given) (h : Facts b (g .engine)) where
       elim (eqb (g .row .third .form) 0) as (λ t. cond t (passed (delivering b w address (g .engine .state)))
       (locate b (world (engineAfter b (delivering b w address (g .engine .state)) (g .engine))) (g .row .third)
       >>= λ a2. passed (andStoring b a2 (contents b (world (g .engine)) (w .a)) (delivering b w address (g .engine .state)))) ≡ passed x → Done b (g .engine) x) [
-        | true ↦ λ m. subst (Done b (g .engine)) (passed-same m) (delivering-done choice w j fits isSize (inl isCopy) l address k₃)
+        | true ↦ λ m. subst (Done b (g .engine)) (passed-same m) (delivering-done w j fits isSize (inl isCopy) l address k₃)
         | false ↦ λ m.
             let (a2, m₁, m₂) = bind-passed _ _ m in
-            subst (Done b (g .engine)) (passed-same m₂) (storing-done choice w j fits isSize (inl isCopy) l address k₃ a2 _ m₁)
+            subst (Done b (g .engine)) (passed-same m₂) (storing-done w j fits isSize (inl isCopy) l address k₃ a2 _ m₁)
       ] k₄
 
   -- 5 duplicate
-  pub duplicate-done : Choice (g .choose)
-      → ((a : ℕ) → not (eqb (sizeAt a (liveBlocks (g .engine))) 0) ≡ true
+  pub duplicate-done : ((a : ℕ) → not (eqb (sizeAt a (liveBlocks (g .engine))) 0) ≡ true
       → (j : ℕ) × (j ≤ top (g .engine .state .core .setup .d)) × (sizeAt a (liveBlocks (g .engine)) ≡ size j))
       → (x : Effects) → duplicate b g ≡ passed x → Done b (g .engine) x
   unfolding duplicate duplicateWants
-  duplicate-done choice sizes x k =
+  duplicate-done sizes x k =
       let (w, k₁, k₂) = bind-passed _ _ k in
       let (address, k₃, k₄) = bind-passed _ _ k₂ in
       let (a, l₁, l₂) = bind-passed _ _ k₁ in
@@ -189,5 +204,5 @@ module _ (b : ℕ) (g : Given) (h : Facts b (g .engine)) where
       let (j, fits, isSize) = sizes (c .value) isLive in
       let l : Located b (liveBlocks (g .engine)) (w .a) = subst (λ w. Located b (liveBlocks (g .engine)) (w .a)) same (located b (g .engine) (h .core) (g .row .first) a l₁) in
       subst (Done b (g .engine)) (passed-same k₄)
-      (delivering-done choice w j fits (ap (λ w. w .words) (sym same) ∙ isSize)
+      (delivering-done w j fits (ap (λ w. w .words) (sym same) ∙ isSize)
       (inr (rw (← (ap (λ w. w .copied) same)) isLive, rw (← (ap (λ w. w .copied) same)) (ap (λ w. w .words) same))) l address k₃)

@@ -90,11 +90,11 @@ unfolding effects-file.quietly effects-file.reporting effects-file.assigned effe
 effects = tt
 
 unfoldable operations : Unit {0}
-unfolding operations-file.orRefuse operations-file.asked operations-file.setUp operations-file.theName operations-file.define operations-file.oneOf operations-file.chosen operations-file.delivering operations-file.andStoring operations-file.getWants operations-file.get operations-file.liesIn operations-file.free operations-file.duplicateWants operations-file.duplicate operations-file.interchange operations-file.computing operations-file.quotient operations-file.input operations-file.print operations-file.saveContents operations-file.restoreContents operations-file.saveDefinition operations-file.restoreDefinition operations-file.do-line operations-file.makes operations-file.operations operations-file.operationOf operations-file.meaningOf operations-file.meaning
+unfolding operations-file.orRefuse operations-file.asked operations-file.setUp operations-file.theName operations-file.define operations-file.firstRun operations-file.lowestRun operations-file.delivering operations-file.andStoring operations-file.getWants operations-file.get operations-file.liesIn operations-file.free operations-file.duplicateWants operations-file.duplicate operations-file.interchange operations-file.computing operations-file.quotient operations-file.input operations-file.print operations-file.saveContents operations-file.restoreContents operations-file.saveDefinition operations-file.restoreDefinition operations-file.do-line operations-file.makes operations-file.operations operations-file.operationOf operations-file.meaningOf operations-file.meaning
 operations = tt
 
 unfoldable steps : Unit {0}
-unfolding steps-file.nextLine steps-file.operationOrExit steps-file.goingTo steps-file.testsStep steps-file.inTurn steps-file.given steps-file.operationStep steps-file.return steps-file.exitStep steps-file.plan steps-file.unchanged steps-file.carriedOut steps-file.outcome steps-file.step steps-file.lowest steps-file.engineOf steps-file.ending steps-file.runFrom steps-file.run
+unfolding steps-file.nextLine steps-file.operationOrExit steps-file.goingTo steps-file.testsStep steps-file.inTurn steps-file.given steps-file.operationStep steps-file.return steps-file.exitStep steps-file.plan steps-file.unchanged steps-file.carriedOut steps-file.outcome steps-file.step steps-file.engineOf steps-file.ending steps-file.runFrom steps-file.run
 steps = tt
 
 unfoldable benches : Unit {0}

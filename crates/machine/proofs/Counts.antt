@@ -208,14 +208,14 @@ module _ (b : ℕ) (g : Given) (t : g .engine .state .core .taken ≤ length (g 
   meaning-counts code = at-code Has (λ i. computing-counts) _ (λ i. idle) 1 operations each-counts (code - 1)
 
 -- a step of any place
-module _ (b : ℕ) (choose : List ℕ → ℕ) (l : Lent) (e : Engine) (t : e .state .core .taken ≤ length (l .input)) (w : e .state .core .written ≤ length (l .output)) where
+module _ (b : ℕ) (l : Lent) (e : Engine) (t : e .state .core .taken ≤ length (l .input)) (w : e .state .core .written ≤ length (l .output)) where
   abbrev After : Effects → Type 0
   After = Counted l (e .state .core .written)
 
   -- what the operation is given has the same counts
   moved-before : (x : Effects) → x .state .core .taken ≡ e .state .core .taken → x .state .core .written ≡ e .state .core .written → x .printed ≡ [] → After x
   unfolding given onCore movedTo
-  moved-before = as-before b (given choose l e) t w
+  moved-before = as-before b (given l e) t w
 
   going-counts : (p : Place) → After (goingTo p e)
   unfolding goingTo quietly onCore movedTo
@@ -241,21 +241,21 @@ module _ (b : ℕ) (choose : List ℕ → ℕ) (l : Lent) (e : Engine) (t : e .s
       (passed (goingTo (cond (eqb (goTo row) 0) (nextLine (row .next)) (testsOf (goTo row))) e)) ≡ passed x → After x)
       [ true ↦ λ m. return-counts x m | false ↦ λ m. subst After (passed-same m) (going-counts _) ] k₁
 
-  operation-counts : (x : Effects) → operationStep b choose l e ≡ passed x → After x
+  operation-counts : (x : Effects) → operationStep b l e ≡ passed x → After x
   unfolding operationStep given onCore movedTo
   operation-counts x k =
       let (_, k₁) = need-passed _ _ _ k in
       let (_, _, k₂) = then-passed _ _ k₁ in
-      meaning-counts b (given choose l e) t w _ x k₂
+      meaning-counts b (given l e) t w _ x k₂
 
-  pub plan-counts : (x : Effects) → plan b choose l e ≡ passed x → After x
+  pub plan-counts : (x : Effects) → plan b l e ≡ passed x → After x
   unfolding plan
   plan-counts x k =
       let kind = e .state .core .place .kind in
       let (_, k₁) = need-passed _ _ _ k in
-      elim (eqb kind 0) as (λ s. cond s (testsStep b l e) (cond (eqb kind 1) (operationStep b choose l e) (exitStep b l e)) ≡ passed x → After x) [
+      elim (eqb kind 0) as (λ s. cond s (testsStep b l e) (cond (eqb kind 1) (operationStep b l e) (exitStep b l e)) ≡ passed x → After x) [
         | true ↦ λ m. tests-counts x m
         | false ↦ λ m.
-            elim (eqb kind 1) as (λ s. cond s (operationStep b choose l e) (exitStep b l e) ≡ passed x → After x)
+            elim (eqb kind 1) as (λ s. cond s (operationStep b l e) (exitStep b l e) ≡ passed x → After x)
             [ true ↦ λ n. operation-counts x n | false ↦ λ n. exit-counts x n ] m
       ] k₁

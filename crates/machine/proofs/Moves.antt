@@ -56,6 +56,7 @@ pub record Delivers (b : ℕ) (u : SetUp) (m : List ℕ) (x : Effects) : Type 0 
   pub levelFits : level ≤ top (u .d)
   pub size : x .report .size ≡ size level
   pub isRun : List·Memᴰ (x .report .delivered) (runs (Rattle.block.specs.Blocks.size level) u (live u m))
+  pub isLowest : (a : ℕ) → List·Memᴰ a (runs (Rattle.block.specs.Blocks.size level) u (live u m)) → x .report .delivered ≤ a
   pub map : x .state .map ≡ deliveredMap level (x .report .delivered) u m
   pub copied : (x .report .copied ≡ 0)
       ⊎ ((not (eqb (sizeAt (x .report .copied) (live u m)) 0) ≡ true) × (sizeAt (x .report .copied) (live u m) ≡ x .report .size))

@@ -21,7 +21,7 @@ use Rattle.machine.specs.Sound.{Lent, Engine, isRow, isPlace, soundPlace
 use Rattle.machine.specs.Locate.{liveBlocks}
 use Rattle.machine.specs.Effects.{Effects, quietly}
 use Rattle.machine.specs.Operations.{Given, Meaning, operations, operationOf, makes, meaningOf, asked, meaning, setUp}
-use Rattle.machine.specs.Step.{Choice, nextLine, operationOrExit, goingTo, testsStep, inTurn, given, operationStep, return, exitStep, plan, setUpAt}
+use Rattle.machine.specs.Step.{nextLine, operationOrExit, goingTo, testsStep, inTurn, given, operationStep, return, exitStep, plan, setUpAt}
 use Rattle.machine.proofs.Checks.{need-passed, then-passed, need-alone, bind-passed, passed-same}
 use Rattle.machine.proofs.Facts.{CoreFacts, Facts, moved-facts, calls-facts, setup-facts, pop-facts, top-fact}
 use Rattle.machine.proofs.Live.{live-size}
@@ -37,7 +37,7 @@ pub data Planned (b : ℕ) (l : Lent) (e : Engine) (x : Effects) : Type 0 where
   moving : setUpAt l e ≡ noSetUp → Done b e x → Planned b l e x
 
 -- an operation but the set-up
-module _ (b : ℕ) (g : Given) (h : Facts b (g .engine)) (choice : Choice (g .choose))
+module _ (b : ℕ) (g : Given) (h : Facts b (g .engine))
     (sizes : (a : ℕ) → not (eqb (sizeAt a (liveBlocks (g .engine))) 0) ≡ true
     → (j : ℕ) × (j ≤ top (g .engine .state .core .setup .d)) × (sizeAt a (liveBlocks (g .engine)) ≡ size j))
     (p : isPlace (g .engine .state .core .place) ≡ true)
@@ -53,9 +53,9 @@ module _ (b : ℕ) (g : Given) (h : Facts b (g .engine)) (choice : Choice (g .ch
   each-right =
       (λ c. absurd (other c))
       ⨾ (λ c. define-done b g h)
-      ⨾ (λ c. get-done b g h choice)
+      ⨾ (λ c. get-done b g h)
       ⨾ (λ c. free-done b g h)
-      ⨾ (λ c. duplicate-done b g h choice sizes)
+      ⨾ (λ c. duplicate-done b g h sizes)
       ⨾ (λ c. interchange-done b g h)
       ⨾ (λ c. input-done b g h)
       ⨾ (λ c. print-done b g h)
@@ -154,14 +154,13 @@ module _ (b : ℕ) (l : Lent) (e : Engine) (h : Facts b e) (t : lengthFits (l .t
         → cond (s && eqb (rowAt (l .table) (e .state .core .place .row) .code) 1) (asked (rowAt (l .table) (e .state .core .place .row))) noSetUp ≡ noSetUp)
         [ true ↦ λ p. rw (ne-eqb _ 1 (no-set-up (eqb-true _ _ p))) | false ↦ λ p. refl ] refl
 
-    module _ (kind : e .state .core .place .kind ≡ 1) (u : usable 3 b (l .table) (e .state .core .place .row) ≡ true)
-        (choose : List ℕ → ℕ) where
+    module _ (kind : e .state .core .place .kind ≡ 1) (u : usable 3 b (l .table) (e .state .core .place .row) ≡ true) where
       -- the place after the operation
       after : isPlace (operationOrExit (rowAt (l .table) (e .state .core .place .row) .next) (e .state .core .place .line)) ≡ true
       after = operation-or-exit _ _ (next-row b (l .table) (e .state .core .place .row) t 3 u) line
 
       -- what the operation is given is sound
-      given-facts : Facts b (given choose l e .engine)
+      given-facts : Facts b (given l e .engine)
       unfolding given onCore movedTo
       given-facts =
           record {
@@ -176,51 +175,51 @@ module _ (b : ℕ) (l : Lent) (e : Engine) (h : Facts b e) (t : lengthFits (l .t
 
       -- a set-up, and any other operation
       set-up-planned : rowAt (l .table) (e .state .core .place .row) .code ≡ 1 → isSetUp (e .state .core) ≡ false
-          → (x : Effects) → meaning 1 b (given choose l e) ≡ passed x → Planned b l e x
+          → (x : Effects) → meaning 1 b (given l e) ≡ passed x → Planned b l e x
       unfolding meaning meaningOf operationOf operations given onCore
       set-up-planned c s x k =
-          let (core, up) = setUp-done b (given choose l e) given-facts x k in
+          let (core, up) = setUp-done b (given l e) given-facts x k in
           settingUp s core (subst (λ u. SetsUp (e .storage) (e .state .map) u x) (sym (is-asked c)) up)
 
-      other-planned : (rowAt (l .table) (e .state .core .place .row) .code ≡ 1 → ⊥) → Choice choose
-          → (x : Effects) → meaning (rowAt (l .table) (e .state .core .place .row) .code) b (given choose l e) ≡ passed x → Planned b l e x
+      other-planned : (rowAt (l .table) (e .state .core .place .row) .code ≡ 1 → ⊥)
+          → (x : Effects) → meaning (rowAt (l .table) (e .state .core .place .row) .code) b (given l e) ≡ passed x → Planned b l e x
       unfolding given onCore movedTo
-      other-planned c choice x k =
+      other-planned c x k =
           moving (not-asked (λ p. c))
-          (meaning-done b (given choose l e) given-facts choice (live-size b (e .state) (e .storage) (h .storage)) after
+          (meaning-done b (given l e) given-facts (live-size b (e .state) (e .storage) (h .storage)) after
           (do-row b (l .table) (e .state .core .place .row) t u) c
           (has-code b (l .table) (e .state .core .place .row) t u) x k)
 
     -- an operation
-    operation-done : (choose : List ℕ → ℕ) → Choice choose → e .state .core .place .kind ≡ 1
-        → (x : Effects) → operationStep b choose l e ≡ passed x → Planned b l e x
+    operation-done : e .state .core .place .kind ≡ 1
+        → (x : Effects) → operationStep b l e ≡ passed x → Planned b l e x
     unfolding operationStep inTurn
-    operation-done choose choice kind x k =
+    operation-done kind x k =
         let code = rowAt (l .table) (e .state .core .place .row) .code in
         let (u, k₁) = need-passed _ _ _ k in
         elim (eqb code 1) as (λ s. eqb code 1 ≡ s
         → (cond s (need (not (isSetUp (e .state .core))) SecondSetUp) (need (isSetUp (e .state .core)) BeforeSetUp)
-        >> meaning code b (given choose l e)) ≡ passed x → Planned b l e x) [
+        >> meaning code b (given l e)) ≡ passed x → Planned b l e x) [
           | true ↦ λ c m.
               let (_, m₁, m₂) = then-passed _ _ m in
-              set-up-planned kind u choose (eqb-true code 1 c) (not-true _ (need-alone _ _ m₁)) x (rw (eqb-true code 1 c) at m₂)
+              set-up-planned kind u (eqb-true code 1 c) (not-true _ (need-alone _ _ m₁)) x (rw (eqb-true code 1 c) at m₂)
           | false ↦ λ c m.
               let (_, _, m₂) = then-passed _ _ m in
-              other-planned kind u choose (eqb-false code 1 c) choice x m₂
+              other-planned kind u (eqb-false code 1 c) x m₂
         ] refl k₁
 
 -- the plan of a step of a sound engine that is not finished
-pub planned : (b : ℕ) (choose : List ℕ → ℕ) (l : Lent) (e : Engine) → Facts b e → Choice choose
-    → isFinished (e .state .core .place) ≡ false → (x : Effects) → plan b choose l e ≡ passed x → Planned b l e x
+pub planned : (b : ℕ) (l : Lent) (e : Engine) → Facts b e
+    → isFinished (e .state .core .place) ≡ false → (x : Effects) → plan b l e ≡ passed x → Planned b l e x
 unfolding plan
-planned b choose l e h choice f x k =
+planned b l e h f x k =
     let kind = e .state .core .place .kind in
     let (t, k₁) = need-passed _ _ _ k in
-    elim (eqb kind 0) as (λ s. eqb kind 0 ≡ s → cond s (testsStep b l e) (cond (eqb kind 1) (operationStep b choose l e) (exitStep b l e)) ≡ passed x → Planned b l e x) [
+    elim (eqb kind 0) as (λ s. eqb kind 0 ≡ s → cond s (testsStep b l e) (cond (eqb kind 1) (operationStep b l e) (exitStep b l e)) ≡ passed x → Planned b l e x) [
       | true ↦ λ p m. moving (not-asked b l e h t f (λ q. absurd (omega (arith, eqb-true kind 0 p)))) (tests-done b l e h t f x m)
       | false ↦ λ p m.
-          elim (eqb kind 1) as (λ s. eqb kind 1 ≡ s → cond s (operationStep b choose l e) (exitStep b l e) ≡ passed x → Planned b l e x) [
-            | true ↦ λ q n. operation-done b l e h t f choose choice (eqb-true kind 1 q) x n
+          elim (eqb kind 1) as (λ s. eqb kind 1 ≡ s → cond s (operationStep b l e) (exitStep b l e) ≡ passed x → Planned b l e x) [
+            | true ↦ λ q n. operation-done b l e h t f (eqb-true kind 1 q) x n
             | false ↦ λ q n. moving (not-asked b l e h t f (λ r. absurd (eqb-false kind 1 q r))) (exit-done b l e h t f x n)
           ] refl m
     ] refl k₁

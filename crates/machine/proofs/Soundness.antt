@@ -11,7 +11,7 @@ use Rattle.machine.specs.Answer.{isRunning}
 use Rattle.machine.specs.Storage.{placed}
 use Rattle.machine.specs.Sound.{Lent, Engine, sound, soundEngine}
 use Rattle.machine.specs.Effects.{engineAfter}
-use Rattle.machine.specs.Step.{Choice, Outcome, RunOutcome, unchanged, carriedOut, step, engineOf, ending, runFrom, engineRan}
+use Rattle.machine.specs.Step.{Outcome, RunOutcome, unchanged, carriedOut, step, engineOf, ending, runFrom, engineRan}
 use Rattle.machine.proofs.Checks.{and-parts, and-true}
 use Rattle.machine.proofs.Placed.{length-placed}
 use Rattle.machine.proofs.Facts.{facts-sound}
@@ -34,41 +34,41 @@ counts-fit b l e s =
     let (k, written) = and-parts (soundEngine b e && input) output s in
     (leb-true _ _ (and-parts (soundEngine b e) input k .1), leb-true _ _ written)
 
-pub step-keeps-sound : (b : ℕ) (choose : List ℕ → ℕ) (l : Lent) (e : Engine) → Choice choose → sound b l e ≡ true
-    → sound b (next l (step b choose l e)) (engineOf (step b choose l e)) ≡ true
+pub step-keeps-sound : (b : ℕ) (l : Lent) (e : Engine) → sound b l e ≡ true
+    → sound b (next l (step b l e)) (engineOf (step b l e)) ≡ true
 unfolding sound next engineOf unchanged carriedOut engineAfter
-step-keeps-sound b choose l e choice s = go (stepping b choose l e)
+step-keeps-sound b l e s = go (stepping b l e)
   where
-    go : Stepping b choose l e (step b choose l e) → sound b (next l (step b choose l e)) (engineOf (step b choose l e)) ≡ true
+    go : Stepping b l e (step b l e) → sound b (next l (step b l e)) (engineOf (step b l e)) ≡ true
     go (refusing r o) = subst (λ (o : Outcome). sound b (next l o) (engineOf o) ≡ true) (sym o) s
     go (staying f o) = subst (λ (o : Outcome). sound b (next l o) (engineOf o) ≡ true) (sym o) s
     go (forward x h f p o) =
         let (t, w) = counts-fit b l e s in
-        let counted = plan-counts b choose l e t w x p in
+        let counted = plan-counts b l e t w x p in
         let long : length (placed (e .state .core .written) (x .printed) (l .output)) ≡ length (l .output) = length-placed _ _ _ (counted .room) in
         subst (λ (o : Outcome). sound b (next l o) (engineOf o) ≡ true) (sym o)
         (and-true
-        (and-true (facts-sound b (engineAfter b x e) (planned-facts b e h x l (planned b choose l e h choice f x p))) (le-leb _ _ (counted .taken)))
+        (and-true (facts-sound b (engineAfter b x e) (planned-facts b e h x l (planned b l e h f x p))) (le-leb _ _ (counted .taken)))
         (le-leb (x .state .core .written) _ (subst (λ (n : ℕ). x .state .core .written ≤ n) (sym long) (counted .written))))
 
 -- what is lent after a run
 unfoldable pub lentRan : Lent → RunOutcome → Lent
 lentRan l r = record { table = l .table; input = l .input; output = r .output }
 
-pub run-keeps-sound : (b : ℕ) (choose : ℕ → List ℕ → ℕ) → ((i : ℕ) → Choice (choose i)) → (count limit : ℕ) (l : Lent) (e : Engine)
-    → sound b l e ≡ true → sound b (lentRan l (runFrom count b choose limit l e)) (engineRan (runFrom count b choose limit l e)) ≡ true
+pub run-keeps-sound : (b count limit : ℕ) (l : Lent) (e : Engine)
+    → sound b l e ≡ true → sound b (lentRan l (runFrom count b limit l e)) (engineRan (runFrom count b limit l e)) ≡ true
 unfolding runFrom ending engineRan lentRan next engineOf
-run-keeps-sound b choose choice count zero l e s = s
-run-keeps-sound b choose choice count (suc limit) l e s =
-    let o : Outcome = step b (choose count) l e in
-    let fine = step-keeps-sound b (choose count) l e (choice count) s in
+run-keeps-sound b count zero l e s = s
+run-keeps-sound b count (suc limit) l e s =
+    let o : Outcome = step b l e in
+    let fine = step-keeps-sound b l e s in
     let rest : Lent = next l o in
     elim (isRunning (o .stepped .answer)) as (λ t.
     let r : RunOutcome = (elim t [
-      | true ↦ runFrom (suc count) b choose limit rest (engineOf o)
+      | true ↦ runFrom (suc count) b limit rest (engineOf o)
       | false ↦ ending (o .stepped .answer) (suc count) (engineOf o) (o .output)
     ]) in
     sound b (lentRan l r) (engineRan r) ≡ true) [
-      | true ↦ run-keeps-sound b choose choice (suc count) limit rest (engineOf o) fine
+      | true ↦ run-keeps-sound b (suc count) limit rest (engineOf o) fine
       | false ↦ fine
     ]

@@ -9,7 +9,7 @@ use Rattle.block.specs.Map.{same}
 use Rattle.machine.specs.Answer.{answerNumber}
 use Rattle.machine.specs.State.{fresh}
 use Rattle.machine.specs.Locate.{liveBlocks}
-use Rattle.machine.specs.Step.{lowest, RunOutcome, run}
+use Rattle.machine.specs.Step.{RunOutcome, run}
 
 -- the ten numbers of an operation's row, less its next: code, name and pairs
 unfoldable pub operation : ℕ → ℕ → List ℕ → List ℕ
@@ -35,7 +35,7 @@ program operations = replicate 10 0 ++ (1 ∷ 0 ∷ 0 ∷ 0 ∷ 0 ∷ 2 ∷ 0 �
 -- a program after the set-up of the bench, run from a fresh engine with 16 words, no input and room for 16 characters
 unfoldable pub benchRun : List (List ℕ) → RunOutcome
 benchRun operations =
-    run 36 (λ i. lowest) 100
+    run 36 100
     (record {
       table = program (operation 1 0 (lit 8 ++ lit 8 ++ lit 23) ∷ operations);
       input = [];
@@ -165,5 +165,5 @@ tour = program (operation 1 0 (lit 8 ++ lit 8 ++ lit 23) ∷ operation 25 0 (lit
 -- what tourrun lends: 4,096 words, no input, 4,096 output bytes; it runs 100,000 steps
 unfoldable pub tourRun : List ℕ → List ℕ → RunOutcome
 tourRun table input =
-    run 36 (λ i. lowest) 100000 (record { table = table; input = input; output = replicate 4096 0 })
+    run 36 100000 (record { table = table; input = input; output = replicate 4096 0 })
     (record { state = fresh; storage = replicate 4096 0 })

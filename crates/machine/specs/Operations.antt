@@ -12,7 +12,7 @@ use Rattle.character.specs.Character.{packed, allBelow, printed, blanksToZeros,
 use Rattle.block.specs.declared.SetUp.{SetUp}
 use Rattle.block.specs.Blocks.{size, level, sizeAt}
 use Rattle.block.specs.SetUp.{top, words, fitting, runs}
-use Rattle.block.specs.Map.{freshMap, freedMap, deliveredMap}
+use Rattle.block.specs.Map.{live, freshMap, freedMap, deliveredMap}
 use Rattle.table.specs.declared.FieldName.{FieldName}
 use Rattle.table.specs.declared.Row.{Row}
 use Rattle.machine.specs.declared.Refusal.{Refusal}
@@ -27,12 +27,11 @@ use Rattle.machine.specs.Sound.{Lent, Engine, inRange}
 use Rattle.machine.specs.Locate.{world, Value, liveBlocks, definitionOf, contents, locate, read, operand}
 use Rattle.machine.specs.Effects.{Effects, quietly, reporting, assigned, storeTo, storing, engineAfter}
 
--- what an operation is given: its row, what is lent, the engine, and the choice of one among the admissible addresses
+-- what an operation is given: its row, what is lent, and the engine
 pub record Given : Type 0 where
   pub row : Row
   pub lent : Lent
   pub engine : Engine
-  pub choose : List ℕ → ℕ
 
 abbrev pub Meaning : Type 0
 Meaning = ℕ → Given → Checked Effects
@@ -75,14 +74,14 @@ define b g = do
       (withDefinition (theName g) (record { defined = true; word = word .value; left = left .value; right = right .value }))
       (g .engine .state)))
 
--- any of the admissible addresses; 17 where there is none
-unfoldable pub oneOf : (List ℕ → ℕ) → List ℕ → Checked ℕ
-oneOf choose [] = refused NoRun
-oneOf choose (r ∷ rs) = passed (choose (r ∷ rs))
+-- the first of these runs; 17 where there is none
+unfoldable pub firstRun : List ℕ → Checked ℕ
+firstRun [] = refused NoRun
+firstRun (r ∷ rs) = passed r
 
--- the address that is delivered for a run of n words
-unfoldable pub chosen : Given → ℕ → Checked ℕ
-chosen g n = oneOf (g .choose) (runs n (g .engine .state .core .setup) (liveBlocks (g .engine)))
+-- the address that is delivered for n words: the lowest aligned run outside the live blocks
+unfoldable pub lowestRun : SetUp → List ℕ → ℕ → Checked ℕ
+lowestRun u m n = firstRun (runs n u (live u m))
 
 -- what a get or a duplicate wants once its earlier checks are cleared: a run of so many words, as a copy of the block at an
 -- address (0: none), its own address to be stored in a
@@ -136,7 +135,7 @@ getWants b g = do
 unfoldable pub get : Meaning
 get b g = do
   w ← getWants b g
-  address ← chosen g (w .words)
+  address ← lowestRun (g .engine .state .core .setup) (g .engine .state .map) (w .words)
   let x = delivering b w address (g .engine .state)
   cond (eqb (g .row .third .form) 0) (passed x)
       (locate b (world (engineAfter b x (g .engine))) (g .row .third)
@@ -174,7 +173,7 @@ duplicateWants b g = do
 unfoldable pub duplicate : Meaning
 duplicate b g = do
   w ← duplicateWants b g
-  address ← chosen g (w .words)
+  address ← lowestRun (g .engine .state .core .setup) (g .engine .state .map) (w .words)
   passed (delivering b w address (g .engine .state))
 
 -- 7 interchange (a1, a2): a1 stored first

@@ -1,9 +1,8 @@
--- One step, the run, and the relations "this step", "this run answers as demand 2 has it".
+-- One step and the run: what they give is determined by what is lent and the engine.
 -- Document 01: "Steps" and the order of all refusals. Assumes nothing.
 use Prim.Native.Nat.{ℕ, zero, suc, _-_}
 use mathlib.Core.Bool.{true, false, not, _&&_, cond}
-use mathlib.Core.List.{List, _∷_, List·Memᴰ}
-use mathlib.Core.Path.{_≡_}
+use mathlib.Core.List.{List}
 use lib.Dec.{eqb, ltb}
 use lib.ListN.{getD}
 use Rattle.block.specs.declared.SetUp.{SetUp}
@@ -51,8 +50,8 @@ inTurn code e =
     cond (eqb code 1) (need (not (isSetUp (e .state .core))) SecondSetUp) (need (isSetUp (e .state .core)) BeforeSetUp)
 
 -- what the operation at the engine's place is given: its own row and no other
-unfoldable pub given : (List ℕ → ℕ) → Lent → Engine → Given
-given choose l e =
+unfoldable pub given : Lent → Engine → Given
+given l e =
     let place = e .state .core .place in
     let row = rowAt (l .table) (place .row) in
     record {
@@ -62,16 +61,15 @@ given choose l e =
         state = onCore (movedTo (operationOrExit (row .next) (place .line))) (e .state);
         storage = e .storage;
       };
-      choose = choose;
     }
 
 -- the step of an operation
-unfoldable pub operationStep : ℕ → (List ℕ → ℕ) → Lent → Engine → Checked Effects
-operationStep b choose l e = do
+unfoldable pub operationStep : ℕ → Lent → Engine → Checked Effects
+operationStep b l e = do
   let place = e .state .core .place
   need (usable 3 b (l .table) (place .row)) BadRow
   inTurn (rowAt (l .table) (place .row) .code) e
-  meaning (rowAt (l .table) (place .row) .code) b (given choose l e)
+  meaning (rowAt (l .table) (place .row) .code) b (given l e)
 
 -- DONE pops the place that a DO saved: 20
 unfoldable pub return : Engine → Checked Effects
@@ -95,11 +93,11 @@ exitStep b l e = do
       (passed (goingTo (cond (eqb (goTo row) 0) (nextLine (row .next)) (testsOf (goTo row))) e))
 
 -- what a step of a sound engine that is not finished does: 1, then as its place says
-unfoldable pub plan : ℕ → (List ℕ → ℕ) → Lent → Engine → Checked Effects
-plan b choose l e = do
+unfoldable pub plan : ℕ → Lent → Engine → Checked Effects
+plan b l e = do
   need (lengthFits (l .table)) TableLength
   let kind = e .state .core .place .kind
-  cond (eqb kind 0) (testsStep b l e) (cond (eqb kind 1) (operationStep b choose l e) (exitStep b l e))
+  cond (eqb kind 0) (testsStep b l e) (cond (eqb kind 1) (operationStep b l e) (exitStep b l e))
 
 -- what a step leaves: what it returns, and the lent storage and output
 pub record Outcome : Type 0 where
@@ -133,26 +131,12 @@ unfoldable pub outcome : ℕ → Checked Effects → Lent → Engine → Outcome
 outcome b (refused r) l e = unchanged (Refused r) l e
 outcome b (passed x) l e = carriedOut b x l e
 
--- one step, in the order 11, finished, then the plan; choose is asked for one of the admissible addresses of a delivery
-unfoldable pub step : ℕ → (List ℕ → ℕ) → Lent → Engine → Outcome
-step b choose l e =
+-- one step, in the order 11, finished, then the plan
+unfoldable pub step : ℕ → Lent → Engine → Outcome
+step b l e =
     cond (sound b l e)
-    (cond (isFinished (e .state .core .place)) (unchanged Finished l e) (outcome b (plan b choose l e) l e))
+    (cond (isFinished (e .state .core .place)) (unchanged Finished l e) (outcome b (plan b l e) l e))
     (unchanged (Refused Unsound) l e)
-
--- a choice of an admissible address: of each list of runs that is not empty, one of them
-abbrev pub Choice : (List ℕ → ℕ) → Type 0
-Choice choose = (r : ℕ) (rs : List ℕ) → List·Memᴰ (choose (r ∷ rs)) (r ∷ rs)
-
--- the lowest of the admissible addresses
-unfoldable pub lowest : List ℕ → ℕ
-lowest runs = getD runs 0 0
-
--- this step answers as demand 2 has it: as some admissible address gives
-pub record Answers (b : ℕ) (l : Lent) (e : Engine) (o : Outcome) : Type 0 where
-  pub choose : List ℕ → ℕ
-  pub admissible : Choice choose
-  pub same : o ≡ step b choose l e
 
 -- the engine that a step leaves
 unfoldable pub engineOf : Outcome → Engine
@@ -177,26 +161,20 @@ ending answer count e output =
     record { ran = record { state = e .state; answer = answer; count = count }; storage = e .storage; output = output }
 
 -- a run takes a step limit and is that many steps, or fewer up to a finish or refusal (counted); earlier steps stand.
--- Step i of it asks choose i; count steps came before
-unfoldable pub runFrom : ℕ → ℕ → (ℕ → List ℕ → ℕ) → ℕ → Lent → Engine → RunOutcome
-runFrom count b choose zero l e = ending Running count e (l .output)
-runFrom count b choose (suc limit) l e =
-    let o : Outcome = step b (choose count) l e in
+-- Count steps came before
+unfoldable pub runFrom : ℕ → ℕ → ℕ → Lent → Engine → RunOutcome
+runFrom count b zero l e = ending Running count e (l .output)
+runFrom count b (suc limit) l e =
+    let o : Outcome = step b l e in
     elim (isRunning (o .stepped .answer)) [
       | true ↦
-          runFrom (suc count) b choose limit (record { table = l .table; input = l .input; output = o .output }) (engineOf o)
+          runFrom (suc count) b limit (record { table = l .table; input = l .input; output = o .output }) (engineOf o)
       | false ↦ ending (o .stepped .answer) (suc count) (engineOf o) (o .output)
     ]
 
-unfoldable pub run : ℕ → (ℕ → List ℕ → ℕ) → ℕ → Lent → Engine → RunOutcome
+unfoldable pub run : ℕ → ℕ → Lent → Engine → RunOutcome
 run = runFrom 0
 
 -- the engine that a run leaves
 unfoldable pub engineRan : RunOutcome → Engine
 engineRan r = record { state = r .ran .state; storage = r .storage }
-
--- this run answers as demand 2 has it: as an admissible address at each of its steps gives
-pub record RunAnswers (b limit : ℕ) (l : Lent) (e : Engine) (r : RunOutcome) : Type 0 where
-  pub choose : ℕ → List ℕ → ℕ
-  pub admissible : (i : ℕ) → Choice (choose i)
-  pub same : r ≡ run b choose limit l e

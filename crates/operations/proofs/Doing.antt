@@ -30,12 +30,10 @@ use Rattle.machine.specs.declared.Refusal.{Refusal}
 use Rattle.machine.specs.declared.Refusal.the-variants.{InputByte, InputShort, BlockSize, CharacterCount, NotABlock, NoRun, FieldFreed, StackFull, StackEmpty, OutputFull}
 use Rattle.machine.specs.Answer.{Checked, refused, passed, _>>=_, _>>_, need}
 use Rattle.machine.specs.Locate.{World, Value, contents, widthOf, read, locate}
-use Rattle.machine.specs.Operations.{oneOf, liesIn}
-use Rattle.machine.specs.Step.{lowest}
+use Rattle.machine.specs.Operations.{firstRun, lowestRun, liesIn}
 use Rattle.machine.proofs.Blocks.{one-of-runs}
 use Rattle.machine.proofs.Checks.{and-parts, need-yes, need-no, bind-yes, bind-no, cond-yes, cond-no}
 use Rattle.machine.proofs.Keeps.{run-fits}
-use Rattle.machine.proofs.Steps.{lowest-choice}
 use Rattle.operands.specs.declared.Linked.{Linked}
 use Rattle.operands.specs.declared.Linked.the-variants as links
 use Rattle.operands.specs.declared.Pending.the-variants.{Delivery}
@@ -50,7 +48,7 @@ use Rattle.operations.specs.declared.Computed.{Computed}
 use Rattle.operations.specs.declared.Computed.the-variants as computing
 use Rattle.operations.specs.declared.Fetched.{Fetched}
 use Rattle.operations.specs.declared.Fetched.the-variants as fetching
-use Rattle.operations.specs.Plans.{lowestRun, afterDelivery, delivering, getting, freeing, duplicating, taking, storing, printing, swapPlan, acting, valueBy, sizeOf, Computes, Acts}
+use Rattle.operations.specs.Plans.{afterDelivery, delivering, getting, freeing, duplicating, taking, storing, printing, swapPlan, acting, valueBy, sizeOf, Computes, Acts}
 use Rattle.operations.specs.Answers.{computed, fetched}
 use Rattle.operations.proofs.Answers.{made-is, not-made-is, run-is, no-run-is}
 
@@ -73,13 +71,13 @@ in-range b word left right h =
 
 -- the lowest run, as code finds it
 module _ (n : ℕ) {answer : Found} where
-  pub found-run : (rs : List ℕ) → answer ≡ firstOf rs → {a : ℕ} → answer ≡ found.At a → {m : ℕ} → m ≡ n → fetching.Run a m ≡ fetched n (oneOf lowest rs)
-  unfolding firstOf oneOf lowest fetched
+  pub found-run : (rs : List ℕ) → answer ≡ firstOf rs → {a : ℕ} → answer ≡ found.At a → {m : ℕ} → m ≡ n → fetching.Run a m ≡ fetched n (firstRun rs)
+  unfolding firstOf firstRun fetched
   found-run [] is at long = let never : _≡_ {A = ℕ} 0 1 = cc in absurd (omega arith)
   found-run (r ∷ rs) is {a} at long = let same : a ≡ r = cc in rw (same, long)
 
-  pub found-none : (rs : List ℕ) → answer ≡ firstOf rs → answer ≡ found.Nothing → fetching.Stopped NoRun ≡ fetched n (oneOf lowest rs)
-  unfolding firstOf oneOf fetched
+  pub found-none : (rs : List ℕ) → answer ≡ firstOf rs → answer ≡ found.Nothing → fetching.Stopped NoRun ≡ fetched n (firstRun rs)
+  unfolding firstOf firstRun fetched
   found-none [] is at = refl
   found-none (r ∷ rs) is at = let never : _≡_ {A = ℕ} 0 1 = cc in absurd (omega arith)
 
@@ -138,7 +136,7 @@ pub run-deliverable : (b : ℕ) (w : World) (a : Location) → Readable b w → 
 unfolding lowestRun
 run-deliverable b w a h reached j low is {address} {m} to =
     let (run, same) = run-is (size j) (lowestRun (w .setup) (w .map) (size j)) is to in
-    let mem = one-of-runs lowest lowest-choice _ address run in
+    let mem = one-of-runs _ address run in
     record {
       fits = run-fits _ _ _ _ _ (size-pos j) (h .numbers) mem;
       place = j;

@@ -9,7 +9,7 @@ use lib.ListN.{length, getD, take, drop}
 use Rattle.character.specs.Character.{packed, allBelow}
 use Rattle.block.specs.declared.SetUp.{SetUp}
 use Rattle.block.specs.Blocks.{size, level, sizeAt}
-use Rattle.block.specs.SetUp.{top, fitting, runs}
+use Rattle.block.specs.SetUp.{top, fitting}
 use Rattle.block.specs.Map.{live}
 use Rattle.table.specs.declared.FieldName.{FieldName}
 use Rattle.table.specs.declared.Pair.{Pair}
@@ -19,8 +19,7 @@ use Rattle.machine.specs.declared.Refusal.the-variants.{SetUpNumbers, InputByte
 use Rattle.machine.specs.Answer.{Checked, refused, passed, _>>=_, _>>_, need}
 use Rattle.machine.specs.Sound.{inRange}
 use Rattle.machine.specs.Locate.{World, Value, contents, read, locate, operand}
-use Rattle.machine.specs.Operations.{Operation, own, computes, operationOf, asked, oneOf, liesIn}
-use Rattle.machine.specs.Step.{lowest}
+use Rattle.machine.specs.Operations.{Operation, own, computes, operationOf, asked, lowestRun, liesIn}
 use Rattle.operands.specs.declared.Pending.the-variants.{Delivery}
 use Rattle.operands.specs.Storing.{bugsStored}
 use Rattle.operands.specs.Through.{through}
@@ -55,10 +54,6 @@ definePlan b w row = do
 -- the size of the live block at an address, 0 if there is none
 abbrev pub sizeOf : World → ℕ → ℕ
 sizeOf w a = sizeAt a (live (w .setup) (w .map))
-
--- the lowest aligned run of n words outside the live blocks: 17
-unfoldable pub lowestRun : SetUp → List ℕ → ℕ → Checked ℕ
-lowestRun u m n = oneOf lowest (runs n u (live u m))
 
 -- what references read after a delivery, its address stored in a
 unfoldable pub afterDelivery : ℕ → ℕ → ℕ → Location → World → World

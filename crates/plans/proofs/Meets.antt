@@ -1,4 +1,4 @@
--- A plan, with the effects that its action stands for, is the plan of the machine's definitions with the lowest run for each delivery.
+-- A plan, with the effects that its action stands for, is the plan of the machine's definitions.
 -- Assumes nothing.
 use Prim.Native.Nat.{ℕ, _-_, _≤_, _<_}
 use native.Mathlib.Omega.{arith}
@@ -22,16 +22,16 @@ use Rattle.machine.specs.Sound.{Lent, Engine}
 use Rattle.machine.specs.Locate.{World, Value, world, definitionOf, contents, locate, operand}
 use Rattle.machine.specs.Test.{satisfied}
 use Rattle.machine.specs.Effects.{Effects, quietly, engineAfter}
-use Rattle.machine.specs.Operations.{Given, Meaning, Operation, own, computes, makes, operations, operationOf, meaningOf, meaning, setUp, theName, define, get, getWants, chosen, free, duplicate, duplicateWants, interchange, computing, input, print, saveContents, restoreContents, saveDefinition, restoreDefinition, do-line, andStoring}
+use Rattle.machine.specs.Operations.{Given, Meaning, Operation, own, computes, makes, operations, operationOf, meaningOf, meaning, setUp, theName, define, get, getWants, lowestRun, free, duplicate, duplicateWants, interchange, computing, input, print, saveContents, restoreContents, saveDefinition, restoreDefinition, do-line, andStoring}
 use Rattle.machine.specs.Operations as machine
-use Rattle.machine.specs.Step.{goingTo, testsStep, inTurn, given, operationStep, return, exitStep, plan, operationOrExit, lowest}
+use Rattle.machine.specs.Step.{goingTo, testsStep, inTurn, given, operationStep, return, exitStep, plan, operationOrExit}
 use Rattle.machine.proofs.Checks.{need-bind, bind-bind, bind-same, cond-bind, need-when, need-same, need-yes, bind-yes, bind-no, clash}
 use Rattle.machine.proofs.Facts.{Facts}
 use Rattle.machine.proofs.Located.{located}
 use Rattle.operations.specs.declared.Action.{Action}
 use Rattle.operations.specs.declared.Action.the-variants.{Store}
 use Rattle.operations.specs.Seen.{sight}
-use Rattle.operations.specs.Plans.{setUpPlan, defining, definePlan, sizeOf, lowestRun, afterDelivery, delivering, getting, freeing, duplicating, taking, valueOf, valueBy, Computes, storing, acting, twoPlan, swapPlan, printing, printPlan, contentsPlan, recordPlan, stackPlan, planOf}
+use Rattle.operations.specs.Plans.{setUpPlan, defining, definePlan, sizeOf, afterDelivery, delivering, getting, freeing, duplicating, taking, valueOf, valueBy, Computes, storing, acting, twoPlan, swapPlan, printing, printPlan, contentsPlan, recordPlan, stackPlan, planOf}
 use Rattle.plans.specs.Steps.{Plan, testsPlan, orderedPlan, operationPlan, exitPlan, stepPlan}
 use Rattle.operations.specs.Effects.{effects}
 use Rattle.plans.proofs.Shapes.{allBelow, at-below, operates}
@@ -75,7 +75,7 @@ past-five code low two three four five = omega arith
 -- the operation of a row, of an engine that stands at the place after it
 module _ (b : ℕ) (row : Row) (l : Lent) (e : Engine) where
   abbrev g : Given
-  g = record { row = row; lent = l; engine = e; choose = lowest }
+  g = record { row = row; lent = l; engine = e }
 
   abbrev carried : Action → Checked Effects
   carried x = passed (effects b x (e .state))
@@ -174,7 +174,7 @@ module _ (b : ℕ) (row : Row) (l : Lent) (e : Engine) where
 
   get-as : ((a : Location) → locate b (world e) (row .first) ≡ passed a → NotNull a) → row .code ≡ 3
       → As (twoPlan b (world e) (e .state .core .taken) (l .input) row) get
-  unfolding acting getting get getWants lowestRun chosen world _>>=_
+  unfolding acting getting get getWants lowestRun world _>>=_
   get-as sure is =
       two-then
       (λ a at x. rw is
@@ -196,7 +196,7 @@ module _ (b : ℕ) (row : Row) (l : Lent) (e : Engine) where
 
   -- 5 duplicate
   duplicate-as : row .code ≡ 5 → As (twoPlan b (world e) (e .state .core .taken) (l .input) row) duplicate
-  unfolding acting duplicating duplicate duplicateWants lowestRun chosen effects world _>>=_
+  unfolding acting duplicating duplicate duplicateWants lowestRun effects world _>>=_
   duplicate-as is =
       two-then
       (λ a at x. rw is
@@ -344,14 +344,14 @@ module _ (b : ℕ) (l : Lent) (e : Engine) (h : Facts b e) where
 
   ordered-as : usable 3 b (l .table) (e .state .core .place .row) ≡ true
       → (orderedPlan b (sight l e) (l .table) (e .state .core .place .row) >>= λ x. passed (effects b x (after .state)))
-      ≡ (inTurn (rowAt (l .table) (e .state .core .place .row) .code) e >> meaning (rowAt (l .table) (e .state .core .place .row) .code) b (given lowest l e))
+      ≡ (inTurn (rowAt (l .table) (e .state .core .place .row) .code) e >> meaning (rowAt (l .table) (e .state .core .place .row) .code) b (given l e))
   unfolding orderedPlan inTurn isSetUp given world onCore movedTo
   ordered-as u =
       let row = rowAt (l .table) (e .state .core .place .row) in
       let d = e .state .core .setup .d in
       by-eqb (λ t. (cond t (need (eqb d 0) SecondSetUp >> setUpPlan (length (e .storage)) row)
       (need (not (eqb d 0)) BeforeSetUp >> planOf b (sight l e) row) >>= λ x. passed (effects b x (after .state)))
-      ≡ (cond t (need (not (not (eqb d 0))) SecondSetUp) (need (not (eqb d 0)) BeforeSetUp) >> meaning (row .code) b (given lowest l e))) (row .code) 1
+      ≡ (cond t (need (not (not (eqb d 0))) SecondSetUp) (need (not (eqb d 0)) BeforeSetUp) >> meaning (row .code) b (given l e))) (row .code) 1
       (λ one.
       need-bind (eqb d 0) SecondSetUp (setUpPlan (length (e .storage)) row) _
       ∙ ap (λ (t : Bool). need t SecondSetUp >> (setUpPlan (length (e .storage)) row >>= λ x. passed (effects b x (after .state)))) (not-not (eqb d 0))
@@ -361,7 +361,7 @@ module _ (b : ℕ) (l : Lent) (e : Engine) (h : Facts b e) where
       need-bind (not (eqb d 0)) BeforeSetUp (planOf b (sight l e) row) _
       ∙ need-same _ _ (planned-as b row l after (λ a at. not-null b e h a (located b e (h .core) (row .first) a at)) (k .low) (k .high)))
 
-  operation-as : (operationPlan b (sight l e) (l .table) (e .state .core .place) >>= moved b e) ≡ operationStep b lowest l e
+  operation-as : (operationPlan b (sight l e) (l .table) (e .state .core .place) >>= moved b e) ≡ operationStep b l e
   unfolding operationPlan operationStep _>>=_
   operation-as =
       let row = rowAt (l .table) (e .state .core .place .row) in
@@ -371,7 +371,7 @@ module _ (b : ℕ) (l : Lent) (e : Engine) (h : Facts b e) where
       (λ x. passed (record { to = operationOrExit (row .next) (e .state .core .place .line); action = x })) (moved b e)
       ∙ ordered-as u)
 
-  pub plan-as : lengthFits (l .table) ≡ true → (stepPlan b (sight l e) (l .table) (e .state .core .place) >>= moved b e) ≡ plan b lowest l e
+  pub plan-as : lengthFits (l .table) ≡ true → (stepPlan b (sight l e) (l .table) (e .state .core .place) >>= moved b e) ≡ plan b l e
   unfolding stepPlan plan
   plan-as fits =
       let kind = e .state .core .place .kind in
@@ -380,9 +380,9 @@ module _ (b : ℕ) (l : Lent) (e : Engine) (h : Facts b e) where
 
   -- by what a plan comes to
   pub plan-passed : lengthFits (l .table) ≡ true → {p : Plan} → stepPlan b (sight l e) (l .table) (e .state .core .place) ≡ passed p
-      → plan b lowest l e ≡ passed (effects b (p .action) (onCore (movedTo (p .to)) (e .state)))
+      → plan b l e ≡ passed (effects b (p .action) (onCore (movedTo (p .to)) (e .state)))
   plan-passed fits k = sym (plan-as fits) ∙ bind-yes _ (moved b e) k
 
   pub plan-refused : lengthFits (l .table) ≡ true → {r : Refusal} → stepPlan b (sight l e) (l .table) (e .state .core .place) ≡ refused r
-      → plan b lowest l e ≡ refused r
+      → plan b l e ≡ refused r
   plan-refused fits k = sym (plan-as fits) ∙ bind-no _ (moved b e) k

@@ -11,7 +11,7 @@ use Rattle.machine.specs.declared.State.{State}
 use Rattle.machine.specs.declared.Stepped.{Stepped}
 use Rattle.machine.specs.State.{fresh, isFinished}
 use Rattle.machine.specs.Sound.{Lent, Engine}
-use Rattle.machine.specs.Step.{Outcome, RunOutcome, step, run, lowest}
+use Rattle.machine.specs.Step.{Outcome, RunOutcome, step, run}
 use Rattle.layout.specs.Layout.{stateLength, bytesOfState, stateOf}
 use Rattle.player.specs.Calls.{stepCall, runCall, code, moved, bytesAfter, engineAt, FreshLeft, freshLeft, numbersOfReport, StepLeft, afterStep, noStep, stepLeft, RunLeft, afterRun, noRun, runLeft, wrongState, wrongReport}
 use Rattle.player.proofs.Moving.{step-kept, run-kept}
@@ -33,11 +33,11 @@ module _ (l : Lent) (storage bytes report : List ℕ) where
 
   -- what the engine's step leaves, of a state that was read, and what is made of it
   module _ {before : State} {stepped : Stepped} {storage' output' bytes' : List ℕ} (read : before ≡ stateOf bytes)
-      (is : _≡_ {A = Outcome} (record { stepped = stepped; storage = storage'; output = output' }) (step 36 lowest l (record { state = before; storage = storage })))
+      (is : _≡_ {A = Outcome} (record { stepped = stepped; storage = storage'; output = output' }) (step 36 l (record { state = before; storage = storage })))
       (kept : bytes' ≡ cond (moved (eqb (before .core .place .kind) 3) (stepped .answer) 1) (bytesOfState (stepped .state)) bytes) where
     called : _≡_ {A = Outcome} (record { stepped = stepped; storage = storage'; output = output' }) (stepCall l (engineAt bytes storage))
     unfolding stepCall
-    called = is ∙ ap (λ (s : State). step 36 lowest l (record { state = s; storage = storage })) read
+    called = is ∙ ap (λ (s : State). step 36 l (record { state = s; storage = storage })) read
 
     pub step-leaves : {report' : List ℕ} {answer : ℕ} → length bytes ≡ stateLength → length report ≡ 12 → report' ≡ numbersOfReport (stepped .report) → answer ≡ code (stepped .answer)
         → _≡_ {A = StepLeft} (record { answer = answer; storage = storage'; output = output'; state = bytes'; report = report' }) (stepLeft l storage bytes report)
@@ -65,11 +65,11 @@ module _ (limit : ℕ) (l : Lent) (storage bytes : List ℕ) where
 
   -- what the engine's run leaves
   module _ {before : State} {ran : Ran} {storage' output' bytes' : List ℕ} (read : before ≡ stateOf bytes)
-      (is : _≡_ {A = RunOutcome} (record { ran = ran; storage = storage'; output = output' }) (run 36 (λ i. lowest) limit l (record { state = before; storage = storage })))
+      (is : _≡_ {A = RunOutcome} (record { ran = ran; storage = storage'; output = output' }) (run 36 limit l (record { state = before; storage = storage })))
       (kept : bytes' ≡ cond (moved (eqb (before .core .place .kind) 3) (ran .answer) (ran .count)) (bytesOfState (ran .state)) bytes) where
     run-called : _≡_ {A = RunOutcome} (record { ran = ran; storage = storage'; output = output' }) (runCall limit l (engineAt bytes storage))
     unfolding runCall
-    run-called = is ∙ ap (λ (s : State). run 36 (λ i. lowest) limit l (record { state = s; storage = storage })) read
+    run-called = is ∙ ap (λ (s : State). run 36 limit l (record { state = s; storage = storage })) read
 
     pub run-leaves : (count : ℕ) {answer : ℕ} → length bytes ≡ stateLength → answer ≡ code (ran .answer)
         → _≡_ {A = RunLeft} (record { answer = answer; storage = storage'; output = output'; state = bytes'; count = ran .count }) (runLeft limit l storage bytes count)

@@ -16,15 +16,15 @@ use Rattle.machine.specs.declared.Store.{Store}
 use Rattle.machine.specs.Answer.{refusalNumber}
 use Rattle.machine.specs.State.{fresh, isFinished}
 use Rattle.machine.specs.Sound.{Lent, Engine}
-use Rattle.machine.specs.Step.{Outcome, RunOutcome, step, run, lowest}
+use Rattle.machine.specs.Step.{Outcome, RunOutcome, step, run}
 use Rattle.layout.specs.Layout.{stateLength, bytesOfState, stateOf}
 
 -- a step of the engine, and a run
 unfoldable pub stepCall : Lent → Engine → Outcome
-stepCall = step 36 lowest
+stepCall = step 36
 
 unfoldable pub runCall : ℕ → Lent → Engine → RunOutcome
-runCall = run 36 (λ i. lowest)
+runCall = run 36
 
 -- the number of an answer: 0 running, 100 finished, document 01's number of a refusal
 unfoldable pub code : Answer → ℕ

@@ -10,8 +10,7 @@ use lib.ListN.{length, take, replicate}
 use lib.Seq.{take-all}
 use Rattle.machine.specs.declared.State.{State}
 use Rattle.machine.specs.State.{fresh}
-use Rattle.machine.specs.Step.{RunOutcome, run, lowest, engineRan}
-use Rattle.machine.proofs.Steps.{lowest-choice}
+use Rattle.machine.specs.Step.{RunOutcome, run, engineRan}
 use Rattle.machine.proofs.Fresh.{fresh-sound}
 use Rattle.machine.proofs.Soundness.{run-keeps-sound, counts-fit, lentRan}
 use Rattle.tour.specs.Tour.{tableOf, played, codes, lines, printed}
@@ -33,7 +32,7 @@ take-least n xs =
 -- the run of what was read
 pub run-played : (tab stops first : List ℕ) {table : List ℕ} {count given : ℕ} {state : State} {r : RunOutcome} → count ≡ length (tableOf tab)
     → table ≡ putBefore count (tableOf tab) first → given ≡ min (length stops) 4096 → state ≡ fresh
-    → r ≡ run 36 (λ i. lowest) 100000 (record { table = take count table; input = take given stops; output = replicate 4096 0 })
+    → r ≡ run 36 100000 (record { table = take count table; input = take given stops; output = replicate 4096 0 })
     (record { state = state; storage = replicate 4096 0 })
     → r ≡ played tab stops
 unfolding played
@@ -44,7 +43,7 @@ pub written-fits : (tab stops : List ℕ) {r : RunOutcome} → r ≡ played tab 
 unfolding played run engineRan lentRan
 written-fits tab stops is =
     rw is
-    (counts-fit 36 _ _ (run-keeps-sound 36 (λ i. lowest) (λ i. lowest-choice) 0 100000 _ _ (fresh-sound 36 _ _)) .1)
+    (counts-fit 36 _ _ (run-keeps-sound 36 0 100000 _ _ (fresh-sound 36 _ _)) .1)
 
 -- what is printed of it
 pub printed-is : (tab stops : List ℕ) {r : RunOutcome} → r ≡ played tab stops → lines (codes r) (r .ran .answer) (r .ran .count) ≡ printed tab stops

@@ -10,7 +10,7 @@ use Rattle.machine.specs.declared.Answer.{Answer}
 use Rattle.machine.specs.declared.Answer.the-variants.{Running, Finished, Refused}
 use Rattle.machine.specs.Answer.{refusalNumber}
 use Rattle.machine.specs.State.{fresh}
-use Rattle.machine.specs.Step.{RunOutcome, run, lowest}
+use Rattle.machine.specs.Step.{RunOutcome, run}
 
 -- the first n numbers of eight bytes, low first
 unfoldable pub numbers : ℕ → List ℕ → List ℕ
@@ -24,7 +24,7 @@ tableOf tab = cond (eqb (length tab % 8) 0 && leb (length tab) 64000) (numbers (
 -- 100,000 steps of a fresh engine over 4,096 words, with the first 4,096 bytes of stops.in and 4,096 output bytes
 unfoldable pub played : List ℕ → List ℕ → RunOutcome
 played tab stops =
-    run 36 (λ i. lowest) 100000 (record { table = tableOf tab; input = take 4096 stops; output = replicate 4096 0 })
+    run 36 100000 (record { table = tableOf tab; input = take 4096 stops; output = replicate 4096 0 })
     (record { state = fresh; storage = replicate 4096 0 })
 
 -- the codes written

@@ -1,7 +1,7 @@
 -- `operations::blocks::fetch` meets its contract: the lowest run, or none. Assumes nothing.
 use native.Mathlib.Omega.{arith}
 use Rattle.block.proofs.Size.{top-le}
-use Rattle.operations.specs.Plans.{lowestRun}
+use Rattle.machine.specs.Operations.{lowestRun}
 use Rattle.operations.proofs.Doing.{found-run, found-none}
 use borrow.Author.Needs.{needs}
 use Rattle.operations.proofs.blocks.fetch.Statement.{statement}
