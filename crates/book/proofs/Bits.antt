@@ -12,7 +12,7 @@ use lib.ListN.{length, getD, set, take, drop, replicate, length-replicate, lengt
 use lib.Seq.{getD-set-same, getD-set-other, getD-take, getD-drop}
 use Rattle.word.specs.Word.{bit}
 use Rattle.word.specs.Field.{kept, stored}
-use Rattle.word.proofs.Field.{bit-stored-inside, bit-stored-left, bit-stored-right}
+use Rattle.word.proofs.Field.{bit-stored}
 use Rattle.block.specs.Blocks.{sizeAt}
 use Rattle.word.proofs.Tests.{by-leb, by-eqb}
 use Rattle.block.proofs.Each.{Each, each-nil, each-cons}
@@ -26,19 +26,13 @@ abbrev pub BlockBits : ℕ → ℕ → List ℕ → LiveBlock → Type 0
 BlockBits b s1 ws x =
     (i p : ℕ) → i < x .block .size → p < b → bit b (wordAt s1 (x .block .address + i) ws) p ≡ x .bits i p
 
--- a store into a field with its right bit in the word, as a choice of bits
+-- a store into a field with its right bit in the word, bit by bit
 module _ (b : ℕ) (s : Store) (r : s .right < b) (k : s .bits ≡ kept (s .left) (s .right) (s .bits)) (w p : ℕ) (inWord : p < b) where
   stored-bit : bit b (stored b (s .left) (s .right) w (s .bits)) p
       ≡ cond (leb (s .left) p && leb p (s .right)) (s .bits / 2 ^ (s .right - p) % 2) (bit b w p)
   stored-bit =
-      by-leb (λ t. bit b (stored b (s .left) (s .right) w (s .bits)) p ≡ cond (t && leb p (s .right)) (s .bits / 2 ^ (s .right - p) % 2) (bit b w p))
-      (s .left) p
-      (λ low. by-leb (λ t. bit b (stored b (s .left) (s .right) w (s .bits)) p ≡ cond t (s .bits / 2 ^ (s .right - p) % 2) (bit b w p)) p (s .right)
-      (λ high. bit-stored-inside b (s .left) (s .right) w (s .bits) p r low high ∙ ap (λ n. n / 2 ^ (s .right - p) % 2) (sym k))
-      (λ high. bit-stored-right b (s .left) (s .right) w (s .bits) p high inWord))
-      (λ low. by-leb (λ t. leb p (s .right) ≡ t → bit b (stored b (s .left) (s .right) w (s .bits)) p ≡ bit b w p) p (s .right)
-      (λ high q. bit-stored-left b (s .left) (s .right) w (s .bits) p r low high)
-      (λ high q. bit-stored-right b (s .left) (s .right) w (s .bits) p high inWord) refl)
+      bit-stored b (s .left) (s .right) w (s .bits) p r inWord
+      ∙ ap (λ n. cond (leb (s .left) p && leb p (s .right)) (n / 2 ^ (s .right - p) % 2) (bit b w p)) (sym k)
 
 -- one live block through a store at an address of the storage
 pub store-bits : (b s1 : ℕ) (s : Store) (ws : List ℕ) → s .right < b → s .bits ≡ kept (s .left) (s .right) (s .bits)

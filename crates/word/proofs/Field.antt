@@ -1,13 +1,16 @@
 -- Laws of a field of a word: how large what it reads and what a store leaves are, that a read after a store gives the bits kept,
 -- and that a store changes no bit outside the field. The null field (left > right) is included. Assumes nothing.
-use mathlib.Core.Path.{_≡_, sym, ap, _∙_}
+use mathlib.Core.Bool.{_&&_, cond}
+use mathlib.Core.Path.{_≡_, sym, ap, _∙_, subst⁻¹}
 use Prim.Native.Nat.{ℕ, zero, suc, _+_, _-_, _*_, _/_, _%_, _^_, _≤_, _<_}
 use native.Mathlib.Nat.{le-of-eq, lt-of-lt-of-le, add-assoc, zero-add, add-zero, zero-mul, sub-self, sub-add-cancel, div-one, mod-one, mod-lt, mod-mod, div-add-mod'}
 use native.Mathlib.Omega.{arith}
 use lib.Arith.{digits-lt}
+use lib.Dec.{leb}
 use lib.Pow.{pow-pos, pow-mono, pow-add, shr-lt, shr-shr, high, low, field, mod-mod-pow}
 use Rattle.word.specs.Word.{bit}
 use Rattle.word.specs.Field.{width, shift, fieldOf, kept, stored}
+use Rattle.word.proofs.Tests.{by-leb}
 
 -- the bit at place k, counted from the right, is one of the s low bits if k is below s
 pub low-bit : (x k s : ℕ) → k < s → x % 2 ^ s / 2 ^ k % 2 ≡ x / 2 ^ k % 2
@@ -41,6 +44,32 @@ pub kept-kept : (left right v : ℕ) → kept left right (kept left right v) ≡
 unfolding kept
 kept-kept left right v = mod-mod v (2 ^ width left right)
 
+-- a word x that has k in the n places left of the s last, and every other bit of w: what stands left of those places, in them and right
+-- of them, and that it is no longer than w and those places are
+pub record NewWord (n s w k x : ℕ) : Type 0 where
+  pub left : x / 2 ^ (n + s) ≡ w / 2 ^ (n + s)
+  pub field : x / 2 ^ s % 2 ^ n ≡ k
+  pub right : x % 2 ^ s ≡ w % 2 ^ s
+  pub small : (m : ℕ) → n + s ≤ m → w < 2 ^ m → x < 2 ^ m
+
+-- the word that a store makes by arithmetic with the width n; for n = 0 the weight 2 ^ n is 1, and nothing is kept
+pub new-word : (n s w k : ℕ) → k < 2 ^ n → NewWord n s w k (w / 2 ^ (n + s) * 2 ^ (n + s) + k * 2 ^ s + w % 2 ^ s)
+new-word n s w k fits =
+    let rest : k * 2 ^ s + w % 2 ^ s < 2 ^ (n + s) = rw pow-add (digits-lt fits (mod-lt w (pow-pos s))) in
+    let cut : w / 2 ^ (n + s) * 2 ^ (n + s) + k * 2 ^ s + w % 2 ^ s ≡ (w / 2 ^ (n + s) * 2 ^ n + k) * 2 ^ s + w % 2 ^ s = rw pow-add (omega arith) in
+    record {
+      left = rw add-assoc (high _ (n + s) rest);
+      field = rw (cut, high _ s (mod-lt w (pow-pos s))) (low _ n fits);
+      right = rw cut (low _ s (mod-lt w (pow-pos s)));
+      small = λ m inside short.
+          let e : m - (n + s) + (n + s) ≡ m = sub-add-cancel inside in
+          rw add-assoc (lt-of-lt-of-le (digits-lt (shr-lt (m - (n + s)) (n + s) (subst⁻¹ (λ (i : ℕ). w < 2 ^ i) e short)) rest) (le-of-eq (rw (← pow-add, e))));
+    }
+
+-- numbers with the same parts are the same
+parts-same : (s : ℕ) {x y : ℕ} → x / 2 ^ s ≡ y / 2 ^ s → x % 2 ^ s ≡ y % 2 ^ s → x ≡ y
+parts-same s {x} {y} left right = sym (div-add-mod' x (2 ^ s)) ∙ ap (λ (n : ℕ). n * 2 ^ s + x % 2 ^ s) left ∙ ap (λ (n : ℕ). y / 2 ^ s * 2 ^ s + n) right ∙ div-add-mod' y (2 ^ s)
+
 module _ (b left right : ℕ) where
   -- a field is no wider than its word
   pub width-le : right < b → width left right ≤ b
@@ -67,46 +96,27 @@ module _ (b left right : ℕ) where
     unfolding stored
     stored-kept = rw kept-kept
 
-    -- the null field stores nothing
+    -- the new word's parts, over the width of the field, 0 included
+    pub stored-word : NewWord (width left right) (shift b right) w (kept left right v) (stored b left right w v)
+    unfolding stored
+    stored-word = new-word (width left right) (shift b right) w (kept left right v) (kept-lt left right v)
+
+    -- the null field stores nothing: there is no place between what is left and what is right of it
     pub stored-null : width left right ≡ 0 → stored b left right w v ≡ w
-    unfolding stored kept
-    stored-null e = rw e (simp (zero-add, mod-one, zero-mul, add-zero, div-add-mod'))
-
-    -- a stored word, split at the right end of the field
-    shape : stored b left right w v
-        ≡ (w / 2 ^ (width left right + shift b right) * 2 ^ width left right + kept left right v) * 2 ^ shift b right + w % 2 ^ shift b right
-    unfolding stored
-    shape = rw pow-add (omega arith)
-
-    -- right of the field a stored word is the word
-    stored-low : stored b left right w v % 2 ^ shift b right ≡ w % 2 ^ shift b right
-    stored-low = rw shape (low _ (shift b right) (mod-lt w (pow-pos (shift b right))))
-
-    -- the bits kept and those right of the field fit their places
-    pub rest-lt : kept left right v * 2 ^ shift b right + w % 2 ^ shift b right < 2 ^ (width left right + shift b right)
-    rest-lt = rw pow-add (digits-lt (kept-lt left right v) (mod-lt w (pow-pos (shift b right))))
-
-    -- left of the field a stored word is the word
-    stored-high : stored b left right w v / 2 ^ (width left right + shift b right) ≡ w / 2 ^ (width left right + shift b right)
-    unfolding stored
-    stored-high = rw add-assoc (high _ (width left right + shift b right) rest-lt)
+    stored-null e = parts-same (shift b right) (simp (e, zero-add) at (stored-word .left)) (stored-word .right)
 
     -- a store into a word leaves a word
     pub stored-lt : right < b → w < 2 ^ b → stored b left right w v < 2 ^ b
-    unfolding stored
-    stored-lt h l =
-        let r = width left right + shift b right in
-        let e : b - r + r ≡ b = sub-add-cancel (width-shift-le h) in
-        rw add-assoc (lt-of-lt-of-le (digits-lt (shr-lt (b - r) r (rw (← e) at l)) rest-lt) (le-of-eq (rw (← pow-add, e))))
+    stored-lt h = stored-word .small b (width-shift-le h)
 
     -- a read after a store gives the bits kept
     pub field-stored : fieldOf b left right (stored b left right w v) ≡ kept left right v
     unfolding fieldOf
-    field-stored = rw (shape, high _ (shift b right) (mod-lt w (pow-pos (shift b right)))) (low _ (width left right) (kept-lt left right v))
+    field-stored = stored-word .field
 
     module _ (p : ℕ) where
       -- after a store the field has the bits kept
-      pub bit-stored-inside : right < b → left ≤ p → p ≤ right → bit b (stored b left right w v) p ≡ kept left right v / 2 ^ (right - p) % 2
+      bit-stored-inside : right < b → left ≤ p → p ≤ right → bit b (stored b left right w v) p ≡ kept left right v / 2 ^ (right - p) % 2
       unfolding bit fieldOf
       bit-stored-inside h l m =
           let e : b - suc p ≡ shift b right + (right - p) = unfold shift in omega arith in
@@ -114,16 +124,26 @@ module _ (b left right : ℕ) where
           rw (e, ← shr-shr) (sym (low-bit _ _ _ u) ∙ ap (λ (x : ℕ). x / 2 ^ (right - p) % 2) field-stored)
 
       -- a store changes no bit right of the field
-      pub bit-stored-right : right < p → p < b → bit b (stored b left right w v) p ≡ bit b w p
+      bit-stored-right : right < p → p < b → bit b (stored b left right w v) p ≡ bit b w p
       unfolding bit
       bit-stored-right h l =
           let u : b - suc p < shift b right = unfold shift in omega arith in
-          rw (← low-bit w _ _ u, ← low-bit (stored b left right w v) _ _ u, stored-low)
+          rw (← low-bit w _ _ u, ← low-bit (stored b left right w v) _ _ u, stored-word .right)
 
       -- a store changes no bit left of the field; of the null field, none up to its right end
-      pub bit-stored-left : right < b → p < left → p ≤ right → bit b (stored b left right w v) p ≡ bit b w p
+      bit-stored-left : right < b → p < left → p ≤ right → bit b (stored b left right w v) p ≡ bit b w p
       unfolding bit
       bit-stored-left h l m =
           let r = width left right + shift b right in
           let e : b - suc p ≡ r + (b - suc p - r) = unfold shift width in omega arith in
-          rw e (simp (← shr-shr, stored-high))
+          rw e (simp (← shr-shr, stored-word .left))
+
+      -- each bit of a stored word: one of the bits kept from left to right, and the word's own elsewhere
+      pub bit-stored : right < b → p < b
+          → bit b (stored b left right w v) p ≡ cond (leb left p && leb p right) (kept left right v / 2 ^ (right - p) % 2) (bit b w p)
+      bit-stored h inside =
+          let new = bit b (stored b left right w v) p in
+          let kept-bit = kept left right v / 2 ^ (right - p) % 2 in
+          by-leb (λ t. new ≡ cond (t && leb p right) kept-bit (bit b w p)) left p
+          (λ low. by-leb (λ t. new ≡ cond t kept-bit (bit b w p)) p right (bit-stored-inside h low) (λ past. bit-stored-right past inside))
+          (λ low. by-leb (λ t. new ≡ bit b w p) p right (bit-stored-left h low) (λ past. bit-stored-right past inside))

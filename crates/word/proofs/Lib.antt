@@ -4,4 +4,3 @@ pub mod Field
 pub mod Modulo
 pub mod Bitwise
 pub mod Places
-pub mod Store

@@ -1,10 +1,11 @@
--- `word::fields::store_field` meets its contract. The whole sum is the definition's, which fits, and so does each part of it. Assumes nothing.
+-- `word::fields::store_field` meets its contract. The whole sum is the definition's; by the law of the new
+-- word it fits, and so does each part of it. Assumes nothing.
 use mathlib.Core.Path.{subst⁻¹}
 use Prim.Native.Nat.{ℕ, _^_, _<_}
 use native.Mathlib.Omega.{arith}
 use borrow.Author.Needs.{needs}
 use Rattle.word.specs.Field.{width, shift, stored}
-use Rattle.word.proofs.Store.{stored-fits}
+use Rattle.word.proofs.Field.{width-shift-le, stored-word}
 use Rattle.word.proofs.fields.store_field.Statement.{statement}
 use Rattle.word.proofs.fields.store_field.Tie as tie
 
@@ -55,7 +56,7 @@ add-result-2 c =
     let s = c .before .before .before .before .before .before in
     let a = s .args in
     record {
-      fits = subst⁻¹ (λ (n : ℕ). n < 2 ^ 64) (returns c) (stored-fits (a .b) (a .left) (a .right) (s .pre .1) (s .pre .0) (a .w) (a .v) (s .fits .w .fits));
+      fits = subst⁻¹ (λ (n : ℕ). n < 2 ^ 64) (returns c) (stored-word (a .b) (a .left) (a .right) (a .w) (a .v) .small 64 (omega (arith, s .pre .0, width-shift-le (a .b) (a .left) (a .right) (s .pre .1))) (s .fits .w .fits));
     }
 
 add-result : tie.Need-add-result
