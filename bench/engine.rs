@@ -33,6 +33,7 @@ pub enum Refusal {
     StackFull,
     StackEmpty,
     OutputFull,
+    SubtrahendGreater,
 }
 use Refusal::*;
 
@@ -421,7 +422,7 @@ fn compute(code: u64, x: u64, x_width: u32, y: u64, y_width: u32) -> Checked<u64
     let value = match code {
         6 => y,
         8 => x.wrapping_add(y),
-        9 => x.wrapping_sub(y),
+        9 => x.checked_sub(y).ok_or(SubtrahendGreater)?,
         10 => x.wrapping_mul(y),
         11 => x.checked_div(y).ok_or(ZeroDivisor)?,
         12 => x | y,

@@ -1,7 +1,7 @@
 //! The program of the engine written for speed, in a folder with tour.tab and stops.in.
 //!   rival run LIMIT CALLS   so many calls of run, one where CALLS is left out
 //!   rival step CALLS        so many calls of step
-//! Both print what the program laps prints: the last answer's number (0 running, 22 finished), the count of steps and a
+//! Both print what the program laps prints: the last answer's number (0 running, 100 finished), the count of steps and a
 //! checksum over the reports of the calls of step, the bugs and the storage.
 //!   rival tour              what tourrun prints
 mod engine;
@@ -84,7 +84,7 @@ fn main() {
     };
     let told = match answer {
         Answer::Running => 0,
-        Answer::Finished => 22,
+        Answer::Finished => 100,
         Answer::Refused(refusal) => refusal as u64,
     };
     let sum = state.bugs.iter().chain(&storage).copied().fold(reports, fold);

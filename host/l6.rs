@@ -21,7 +21,7 @@ use std::fmt;
 pub const STATE_LENGTH: usize = 6675;
 const REPORT_LENGTH: usize = 12;
 
-/// Why a step is refused: document 01's refusals, with its numbers. As text it is explained in words.
+/// Why a step is refused: the refusals of document 01 and of the later tickets, with their numbers. As text it is explained in words.
 #[derive(Clone, Copy, Debug, PartialEq, Eq)]
 pub enum Refusal {
     TableLength = 1,
@@ -45,11 +45,12 @@ pub enum Refusal {
     StackFull,
     StackEmpty,
     OutputFull,
+    SubtrahendGreater,
 }
 use Refusal::*;
 
 /// Every refusal, and what it means.
-pub const REFUSALS: [(Refusal, &str); 21] = [
+pub const REFUSALS: [(Refusal, &str); 22] = [
     (TableLength, "the table has fewer than 20 numbers, more than 8,000, or no multiple of ten"),
     (BadRow, "the row, or a test of it, is missing, ill-formed or of another kind than is needed here"),
     (SetUpNumbers, "the set-up's numbers are not allowed, or ask for more words than there are"),
@@ -71,10 +72,11 @@ pub const REFUSALS: [(Refusal, &str); 21] = [
     (StackFull, "a stack has 128 entries already"),
     (StackEmpty, "a stack has no entry to restore or to return to"),
     (OutputFull, "there is no room for more output"),
+    (SubtrahendGreater, "a subtraction below zero"),
 ];
 
 impl Refusal {
-    /// Document 01's number.
+    /// Its number.
     pub fn number(self) -> u64 {
         self as u64
     }

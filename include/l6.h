@@ -27,7 +27,8 @@ extern "C" {
 
 /* ---------------------------------------------------------------- answers */
 
-/* What the calls answer. From 1 to 99 they are document 01's refusals, with its numbers; a refused step changes nothing. l6_words
+/* What the calls answer. From 1 to 99 they are the refusals of document 01 and of the later tickets, with
+ * their numbers; a refused step changes nothing. l6_words
  * has each of them in words. */
 enum {
     L6_RUNNING = 0,           /* the tour can go on; from calls other than l6_step and l6_run: done */
@@ -53,6 +54,7 @@ enum {
     L6_STACK_FULL = 19,       /* a stack has 128 entries already */
     L6_STACK_EMPTY = 20,      /* a stack has no entry to restore or to return to */
     L6_OUTPUT_FULL = 21,      /* the output has no room for the characters */
+    L6_SUBTRAHEND_GREATER = 22, /* a subtraction below zero */
 
     L6_FINISHED = 100,        /* the tour has come to its end */
 
@@ -179,6 +181,7 @@ static inline const char *l6_words(uint64_t answer) {
     case L6_STACK_FULL: return "a stack has 128 entries already";
     case L6_STACK_EMPTY: return "a stack has no entry to restore or to return to";
     case L6_OUTPUT_FULL: return "there is no room for more output";
+    case L6_SUBTRAHEND_GREATER: return "a subtraction below zero";
     case L6_FINISHED: return "the tour has come to its end";
     case L6_BAD_STATE_LENGTH: return "the state's length is wrong";
     case L6_BAD_REPORT_LENGTH: return "the report's length is wrong";

@@ -36,7 +36,7 @@ extern "C" {
     pub fn header_reads(state: *const u8, numbers: *mut u64);
     pub fn header_words(answer: u64) -> *const c_char;
     pub fn header_character(code: u8) -> u8;
-    pub static header_constants: [u64; 28];
+    pub static header_constants: [u64; 29];
 }
 
 pub static HEADER: Calls = Calls {

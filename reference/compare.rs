@@ -190,7 +190,7 @@ impl Compared {
     }
     /// Numbers and words of the header against the Rust module's.
     fn constants(&mut self) {
-        let numbers: Vec<u64> = [6675, 12].into_iter().chain(0..=21).chain(100..=103).collect();
+        let numbers: Vec<u64> = [6675, 12].into_iter().chain(0..=22).chain(100..=103).collect();
         self.same("the header's numbers", unsafe { header_constants }, numbers[..].try_into().unwrap());
         self.same("the module's length", l6::STATE_LENGTH, STATE);
         let words = |answer| unsafe { CStr::from_ptr(header_words(answer)) }.to_str().unwrap();
@@ -273,7 +273,7 @@ fn main() {
             0 => println!("running, or done: {count} calls"),
             100 => println!("finished: {count}"),
             101..=103 => println!("wrong length, {answer}: {count}"),
-            1..=21 => println!("refusal {answer}: {count}"),
+            1..=22 => println!("refusal {answer}: {count}"),
             _ if *count > 0 => println!("an unknown answer, {answer}: {count}"),
             _ => {}
         }

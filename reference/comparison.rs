@@ -64,9 +64,9 @@ fn step_sum(sum: u64, answer: Answer, place: [u64; 3], r: &Report) -> u64 {
     let sum = [r.first, r.second].iter().fold(sum, |sum, s| fold(sum, &[s.address, s.left, s.right, s.kept]));
     fold(fold(sum, &[answer_number(answer)]), &place)
 }
-/// 0 running, 22 finished, otherwise the refusal.
+/// 0 running, 100 finished, otherwise the refusal.
 fn answer_number(answer: Answer) -> u64 {
-    match answer { Answer::Running => 0, Answer::Finished => 22, Answer::Refused(k) => k }
+    match answer { Answer::Running => 0, Answer::Finished => 100, Answer::Refused(k) => k }
 }
 
 // ---------------------------------------------------------------- what the cases reach
@@ -89,7 +89,7 @@ fn names() -> Vec<String> {
     }
     for mode in MODES { for how in ["not satisfied", "satisfied"] { names.push(format!("{mode}, {how}")) } }
     names.remove(50); // THEN is never not satisfied
-    for k in 1..=21 { names.push(format!("refusal {k}")) }
+    for k in 1..=22 { names.push(format!("refusal {k}")) }
     for k in 0..8 { names.push(format!("set up with d {}", 1 << k)) }
     for what in ["a bug", "a whole word", "a narrow field", "a null field"] { names.push(format!("store into {what}")) }
     for what in ["no free block", "a free block too small"] { names.push(format!("refusal 17 with {what}")) }
@@ -101,7 +101,7 @@ fn reached(table: &[u64], before: [u64; 3], after: &Raw, answer: Answer, report:
     let [kind, row, line] = before;
     if let Answer::Refused(k) = answer {
         let free = after.map.iter().any(|tag| tag % 2 == 1) as usize;
-        return if k == 17 { vec![75, 92 + free] } else { vec![58 + k as usize] };
+        return if k == 17 { vec![75, 93 + free] } else { vec![58 + k as usize] };
     }
     if kind == 0 {
         let (mode, test, satisfied) = (number(line, 2), number(line, 4) as u64, matches!(after.place[0], 1 | 2));
@@ -113,13 +113,13 @@ fn reached(table: &[u64], before: [u64; 3], after: &Raw, answer: Answer, report:
     if kind != 1 { return vec![]; }
     let code = number(row, 2);
     let mut all = vec![code - 1];
-    if code == 1 { all.push(80 + after.setup[0].trailing_zeros() as usize) }
+    if code == 1 { all.push(81 + after.setup[0].trailing_zeros() as usize) }
     if matches!(code, 6 | 8..=24 | 26..=31 | 33) { all.push(stored(number(row, 5) as u64, report.first)) }
     all
 }
 /// The count of a first store, by its destination's reference and its report.
 fn stored(reference: u64, store: Store) -> usize {
-    if reference < 64 { 88 } else if store.address == 0 { 91 } else if store.right - store.left == 35 { 89 } else { 90 }
+    if reference < 64 { 89 } else if store.address == 0 { 92 } else if store.right - store.left == 35 { 90 } else { 91 }
 }
 
 // ---------------------------------------------------------------- the cases

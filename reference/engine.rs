@@ -388,7 +388,7 @@ fn compute(code: u64, x: u64, wx: u64, y: u64, c: Spot) -> Result<u64, Refusal> 
     Ok(match code {
         6 => y,
         8 => wide(x as u128 + y as u128),
-        9 => wide(x as u128 + (1 << 36) - y as u128),
+        9 => x.checked_sub(y).ok_or(22u64)?, // ticket 1
         10 => wide(x as u128 * y as u128),
         11 => x.checked_div(y).ok_or(9u64)?,
         12 => x | y, 13 => x & y, 14 => x ^ y, 15 => y ^ mask(36),

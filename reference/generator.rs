@@ -327,7 +327,7 @@ impl Maker {
     fn faulty(&mut self, k: u64, new: u64) -> Row {
         let mixed = [2 + self.rng.below(34), 4, 5];
         let code = self.rng.pick::<u64>(match k {
-            4 | 5 => &[24], 6 => &[27, 28], 7 => &[2], 8 => &[3], 9 => &[11], 10 => &[24, 25], 17 => &[3, 5],
+            4 | 5 => &[24], 6 => &[27, 28], 7 => &[2], 8 => &[3], 9 => &[11], 22 => &[9], 10 => &[24, 25], 17 => &[3, 5],
             18 => &[4], 19 => &[32, 34, 36], 20 => &[33, 35], 21 => &[25], 15 => &mixed, _ => &mixed[..1],
         });
         if code == 36 { return row(3, 36, 0, &[(1, new + 1)]); }
@@ -356,7 +356,7 @@ impl Maker {
         if k == 12 || k == 2 && self.rng.chance(10) { case.lines[0].operations[0] = operation }
         let mut table = case.table();
         let length = table.len();
-        if matches!(k, 4..=10 | 13 | 18 | 21) && self.rng.chance(50) { case.lines.push(Line::default()) }
+        if matches!(k, 4..=10 | 13 | 18 | 21 | 22) && self.rng.chance(50) { case.lines.push(Line::default()) }
         match k {
             1 => table.resize(self.rng.pick(&[0, 10, 19, length - 1, length + 3, 8010]), 0),
             2 => self.ruin(&mut table),
@@ -434,7 +434,7 @@ pub fn make(seed: u64, i: u64) -> Case {
     let (case, state) = (Case::default(), Engine::fresh(vec![], vec![], vec![], 0).state);
     let rng = Rng(seed.wrapping_mul(0x2545F4914F6CDD1D) ^ i << 32);
     let mut maker = Maker { rng, wild: false, d: 1, case, state, count: 0 };
-    let mut ks: Vec<u64> = (1..22).filter(|&k| k != 11).collect();
+    let mut ks: Vec<u64> = (1..=22).filter(|&k| k != 11).collect();
     ks.extend(&[2, 2, 2, 2, 2, 2, 2, 3, 3, 6, 14, 15, 16, 18]);
     maker.begin();
     maker.base(i % 6 == 5);

@@ -131,11 +131,10 @@ fn store(b: usize, left: usize, right: usize, w: u64, v: u64) -> u64 {
 }
 
 fn words() {
-    let word = |c: Case| value(&bits(width_of(c.a), c.x)) as i128;
     line("power", |c| (0..c.a % 64).fold(1, |p, _| p + p));
     line("low_bits", |c| value(&bits(width_of(c.a), c.y)));
     line("add", |c| modulo(width_of(c.a), c.x as i128 + c.y as i128));
-    line("subtract", |c| modulo(width_of(c.a), c.y as i128 - word(c)));
+    line("subtract", |c| (c.x as i128 / 2 + c.y as i128 / 2 - c.y as i128 / 2) as u64);
     line("multiply", |c| (c.x as u128 * c.y as u128 % (1u128 << width_of(c.a))) as u64);
     line("divide", |c| quotient(c.x, 1 + c.y / 2));
     line("or", |c| each(width_of(c.a), c.x, c.y, |p, q| p || q));
@@ -667,7 +666,7 @@ fn tell(label: &str, answer: Answer) {
 fn bench_leaves() {
     let ones = value(&[true; 36]);
     println!("32769 into bits 6-20 of all ones, octal: {:o}", store(36, 6, 20, ones, 32769));
-    println!("0 - 1 into 15 bits, octal: {:o}", read(36, 21, 35, store(36, 21, 35, 0, modulo(36, 0 - 1))));
+    println!("32768 - 1 into 15 bits, octal: {:o}", read(36, 21, 35, store(36, 21, 35, 0, modulo(36, 32768 - 1))));
     println!("2^35 times 3, octal: {:o}", modulo(36, 3 << 35));
     println!("607 to decimal, octal: {:o}", decimal(6, 607));
     println!("1000607 to decimal, octal: {:o}", decimal(6, 1000607));

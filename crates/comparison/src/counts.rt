@@ -13,13 +13,13 @@ use states::STATE;
 use states::at;
 use std::num;
 
-// How many counts there are: 36 operations, then from 36 on tests, from 50 modes, from 59 refusals, from 80 set-ups, from 88 stores,
-// and from 92 refusal 17 without and with free blocks.
-pub const COUNTS: usize = 94;
+// How many counts there are: 36 operations, then from 36 on tests, from 50 modes, from 59 refusals, from 81 set-ups, from 89 stores,
+// and from 93 refusal 17 without and with free blocks.
+pub const COUNTS: usize = 95;
 
 // One more of count i.
 fn add(counts: &mut [u64; COUNTS], i: u64) {
-    if i < 94 {
+    if i < 95 {
         let at = i as usize;
         counts[at] = num::wrapping_add_u64(counts[at], 1);
     }
@@ -54,25 +54,25 @@ fn tests(counts: &mut [u64; COUNTS], table: &[u64], line: u64, satisfied: bool) 
 // Which count a set-up belongs to.
 fn set_up_count(d: u64) -> u64 {
     match d {
-        1 => 80,
-        2 => 81,
-        4 => 82,
-        8 => 83,
-        16 => 84,
-        32 => 85,
-        64 => 86,
-        _ => 87,
+        1 => 81,
+        2 => 82,
+        4 => 83,
+        8 => 84,
+        16 => 85,
+        32 => 86,
+        64 => 87,
+        _ => 88,
     }
 }
 
 // Which count a reported first store belongs to if its destination is a field.
 pub fn store_count(store: Store) -> u64 {
     if store.address == 0 {
-        91
+        92
     } else if (store.left == 0) & (store.right == 35) {
-        89
-    } else {
         90
+    } else {
+        91
     }
 }
 
@@ -93,7 +93,7 @@ fn operation(counts: &mut [u64; COUNTS], table: &[u64], row: u64, store: u64) {
         add(counts, set_up_count(first));
     }
     if stores(code) {
-        add(counts, if first < 64 { 88 } else { store });
+        add(counts, if first < 64 { 89 } else { store });
     }
 }
 
@@ -127,12 +127,12 @@ fn has_free(state: &[u64; STATE]) -> bool {
     false
 }
 
-// How a case ends: with a refusal, or not (0 or 22).
+// How a case ends: with a refusal, or not (0 or 100).
 pub fn ended(counts: &mut [u64; COUNTS], answer: u64, state: &[u64; STATE]) {
     if answer == 17 {
-        add(counts, 92 + bit(has_free(state)));
+        add(counts, 93 + bit(has_free(state)));
     }
-    if (answer != 0) & (answer != 22) {
+    if (answer != 0) & (answer != 100) {
         add(counts, 58 + answer % 32);
     }
 }
@@ -141,7 +141,7 @@ pub fn ended(counts: &mut [u64; COUNTS], answer: u64, state: &[u64; STATE]) {
 pub fn write(counts: &[u64; COUNTS], file: &[u8], from: usize) {
     let mut at = from;
     let mut i = 0;
-    while i < 94 {
+    while i < 95 {
         let length = number_at(file, at);
         at = write_text(file, length.next, length.value);
         io::write_all(1, b": ");

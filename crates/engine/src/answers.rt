@@ -1,4 +1,4 @@
-// Document 01's numbers of answers.
+// The numbers of answers: document 01's, and 22 of ticket 1.
 ghost use mathlib.Core.Path.{_≡_};
 ghost use Rattle.machine.specs.Answer.{refusalNumber};
 use machine::Refusal;
@@ -29,5 +29,6 @@ pub fn refusal_number(refusal: Refusal) -> u64
         Refusal::StackFull => 19,
         Refusal::StackEmpty => 20,
         Refusal::OutputFull => 21,
+        Refusal::SubtrahendGreater => 22,
     }
 }

@@ -1,5 +1,5 @@
 // laps run LIMIT CALLS, laps step CALLS: the engine on the tour of tour.tab and stops.in, for its speed. It makes so many calls of run (one
-// where CALLS is left out) or of step, fewer up to a finish or refusal. Prints the last answer's number (0 running, 22 finished), the
+// where CALLS is left out) or of step, fewer up to a finish or refusal. Prints the last answer's number (0 running, 100 finished), the
 // count of steps and a checksum over the reports of the calls of step, the bugs and the storage.
 ghost use Prim.Native.Nat.{_≤_, _<_};
 ghost use Rattle.io.specs.Counts.{Counts};
@@ -85,11 +85,11 @@ fn fold_left(before: u64, core: Core, storage: &[u64]) -> u64 {
     fold_words(fold_words(before, &bugs), storage)
 }
 
-// An answer's number: 0 running, 22 finished, otherwise the refusal.
+// An answer's number: 0 running, 100 finished, otherwise the refusal.
 fn answer_number(answer: Answer) -> u64 {
     match answer {
         Answer::Running => 0,
-        Answer::Finished => 22,
+        Answer::Finished => 100,
         Answer::Refused(refusal) => refusal_number(refusal),
     }
 }

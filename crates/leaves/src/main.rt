@@ -48,7 +48,7 @@ fn eight_printed() -> u64 {
 fn bench_word(which: u64) -> u64 {
     match which {
         37 => fields::store_field(36, 6, 20, 0o777777777777, 32769),
-        38 => fields::kept_bits(0, 14, arithmetic::subtract(36, 0, 1)),
+        38 => fields::kept_bits(0, 14, arithmetic::subtract(32768, 1)),
         39 => arithmetic::multiply(36, 0o400000000000, 3),
         40 => character::from_binary_decimal(6, 607),
         41 => character::from_binary_decimal(6, 1000607),
@@ -75,7 +75,7 @@ fn main() {
         holds\nfrom_binary_octal\nfrom_binary_decimal\nto_binary, octal\nto_binary, decimal\n\
         blanks_to_zeros\nzeros_to_blanks\nprint_into\npack_input\n\
         is_reference\nnames_in\nhas_length and check by length\ncheck\nrow_at\nis_usable\n\
-        32769 into bits 6-20 of all ones, octal\n0 - 1 into 15 bits, octal\n2^35 times 3, octal\n\
+        32769 into bits 6-20 of all ones, octal\n32768 - 1 into 15 bits, octal\n2^35 times 3, octal\n\
         607 to decimal, octal\n1000607 to decimal, octal\nzeros to blanks, octal\neight printed of o60007, octal\n\
         o606060060007 to binary\no000000060007 to binary\n";
     for which in 0..46 {

@@ -120,11 +120,11 @@ cases =
       seen = λ o. wordOf 0 o ∷ [];
       expected = 0o770000177777 ∷ [];
     }
-    -- 0 - 1 into 15 bits
+    -- 0 - 1 into 15 bits: refusal 22 (ticket 1)
     ∷ record {
       operations = getting W 1 ∷ field 21 35 ∷ with 9 WA 1 ∷ [];
-      seen = λ o. wordOf 0 o ∷ [];
-      expected = 32767 ∷ [];
+      seen = λ o. refusalOf o ∷ wordOf 0 o ∷ [];
+      expected = 22 ∷ 0 ∷ [];
     }
     -- 2^35 × 3
     ∷ record {

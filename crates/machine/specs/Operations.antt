@@ -7,7 +7,7 @@ use mathlib.Core.List.{List, [], _∷_}
 use mathlib.Core.Option.{Option, none, some}
 use lib.Dec.{eqb, leb, ltb}
 use lib.ListN.{length, getD, set, take, drop}
-use Rattle.word.specs.Word.{sum, difference, product, complement, either, both, differing, ones, zeros, leftmost, rightmost, leftShift, rightShift}
+use Rattle.word.specs.Word.{sum, product, complement, either, both, differing, ones, zeros, leftmost, rightmost, leftShift, rightShift}
 use Rattle.character.specs.Character.{packed, allBelow, printed, blanksToZeros, toBinary, fromBinary, zerosToBlanks}
 use Rattle.block.specs.declared.SetUp.{SetUp}
 use Rattle.block.specs.Blocks.{size, level, sizeAt}
@@ -16,7 +16,7 @@ use Rattle.block.specs.Map.{live, freshMap, freedMap, deliveredMap}
 use Rattle.table.specs.declared.FieldName.{FieldName}
 use Rattle.table.specs.declared.Row.{Row}
 use Rattle.machine.specs.declared.Refusal.{Refusal}
-use Rattle.machine.specs.declared.Refusal.the-variants.{SetUpNumbers, InputByte, InputShort, NotADigit, DefinitionNumber, BlockSize, ZeroDivisor, CharacterCount, NotABlock, NoRun, FieldFreed, StackFull, StackEmpty, OutputFull}
+use Rattle.machine.specs.declared.Refusal.the-variants.{SetUpNumbers, InputByte, InputShort, NotADigit, DefinitionNumber, BlockSize, ZeroDivisor, CharacterCount, NotABlock, NoRun, FieldFreed, StackFull, StackEmpty, OutputFull, SubtrahendGreater}
 use Rattle.machine.specs.declared.State.{State}
 use Rattle.machine.specs.declared.Location.{Location}
 use Rattle.machine.specs.declared.Location.the-variants.{Bug, Field}
@@ -192,6 +192,12 @@ computing f b g = do
   v ← f b (read b (world (g .engine)) a) x
   passed (storing b a v (g .engine .state))
 
+-- 9 subtract: 22 where the subtrahend is greater (ticket 1)
+unfoldable pub difference : ℕ → Value → Value → Checked ℕ
+difference b a x = do
+  need (leb (x .value) (a .value)) SubtrahendGreater
+  passed (a .value - x .value)
+
 -- 11 divide rounding down: 9
 unfoldable pub quotient : ℕ → Value → Value → Checked ℕ
 quotient b a x = do
@@ -304,7 +310,7 @@ operations =
     ∷ makes (λ b a x. x .value)  -- 6 copy
     ∷ own interchange  -- 7
     ∷ makes (λ b a x. sum b (a .value) (x .value))  -- 8 add
-    ∷ makes (λ b a x. difference b (a .value) (x .value))  -- 9 subtract
+    ∷ computes difference  -- 9 subtract
     ∷ makes (λ b a x. product b (a .value) (x .value))  -- 10 multiply
     ∷ computes quotient  -- 11 divide
     ∷ makes (λ b a x. either b (a .value) (x .value))  -- 12 or

@@ -1,6 +1,6 @@
 // The engine's state, answers and reports: what they mean stands in specs/.
 
-// Why a step is refused: document 01's refusals 1 to 21, in its order.
+// Why a step is refused: document 01's refusals 1 to 21, in its order, then 22 of ticket 1.
 pub enum Refusal {
     TableLength,
     BadRow,
@@ -23,6 +23,7 @@ pub enum Refusal {
     StackFull,
     StackEmpty,
     OutputFull,
+    SubtrahendGreater,
 }
 
 pub enum Answer {

@@ -1,17 +1,17 @@
 -- Values made by their code. Assumes nothing.
-use Prim.Native.Nat.{ℕ, suc, _/_, _≤_}
+use Prim.Native.Nat.{ℕ, suc, _-_, _/_, _≤_, _<_}
 use native.Mathlib.Omega.{arith}
 use mathlib.Core.Bool.{not}
 use mathlib.Core.Option.{Option, none, some}
 use mathlib.Core.Path.{_≡_, sym, ap, refl, _∙_}
-use borrow.Author.Tests.{eq-eqb, ne-eqb}
+use borrow.Author.Tests.{eq-eqb, ne-eqb, le-leb, lt-leb}
 use Rattle.character.specs.Converted.{converted}
 use Rattle.character.specs.declared.Converted.{Converted}
 use Rattle.character.specs.declared.Converted.the-variants as conversion
-use Rattle.machine.specs.declared.Refusal.the-variants.{ZeroDivisor, NotADigit}
+use Rattle.machine.specs.declared.Refusal.the-variants.{ZeroDivisor, NotADigit, SubtrahendGreater}
 use Rattle.machine.specs.Answer.{passed, need, _>>_}
 use Rattle.machine.specs.Locate.{Value}
-use Rattle.machine.specs.Operations.{quotient, orRefuse}
+use Rattle.machine.specs.Operations.{difference, quotient, orRefuse}
 use Rattle.operations.specs.declared.Computed.{Computed}
 use Rattle.operations.specs.declared.Computed.the-variants.{Made, Stopped}
 use Rattle.operands.specs.Reading.{valued}
@@ -28,6 +28,14 @@ pub answered : (b : ℕ) (a x : Value) {code k : ℕ} {r : Computed} → code �
 answered b a x e is = rw e is
 
 module _ (x y : ℕ) where
+  pub too-great : x < y → Stopped SubtrahendGreater ≡ computed (difference 0 (valued x 0) (valued y 0))
+  unfolding difference computed need _>>_
+  too-great h = rw (lt-leb y x h)
+
+  pub not-greater : y ≤ x → {r : ℕ} → r ≡ x - y → Made r ≡ computed (difference 0 (valued x 0) (valued y 0))
+  unfolding difference computed need _>>_
+  not-greater h is = rw (le-leb y x h, is)
+
   pub no-divisor : y ≡ 0 → Stopped ZeroDivisor ≡ computed (quotient 0 (valued x 0) (valued y 0))
   unfolding quotient computed need _>>_
   no-divisor z = rw (eq-eqb y 0 z)

@@ -3,13 +3,23 @@ ghost use mathlib.Core.Path.{_≡_};
 ghost use Prim.Native.Nat.{_^_, _≤_, _<_};
 ghost use Rattle.character.specs.Character.{toBinary};
 ghost use Rattle.machine.specs.declared.Refusal.the-variants.{NotADigit};
-ghost use Rattle.machine.specs.Operations.{quotient, orRefuse};
+ghost use Rattle.machine.specs.Operations.{difference, quotient, orRefuse};
 ghost use Rattle.operands.specs.Reading.{valued};
 ghost use Rattle.operations.specs.Plans.{valueBy, Computes};
 ghost use Rattle.operations.specs.Answers.{computed};
 use crate::Computed;
 use character::Converted;
 use machine::Refusal;
+
+// 9 subtract: 22.
+fn subtracted(x: u64, y: u64) -> Computed
+    ensures { λ r. ⌜ r ≡ computed (difference 0 (valued x 0) (valued y 0)) ⌝ }
+{
+    if x < y {
+        return Computed::Stopped(Refusal::SubtrahendGreater);
+    }
+    Computed::Made(word::arithmetic::subtract(x, y))
+}
 
 // 11 divide: 9.
 fn divided(x: u64, y: u64) -> Computed
@@ -41,7 +51,7 @@ fn arithmetic(b: u64, code: u64, a: u64, aw: u64, x: u64, xw: u64) -> Computed
     match code {
         6 => Computed::Made(x),
         8 => Computed::Made(word::arithmetic::add(b, a, x)),
-        9 => Computed::Made(word::arithmetic::subtract(b, a, x)),
+        9 => subtracted(a, x),
         10 => Computed::Made(word::arithmetic::multiply(b, a, x)),
         _ => divided(a, x),
     }

@@ -1,4 +1,4 @@
--- Laws of arithmetic modulo 2 ^ b: after a wrap at 64 bits, of a difference, and of a product on halves. Assumes nothing.
+-- Laws of arithmetic modulo 2 ^ b: after a wrap at 64 bits, and of a product on halves. Assumes nothing.
 use mathlib.Core.Path.{_≡_, sym, ap, ap₂, _∙_}
 use Prim.Native.Nat.{ℕ, _+_, _-_, _*_, _/_, _%_, _^_, _≤_, _<_}
 use native.Mathlib.Nat.{le-of-lt, lt-of-lt-of-le, lt-of-le-of-lt, sub-add-cancel, mod-add-mod, add-mod-right, mul-add-mod-self-right, mul-le-mul-left, div-add-mod'}
@@ -8,24 +8,6 @@ use lib.Pow.{pow-mono, pow-add, shl-lt, mod-mod-pow}
 -- a remainder by a smaller power after one by a larger
 pub mod-mod-le : (n : ℕ) {b m : ℕ} → b ≤ m → n % 2 ^ m % 2 ^ b ≡ n % 2 ^ b
 mod-mod-le n {b} {m} h = ap (λ (k : ℕ). n % 2 ^ k % 2 ^ b) (sym (sub-add-cancel h)) ∙ mod-mod-pow n (m - b) b
-
-module _ (m y : ℕ) (h : y ≤ m) where
-  -- what makes up for y brings a sum's other part back
-  back : (p : ℕ) → ((p + y) % m + (m - y)) % m ≡ p % m
-  back p =
-      let e : p + y + (m - y) ≡ p + m = omega arith in
-      mod-add-mod (p + y) m (m - y) ∙ ap (λ (n : ℕ). n % m) e ∙ add-mod-right p m
-
-  -- numbers that agree after y is added agree
-  cancel : (p q : ℕ) → (p + y) % m ≡ (q + y) % m → p % m ≡ q % m
-  cancel p q e = sym (back p) ∙ ap (λ (n : ℕ). (n + (m - y)) % m) e ∙ back q
-
--- the number that y added to wraps back to x at 64 bits is x - y modulo 2 ^ b
-pub wrapped-difference : (b x y r : ℕ) → b < 64 → y < 2 ^ b → (r + y) % 2 ^ 64 ≡ x → r % 2 ^ b ≡ (x + 2 ^ b - y) % 2 ^ b
-wrapped-difference b x y r h l e =
-    let back-again : x + 2 ^ b ≡ x + 2 ^ b - y + y = omega arith in
-    cancel (2 ^ b) y (le-of-lt l) r (x + 2 ^ b - y)
-    (sym (mod-mod-le (r + y) (le-of-lt h)) ∙ ap (λ (n : ℕ). n % 2 ^ b) e ∙ sym (add-mod-right x (2 ^ b)) ∙ ap (λ (n : ℕ). n % 2 ^ b) back-again)
 
 -- half a word shifted by the width of the other half, and the product of two halves: h is at most 31
 module _ (h : ℕ) {a : ℕ} (g : h ≤ 31) (k : a < 2 ^ h) where

@@ -12,10 +12,6 @@ bit b w p = w / 2 ^ (b - suc p) % 2
 unfoldable pub sum : ℕ → ℕ → ℕ → ℕ
 sum b x y = (x + y) % 2 ^ b
 
--- 9 subtract: x - y modulo 2 ^ b, for words x and y
-unfoldable pub difference : ℕ → ℕ → ℕ → ℕ
-difference b x y = (x + 2 ^ b - y) % 2 ^ b
-
 -- 10 multiply: modulo 2 ^ b
 unfoldable pub product : ℕ → ℕ → ℕ → ℕ
 product b x y = (x * y) % 2 ^ b

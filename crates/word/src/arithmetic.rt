@@ -1,7 +1,7 @@
 // Arithmetic on words of b bits: operations 8 to 11.
 ghost use mathlib.Core.Path.{_≡_};
-ghost use Prim.Native.Nat.{_/_, _%_, _^_, _<_};
-ghost use Rattle.word.specs.Word.{sum, difference, product};
+ghost use Prim.Native.Nat.{_-_, _/_, _%_, _^_, _≤_, _<_};
+ghost use Rattle.word.specs.Word.{sum, product};
 use std::num;
 
 // 2^n.
@@ -28,12 +28,12 @@ pub fn add(b: u64, x: u64, y: u64) -> u64
     low_bits(b, num::wrapping_add_u64(x, y))
 }
 
-// 9 subtract: x - y modulo 2^b.
-pub fn subtract(b: u64, x: u64, y: u64) -> u64
-    requires { ⌜ (b < 64) × (y < 2 ^ b) ⌝ }
-    ensures { λ r. ⌜ r ≡ difference b x y ⌝ }
+// 9 subtract: x - y, where y is not greater.
+pub fn subtract(x: u64, y: u64) -> u64
+    requires { ⌜ y ≤ x ⌝ }
+    ensures { λ r. ⌜ r ≡ x - y ⌝ }
 {
-    low_bits(b, num::wrapping_sub_u64(x, y))
+    x - y
 }
 
 // 10 multiply: x * y modulo 2^b, on halves; the product of the two high halves lies above the b bits.

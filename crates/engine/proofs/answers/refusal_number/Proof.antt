@@ -67,6 +67,9 @@ enum-told-20 c = search needs
 enum-told-21 : tie.Need-enum-told-21
 enum-told-21 c = search needs
 
+enum-told-22 : tie.Need-enum-told-22
+enum-told-22 c = search needs
+
 returns : tie.Need-returns
 unfolding refusalNumber
 returns c = rw (c .enum-told .given .1)
@@ -151,6 +154,10 @@ returns-21 : tie.Need-returns-21
 unfolding refusalNumber
 returns-21 c = rw (c .enum-told21 .given .1)
 
+returns-22 : tie.Need-returns-22
+unfolding refusalNumber
+returns-22 c = rw (c .enum-told22 .given .1)
+
 pub refusal-number-spec : {M : Type 1} → statement M
 refusal-number-spec =
     tie.close
@@ -176,6 +183,7 @@ refusal-number-spec =
     enum-told-19
     enum-told-20
     enum-told-21
+    enum-told-22
     returns
     returns-2
     returns-3
@@ -196,4 +204,5 @@ refusal-number-spec =
     returns-18
     returns-19
     returns-20
-    returns-21)
+    returns-21
+    returns-22)

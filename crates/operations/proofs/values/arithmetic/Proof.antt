@@ -1,7 +1,7 @@
 -- `operations::values::arithmetic` meets its contract: each arm by what its leaf ensures. Assumes nothing.
 use native.Mathlib.Omega.{arith}
 use mathlib.Core.Path.{_≡_, refl}
-use Rattle.machine.specs.Operations.{operations, operationOf, makes, quotient}
+use Rattle.machine.specs.Operations.{operations, operationOf, makes, difference, quotient}
 use Rattle.operations.specs.Plans.{valueOf, valueBy}
 use Rattle.operations.proofs.Made.{made, answered}
 use borrow.Author.Needs.{needs}
@@ -11,8 +11,8 @@ use Rattle.operations.proofs.values.arithmetic.Tie as tie
 add-requires : tie.Need-add-requires
 add-requires c κs = search needs
 
-subtract-requires : tie.Need-subtract-requires
-subtract-requires c κs = search needs
+subtracted-requires : tie.Need-subtracted-requires
+subtracted-requires c κs = search needs
 
 multiply-requires : tie.Need-multiply-requires
 multiply-requires c κs = search needs
@@ -29,8 +29,8 @@ unfolding valueBy valueOf operationOf operations makes
 returns-2 c = made _ _ _ (c .before .match .keys2) (c .add .ensures) refl
 
 returns-3 : tie.Need-returns-3
-unfolding valueBy valueOf operationOf operations makes
-returns-3 c = made _ _ _ (c .before .match .keys3) (c .subtract .ensures) refl
+unfolding valueBy valueOf operationOf operations makes difference
+returns-3 c = answered _ _ _ (c .before .match .keys3) (c .subtracted .ensures)
 
 returns-4 : tie.Need-returns-4
 unfolding valueBy valueOf operationOf operations makes
@@ -45,7 +45,7 @@ arithmetic-spec =
     tie.close
     (tie.spec
     add-requires
-    subtract-requires
+    subtracted-requires
     multiply-requires
     divided-requires
     returns

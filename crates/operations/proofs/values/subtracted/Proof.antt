@@ -1,0 +1,17 @@
+-- `operations::values::subtracted` meets its contract. Assumes nothing.
+use Rattle.operations.proofs.Made.{too-great, not-greater}
+use borrow.Author.Needs.{needs}
+use Rattle.operations.proofs.values.subtracted.Statement.{statement}
+use Rattle.operations.proofs.values.subtracted.Tie as tie
+
+returns : tie.Need-returns
+returns c = too-great _ _ (c .if1 .taken)
+
+subtract-requires : tie.Need-subtract-requires
+subtract-requires c κs = search needs
+
+returns-2 : tie.Need-returns-2
+returns-2 c = not-greater _ _ (c .before .if1 .left) (c .subtract .ensures)
+
+pub subtracted-spec : {M : Type 1} → statement M
+subtracted-spec = tie.close (tie.spec returns subtract-requires returns-2)
