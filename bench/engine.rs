@@ -424,7 +424,11 @@ fn compute(code: u64, x: u64, x_width: u32, y: u64, y_width: u32) -> Checked<u64
         8 => x.wrapping_add(y),
         9 => x.checked_sub(y).ok_or(SubtrahendGreater)?,
         10 => x.wrapping_mul(y),
-        11 => x.checked_div(y).ok_or(ZeroDivisor)?,
+        11 => {
+            let down = x.checked_div(y).ok_or(ZeroDivisor)?;
+            let rest = x % y;
+            down + u64::from(y - rest < rest + down % 2)
+        }
         12 => x | y,
         13 => x & y,
         14 => x ^ y,

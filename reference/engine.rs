@@ -382,6 +382,17 @@ fn line_at(number: u64) -> Place { if number == 0 { Place::Finished } else { Pla
 fn holds(code: u64, c: u64, cd: u64) -> bool {
     match code { 1 | 5 => c == cd, 2 => c != cd, 3 => c > cd, 4 => c < cd, 6 => c & cd == cd, _ => c & cd == 0 }
 }
+/// "the nearest whole number, and at an exact half the even neighbour"; none where the divisor is 0.
+fn nearest(x: u64, y: u64) -> Option<u64> {
+    let (down, up) = (x.checked_div(y)?, x / y + 1);
+    let (below, above) = (x - down * y, up as u128 * y as u128 - x as u128); // y times the distances from the exact quotient
+    Some(match (below as u128).cmp(&above) {
+        std::cmp::Ordering::Less => down,
+        std::cmp::Ordering::Greater => up,
+        std::cmp::Ordering::Equal => if down % 2 == 0 { down } else { up },
+    })
+}
+
 /// Operations with one result for a: x is a's contents (width wx), y those of the other operand, c.
 fn compute(code: u64, x: u64, wx: u64, y: u64, c: Spot) -> Result<u64, Refusal> {
     let wide = |n: u128| (n % (1 << 36)) as u64; // "whole numbers modulo 2^36"
@@ -390,7 +401,7 @@ fn compute(code: u64, x: u64, wx: u64, y: u64, c: Spot) -> Result<u64, Refusal> 
         8 => wide(x as u128 + y as u128),
         9 => x.checked_sub(y).ok_or(22u64)?, // ticket 1
         10 => wide(x as u128 * y as u128),
-        11 => x.checked_div(y).ok_or(9u64)?,
+        11 => nearest(x, y).ok_or(9u64)?, // ticket 10
         12 => x | y, 13 => x & y, 14 => x ^ y, 15 => y ^ mask(36),
         16..=21 => bits(code, y, width(c)),
         22 => if y >= wx { 0 } else { (x << y) & mask(wx) },

@@ -85,8 +85,8 @@ fn each(b: usize, x: u64, y: u64, f: impl Fn(bool, bool) -> bool) -> u64 {
     value(&bits(b, x).iter().zip(bits(b, y)).map(|(&p, q)| f(p, q)).collect::<Bits>())
 }
 
-// Long division, a bit at a time.
-fn quotient(x: u64, y: u64) -> u64 {
+// Long division, a bit at a time, one bit past the point; what is left tells whether that is all.
+fn nearest(x: u64, y: u64) -> u64 {
     let (mut q, mut rest) = (0, 0u128);
     for bit in bits(64, x) {
         rest = rest * 2 + bit as u128;
@@ -96,7 +96,8 @@ fn quotient(x: u64, y: u64) -> u64 {
             q += 1;
         }
     }
-    q
+    let (past, exact) = (rest * 2 >= y as u128, rest * 2 == y as u128);
+    if exact { q + q % 2 } else { q + past as u64 }
 }
 
 // A field's bits moved left by n places (right where `right` is), zeros coming in.
@@ -136,7 +137,7 @@ fn words() {
     line("add", |c| modulo(width_of(c.a), c.x as i128 + c.y as i128));
     line("subtract", |c| (c.x as i128 / 2 + c.y as i128 / 2 - c.y as i128 / 2) as u64);
     line("multiply", |c| (c.x as u128 * c.y as u128 % (1u128 << width_of(c.a))) as u64);
-    line("divide", |c| quotient(c.x, 1 + c.y / 2));
+    line("divide", |c| nearest(c.x >> (c.a % 64), 1 + c.y % 64));
     line("or", |c| each(width_of(c.a), c.x, c.y, |p, q| p || q));
     line("and", |c| each(width_of(c.a), c.x, c.y, |p, q| p && q));
     line("exclusive_or", |c| each(width_of(c.a), c.x, c.y, |p, q| p != q));

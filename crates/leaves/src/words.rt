@@ -38,7 +38,7 @@ pub fn result(which: u64, a: u64, x: u64, y: u64) -> u64 {
         2 => arithmetic::add(w, x, y),
         3 => arithmetic::subtract(x / 2 + y / 2, y / 2),
         4 => arithmetic::multiply(w, x, y),
-        5 => arithmetic::divide(x, 1 + y / 2),
+        5 => arithmetic::divide(x >> (a % 64), 1 + y % 64),
         6 => logic::or(w, x, y),
         7 => logic::and(w, x, y),
         8 => logic::exclusive_or(w, x, y),

@@ -26,7 +26,7 @@ unfolding fields-file.width fields-file.shift fields-file.fieldOf fields-file.ke
 fields = tt
 
 unfoldable words : Unit {0}
-unfolding words-file.bit words-file.sum words-file.product words-file.complement words-file.bitwise words-file.either words-file.both words-file.differing words-file.ones words-file.zeros words-file.leftmost words-file.rightmostOf words-file.rightmost words-file.leftShift words-file.rightShift
+unfolding words-file.bit words-file.sum words-file.product words-file.nearest words-file.complement words-file.bitwise words-file.either words-file.both words-file.differing words-file.ones words-file.zeros words-file.leftmost words-file.rightmostOf words-file.rightmost words-file.leftShift words-file.rightShift
 words = tt
 
 unfoldable characters : Unit {0}

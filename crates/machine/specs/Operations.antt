@@ -7,7 +7,7 @@ use mathlib.Core.List.{List, [], _∷_}
 use mathlib.Core.Option.{Option, none, some}
 use lib.Dec.{eqb, leb, ltb}
 use lib.ListN.{length, getD, set, take, drop}
-use Rattle.word.specs.Word.{sum, product, complement, either, both, differing, ones, zeros, leftmost, rightmost, leftShift, rightShift}
+use Rattle.word.specs.Word.{sum, product, nearest, complement, either, both, differing, ones, zeros, leftmost, rightmost, leftShift, rightShift}
 use Rattle.character.specs.Character.{packed, allBelow, printed, blanksToZeros, toBinary, fromBinary, zerosToBlanks}
 use Rattle.block.specs.declared.SetUp.{SetUp}
 use Rattle.block.specs.Blocks.{size, level, sizeAt}
@@ -198,11 +198,11 @@ difference b a x = do
   need (leb (x .value) (a .value)) SubtrahendGreater
   passed (a .value - x .value)
 
--- 11 divide rounding down: 9
+-- 11 divide to the nearest whole number (ticket 10): 9
 unfoldable pub quotient : ℕ → Value → Value → Checked ℕ
 quotient b a x = do
   need (not (eqb (x .value) 0)) ZeroDivisor
-  passed (a .value / x .value)
+  passed (nearest (a .value) (x .value))
 
 -- 24 input (a, cd): 10, 5, 4. cd characters, the first taken leftmost, with leading zeros
 unfoldable pub input : Meaning

@@ -1,10 +1,11 @@
 -- Values made by their code. Assumes nothing.
-use Prim.Native.Nat.{ℕ, suc, _-_, _/_, _≤_, _<_}
+use Prim.Native.Nat.{ℕ, suc, _-_, _≤_, _<_}
 use native.Mathlib.Omega.{arith}
 use mathlib.Core.Bool.{not}
 use mathlib.Core.Option.{Option, none, some}
 use mathlib.Core.Path.{_≡_, sym, ap, refl, _∙_}
 use borrow.Author.Tests.{eq-eqb, ne-eqb, le-leb, lt-leb}
+use Rattle.word.specs.Word.{nearest}
 use Rattle.character.specs.Converted.{converted}
 use Rattle.character.specs.declared.Converted.{Converted}
 use Rattle.character.specs.declared.Converted.the-variants as conversion
@@ -40,7 +41,7 @@ module _ (x y : ℕ) where
   unfolding quotient computed need _>>_
   no-divisor z = rw (eq-eqb y 0 z)
 
-  pub divisor : (y ≡ 0 → ⊥) → {r : ℕ} → r ≡ x / y → Made r ≡ computed (quotient 0 (valued x 0) (valued y 0))
+  pub divisor : (y ≡ 0 → ⊥) → {r : ℕ} → r ≡ nearest x y → Made r ≡ computed (quotient 0 (valued x 0) (valued y 0))
   unfolding quotient computed need _>>_
   divisor z is = rw (ne-eqb y 0 z, is)
 

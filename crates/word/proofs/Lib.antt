@@ -4,3 +4,4 @@ pub mod Field
 pub mod Modulo
 pub mod Bitwise
 pub mod Places
+pub mod Nearest

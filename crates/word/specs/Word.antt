@@ -1,8 +1,8 @@
 -- Words of b bits as numbers below 2 ^ b, and what the operations 8 to 23 make of them. The engine's b is 36.
 -- Document 01: "Words and set-up" and "Operations". Assumes nothing.
 use Prim.Native.Nat.{ℕ, zero, suc, _+_, _-_, _*_, _/_, _%_, _^_, min, max}
-use mathlib.Core.Bool.{cond}
-use lib.Dec.{eqb, leb}
+use mathlib.Core.Bool.{_&&_, _||_, cond}
+use lib.Dec.{eqb, leb, ltb}
 
 -- bit p of a word of b bits; bit 0 is leftmost
 unfoldable pub bit : ℕ → ℕ → ℕ → ℕ
@@ -15,6 +15,11 @@ sum b x y = (x + y) % 2 ^ b
 -- 10 multiply: modulo 2 ^ b
 unfoldable pub product : ℕ → ℕ → ℕ → ℕ
 product b x y = (x * y) % 2 ^ b
+
+-- 11 divide: to the nearest whole number, at an exact half to the even neighbour (ticket 10)
+unfoldable pub nearest : ℕ → ℕ → ℕ
+nearest x y =
+    cond (ltb y (2 * (x % y)) || (eqb y (2 * (x % y)) && eqb (x / y % 2) 1)) (suc (x / y)) (x / y)
 
 -- 15 complement: all b bits
 unfoldable pub complement : ℕ → ℕ → ℕ

@@ -1,7 +1,7 @@
 // Arithmetic on words of b bits: operations 8 to 11.
 ghost use mathlib.Core.Path.{_≡_};
-ghost use Prim.Native.Nat.{_-_, _/_, _%_, _^_, _≤_, _<_};
-ghost use Rattle.word.specs.Word.{sum, product};
+ghost use Prim.Native.Nat.{_-_, _%_, _^_, _≤_, _<_};
+ghost use Rattle.word.specs.Word.{sum, product, nearest};
 use std::num;
 
 // 2^n.
@@ -50,10 +50,15 @@ pub fn multiply(b: u64, x: u64, y: u64) -> u64
     low_bits(b, cross * power(h) + x0 * y0)
 }
 
-// 11 divide: x by y, rounding down.
+// 11 divide: x by y to the nearest whole number, at an exact half to the even neighbour. No number is larger than x and y.
 pub fn divide(x: u64, y: u64) -> u64
     requires { ⌜ 0 < y ⌝ }
-    ensures { λ r. ⌜ r ≡ x / y ⌝ }
+    ensures { λ r. ⌜ r ≡ nearest x y ⌝ }
 {
-    x / y
+    let down = x / y;
+    let rest = x % y;
+    if y - rest < rest + down % 2 {
+        return down + 1;
+    }
+    down
 }
