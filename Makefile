@@ -51,7 +51,7 @@ expected:
 	rustc -O -o target/leaves-reference reference/leaves.rs
 	for name in leaves allocations; do target/leaves-reference $$name > crates/$$name/stdout; done
 	rustc -O -o target/reference reference/main.rs
-	for file in stdin stdout; do target/reference comparison 1966 480 $$file > crates/comparison/$$file; done
+	for file in stdin stdout; do target/reference comparison 7094 480 $$file > crates/comparison/$$file; done
 	tours/play --files tours/example.tour crates/tourrun/data
 	rm crates/tourrun/data/stops.in
 	tours/play --files bench/lists.tour crates/laps/data

@@ -757,6 +757,10 @@ impl<'a> Walk<'a> {
         if count > 6 {
             return Err(CharacterCount);
         }
+        if self.input.is_empty() {
+            self.report.first = self.store(a, ones(6 * count as u32));
+            return Ok(());
+        }
         let end = self.state.taken + count as usize;
         let codes = self.input.get(self.state.taken..end).ok_or(InputShort)?;
         if codes.iter().any(|&code| code > 63) {

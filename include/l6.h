@@ -3,7 +3,8 @@
  * A host keeps four buffers and lends them to each call, with their lengths:
  *   table    numbers, ten for each row (document 01, "The table"); only read
  *   storage  the words of the tour's blocks, 4,096 at most are used; they need no first value
- *   input    the stop list, a six-bit code in each byte; only read
+ *   input    the stop list, a six-bit code in each byte; only read. One of length 0 stands for a list that does not exist yet: each
+ *            character taken is octal 77, and none is counted
  *   output   what the tour prints, a six-bit code in each byte; they need no first value
  * and the state, a buffer of L6_STATE_LENGTH bytes. State, storage and output go on together from call to call: whoever saves a tour
  * saves these three, and lends them with the same table and input when it goes on. They can be saved between any two calls and be
@@ -27,9 +28,8 @@ extern "C" {
 
 /* ---------------------------------------------------------------- answers */
 
-/* What the calls answer. From 1 to 99 they are the refusals of document 01 and of the later tickets, with
- * their numbers; a refused step changes nothing. l6_words
- * has each of them in words. */
+/* What the calls answer. From 1 to 99 they are the refusals of document 01 and of the later tickets, with their numbers; a refused
+ * step changes nothing. l6_words has each of them in words. */
 enum {
     L6_RUNNING = 0,           /* the tour can go on; from calls other than l6_step and l6_run: done */
 

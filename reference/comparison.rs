@@ -148,6 +148,8 @@ fn bench() -> Vec<Trial> {
         Trial::of("six input characters", &input(6)),
         Trial::of("seven input characters", &input(7)),
         Trial::of("the example of tourrun", &example),
+        Trial::of("six characters where there are no stops yet", &Case { input: vec![], ..input(6) }),
+        Trial::of("seven characters where there are no stops yet", &Case { input: vec![], ..input(7) }),
     ]
 }
 /// Tables of each length at the bounds of refusal 1, their rows after the first two zero.

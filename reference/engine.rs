@@ -313,6 +313,7 @@ impl State {
     /// 24 input: "cd six-bit characters (0-6), leading zeros", "first taken leftmost". Own: 10, 5, 4.
     fn input(&mut self, lent: &Lent, a: Spot, count: u64) -> Result<Report, Refusal> {
         if count > 6 { return Err(10); }
+        if lent.input.is_empty() { return self.put(a, (0..count).fold(0, |sum, _| sum * 64 + 0o77)); } // ticket 4
         let rest = &lent.input[self.taken..];
         if rest.len() < count as usize { return Err(5); }
         let bytes = &rest[..count as usize];

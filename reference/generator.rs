@@ -274,6 +274,7 @@ impl Maker {
             let (any, digit) = (self.rng.below(64), self.rng.below(10));
             self.case.input.push(self.rng.pick(&[digit, digit, any, BLANK]) as u8);
         }
+        if self.rng.chance(10) { self.case.input.clear() }
         self.case.spread = self.rng.chance(30);
         let case = self.case.clone();
         self.keep(case, |_, _| true);

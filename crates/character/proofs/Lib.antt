@@ -2,3 +2,4 @@
 pub mod Digits
 pub mod RoundTrip
 pub mod Table
+pub mod LineEnds

@@ -4,7 +4,7 @@ mod thousand;
 ghost use mathlib.Core.Path.{_≡_};
 ghost use mathlib.Core.List.{_++_};
 ghost use Prim.Native.Nat.{_+_, _*_, _/_, _%_, _^_, _≤_, _<_, min};
-ghost use lib.ListN.{length, take, drop, getD};
+ghost use lib.ListN.{length, take, drop, getD, replicate};
 ghost use Rattle.character.specs.Character.{holds, leading, characters, packed, printed, blanksToZeros, toBinary, fromBinary, zerosToBlanks};
 ghost use Rattle.character.specs.Converted.{converted, packing};
 
@@ -156,6 +156,14 @@ pub fn print_into(output: &mut [u8], at: usize, count: usize, width: usize, v: u
         output[at + i] = printed_at(count, width, v, i);
         i += 1;
     }
+}
+
+// Operation 24 without an input: the value of n characters of octal 77.
+pub fn line_ends(n: usize) -> u64
+    requires { ⌜ n ≤ 10 ⌝ }
+    ensures { λ r. ⌜ r ≡ packed (replicate n 0o77) ⌝ }
+{
+    power(n) - 1
 }
 
 // Operation 24: the value of `count` input bytes from a place on, if each is a character.

@@ -90,7 +90,7 @@ unfolding effects-file.quietly effects-file.reporting effects-file.assigned effe
 effects = tt
 
 unfoldable operations : Unit {0}
-unfolding operations-file.orRefuse operations-file.asked operations-file.setUp operations-file.theName operations-file.define operations-file.firstRun operations-file.lowestRun operations-file.delivering operations-file.andStoring operations-file.getWants operations-file.get operations-file.liesIn operations-file.free operations-file.duplicateWants operations-file.duplicate operations-file.interchange operations-file.computing operations-file.difference operations-file.quotient operations-file.input operations-file.print operations-file.saveContents operations-file.restoreContents operations-file.saveDefinition operations-file.restoreDefinition operations-file.do-line operations-file.makes operations-file.operations operations-file.operationOf operations-file.meaningOf operations-file.meaning
+unfolding operations-file.orRefuse operations-file.asked operations-file.setUp operations-file.theName operations-file.define operations-file.firstRun operations-file.lowestRun operations-file.delivering operations-file.andStoring operations-file.getWants operations-file.get operations-file.liesIn operations-file.free operations-file.duplicateWants operations-file.duplicate operations-file.interchange operations-file.computing operations-file.difference operations-file.quotient operations-file.foundCharacters operations-file.bytesTaken operations-file.input operations-file.print operations-file.saveContents operations-file.restoreContents operations-file.saveDefinition operations-file.restoreDefinition operations-file.do-line operations-file.makes operations-file.operations operations-file.operationOf operations-file.meaningOf operations-file.meaning
 operations = tt
 
 unfoldable steps : Unit {0}

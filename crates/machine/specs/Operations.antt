@@ -6,7 +6,7 @@ use mathlib.Core.Bool.{Bool, true, false, not, _&&_, cond}
 use mathlib.Core.List.{List, [], _∷_}
 use mathlib.Core.Option.{Option, none, some}
 use lib.Dec.{eqb, leb, ltb}
-use lib.ListN.{length, getD, set, take, drop}
+use lib.ListN.{length, getD, set, take, drop, replicate}
 use Rattle.word.specs.Word.{sum, product, nearest, complement, either, both, differing, ones, zeros, leftmost, rightmost, leftShift, rightShift}
 use Rattle.character.specs.Character.{packed, allBelow, printed, blanksToZeros, toBinary, fromBinary, zerosToBlanks}
 use Rattle.block.specs.declared.SetUp.{SetUp}
@@ -204,17 +204,26 @@ quotient b a x = do
   need (not (eqb (x .value) 0)) ZeroDivisor
   passed (nearest (a .value) (x .value))
 
+-- what an input of n characters finds: octal 77 where the input lent has length 0 (ticket 4)
+unfoldable pub foundCharacters : ℕ → ℕ → List ℕ → List ℕ
+foundCharacters n taken input = cond (eqb (length input) 0) (replicate n 0o77) (take n (drop taken input))
+
+-- and the bytes that it takes: none there
+unfoldable pub bytesTaken : ℕ → List ℕ → ℕ
+bytesTaken n input = cond (eqb (length input) 0) 0 n
+
 -- 24 input (a, cd): 10, 5, 4. cd characters, the first taken leftmost, with leading zeros
 unfoldable pub input : Meaning
 input b g = do
   a ← locate b (world (g .engine)) (g .row .first)
   n ← operand b (world (g .engine)) (g .row .second)
   let taken = g .engine .state .core .taken
-  let characters = take (n .value) (drop taken (g .lent .input))
+  let count = bytesTaken (n .value) (g .lent .input)
+  let characters = foundCharacters (n .value) taken (g .lent .input)
   need (leb (n .value) (b / 6)) CharacterCount
-  need (leb (taken + n .value) (length (g .lent .input))) InputShort
+  need (leb (taken + count) (length (g .lent .input))) InputShort
   need (allBelow 64 characters) InputByte
-  passed (storing b a (packed characters) (onCore (withTaken (taken + n .value)) (g .engine .state)))
+  passed (storing b a (packed characters) (onCore (withTaken (taken + count)) (g .engine .state)))
 
 -- 25 print (cd, cd): 10, 21. A count of characters from the right end
 unfoldable pub print : Meaning

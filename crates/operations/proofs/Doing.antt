@@ -6,11 +6,12 @@ use mathlib.Core.List.{List, [], _∷_, List·Memᴰ}
 use mathlib.Core.Path.{_≡_, refl, sym, ap, ap₂, subst, _∙_}
 use borrow.Author.Tests.{eq-eqb, ne-eqb, lt-leb, le-leb, lt-ltb, le-ltb, leb-true, ltb-true, ltb-false}
 use lib.Dec.{eqb, leb, ltb}
-use lib.ListN.{length, getD, take, drop}
+use lib.ListN.{length, getD, take, drop, replicate}
 use Rattle.character.specs.Character.{packed, allBelow}
 use Rattle.character.specs.declared.Packed.{Packed}
 use Rattle.character.specs.declared.Packed.the-variants as packs
 use Rattle.character.specs.Converted.{packing}
+use Rattle.character.proofs.LineEnds.{ends-below}
 use Rattle.block.specs.declared.SetUp.{SetUp}
 use Rattle.block.specs.Blocks.{Block, Tree, Free, Live, Halves, size, level, sizeAt, liveIn, gathered}
 use Rattle.block.specs.SetUp.{top, words, fitting, runs}
@@ -30,7 +31,7 @@ use Rattle.machine.specs.declared.Refusal.{Refusal}
 use Rattle.machine.specs.declared.Refusal.the-variants.{InputByte, InputShort, BlockSize, CharacterCount, NotABlock, NoRun, FieldFreed, StackFull, StackEmpty, OutputFull}
 use Rattle.machine.specs.Answer.{Checked, refused, passed, _>>=_, _>>_, need}
 use Rattle.machine.specs.Locate.{World, Value, contents, widthOf, read, locate}
-use Rattle.machine.specs.Operations.{firstRun, lowestRun, liesIn}
+use Rattle.machine.specs.Operations.{firstRun, lowestRun, liesIn, foundCharacters, bytesTaken}
 use Rattle.machine.proofs.Blocks.{one-of-runs}
 use Rattle.machine.proofs.Checks.{and-parts, need-yes, need-no, bind-yes, bind-no, cond-yes, cond-no}
 use Rattle.machine.proofs.Keeps.{run-fits}
@@ -248,23 +249,34 @@ module _ (b taken : ℕ) (input : List ℕ) (a : Location) (n : ℕ) where
   take-many h = need-no _ _ _ (lt-leb n (b / 6) h)
 
   module _ (few : n ≤ b / 6) where
-    pub take-short : length input < taken + n → taking b taken input a n ≡ refused InputShort
-    unfolding taking
-    take-short h = need-yes _ _ _ (le-leb n (b / 6) few) ∙ need-no _ _ _ (lt-leb (taken + n) (length input) h)
+    -- an input of length 0
+    pub take-none : length input ≡ 0 → taken ≤ length input → {v : ℕ} → v ≡ packed (replicate n 0o77) → taking b taken input a n ≡ passed (Input a v 0)
+    unfolding taking foundCharacters bytesTaken
+    take-none none there is =
+        need-yes _ _ _ (le-leb n (b / 6) few)
+        ∙ rw (eq-eqb (length input) 0 none, is)
+        (need-yes _ _ _ (le-leb (taken + 0) (length input) (omega arith)) ∙ need-yes _ _ _ (ends-below n))
 
-    module _ (there : taken + n ≤ length input) {answer : Packed} (is : answer ≡ packing (take n (drop taken input))) where
-      taken-some : taking b taken input a n
-          ≡ (need (allBelow 64 (take n (drop taken input))) InputByte >> passed (Input a (packed (take n (drop taken input))) n))
-      unfolding taking
-      taken-some = need-yes _ _ _ (le-leb n (b / 6) few) ∙ need-yes _ _ _ (le-leb (taken + n) (length input) there)
+    module _ (some : length input ≡ 0 → ⊥) where
+      pub take-short : length input < taken + n → taking b taken input a n ≡ refused InputShort
+      unfolding taking foundCharacters bytesTaken
+      take-short h =
+          need-yes _ _ _ (le-leb n (b / 6) few) ∙ rw (ne-eqb (length input) 0 some) (need-no _ _ _ (lt-leb (taken + n) (length input) h))
 
-      pub take-value : {v : ℕ} → answer ≡ packs.Value v → taking b taken input a n ≡ passed (Input a v n)
-      unfolding packing
-      take-value to = taken-some ∙ characters-value n a _ _ (sym to ∙ is)
+      module _ (there : taken + n ≤ length input) {answer : Packed} (is : answer ≡ packing (take n (drop taken input))) where
+        taken-some : taking b taken input a n
+            ≡ (need (allBelow 64 (take n (drop taken input))) InputByte >> passed (Input a (packed (take n (drop taken input))) n))
+        unfolding taking foundCharacters bytesTaken
+        taken-some =
+            need-yes _ _ _ (le-leb n (b / 6) few) ∙ rw (ne-eqb (length input) 0 some) (need-yes _ _ _ (le-leb (taken + n) (length input) there))
 
-      pub take-byte : answer ≡ packs.TooLarge → taking b taken input a n ≡ refused InputByte
-      unfolding packing
-      take-byte to = taken-some ∙ characters-byte n a _ _ (sym to ∙ is)
+        pub take-value : {v : ℕ} → answer ≡ packs.Value v → taking b taken input a n ≡ passed (Input a v n)
+        unfolding packing
+        take-value to = taken-some ∙ characters-value n a _ _ (sym to ∙ is)
+
+        pub take-byte : answer ≡ packs.TooLarge → taking b taken input a n ≡ refused InputByte
+        unfolding packing
+        take-byte to = taken-some ∙ characters-byte n a _ _ (sym to ∙ is)
 
 -- a value that is made is stored
 module _ (at : Location) (k : Checked ℕ) {answer : Computed} (is : answer ≡ computed k) where

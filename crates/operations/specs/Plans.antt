@@ -5,7 +5,7 @@ use mathlib.Core.Bool.{true, not, _&&_, cond}
 use mathlib.Core.List.{List}
 use mathlib.Core.Path.{_≡_}
 use lib.Dec.{eqb, leb, ltb}
-use lib.ListN.{length, getD, take, drop}
+use lib.ListN.{length, getD}
 use Rattle.character.specs.Character.{packed, allBelow}
 use Rattle.block.specs.declared.SetUp.{SetUp}
 use Rattle.block.specs.Blocks.{size, level, sizeAt}
@@ -19,7 +19,7 @@ use Rattle.machine.specs.declared.Refusal.the-variants.{SetUpNumbers, InputByte
 use Rattle.machine.specs.Answer.{Checked, refused, passed, _>>=_, _>>_, need}
 use Rattle.machine.specs.Sound.{inRange}
 use Rattle.machine.specs.Locate.{World, Value, contents, read, locate, operand}
-use Rattle.machine.specs.Operations.{Operation, own, computes, operationOf, asked, lowestRun, liesIn}
+use Rattle.machine.specs.Operations.{Operation, own, computes, operationOf, asked, lowestRun, liesIn, foundCharacters, bytesTaken}
 use Rattle.operands.specs.declared.Pending.the-variants.{Delivery}
 use Rattle.operands.specs.Storing.{bugsStored}
 use Rattle.operands.specs.Through.{through}
@@ -92,11 +92,12 @@ duplicating u m a from n = do
 -- 24 input: 10, 5, 4
 unfoldable pub taking : ℕ → ℕ → List ℕ → Location → ℕ → Checked Action
 taking b taken input a n = do
-  let characters = take n (drop taken input)
+  let count = bytesTaken n input
+  let characters = foundCharacters n taken input
   need (leb n (b / 6)) CharacterCount
-  need (leb (taken + n) (length input)) InputShort
+  need (leb (taken + count) (length input)) InputShort
   need (allBelow 64 characters) InputByte
-  passed (Input a (packed characters) n)
+  passed (Input a (packed characters) count)
 
 -- what an operation that computes makes of a's old contents and of x
 unfoldable pub valueOf : Operation → ℕ → Value → Value → Checked ℕ

@@ -17,6 +17,7 @@ use crate::values::compute;
 use block::SetUp;
 use buddy::setup::fits;
 use character::Packed;
+use character::line_ends;
 use character::pack_input;
 use machine::Definition;
 use machine::Location;
@@ -103,7 +104,7 @@ pub fn plan_define(
     }
 }
 
-// 24 input: 10, 5, 4.
+// 24 input: 10, 5, 4. Where the input has length 0, its characters are octal 77 and nothing is taken.
 fn take(b: u64, to: Place, at: Location, taken: usize, input: &[u8], n: u64) -> Planned
     requires { ⌜ (b ≤ 48) × (taken ≤ length (now input)) ⌝ }
     ensures { λ r. ⌜ r ≡ planned to (taking b taken (now (input .entry)) at n) ⌝ }
@@ -112,6 +113,9 @@ fn take(b: u64, to: Place, at: Location, taken: usize, input: &[u8], n: u64) -> 
         return Planned::Stopped(Refusal::CharacterCount);
     }
     let count = n as usize;
+    if input.len() == 0 {
+        return Planned::Does(to, Action::Input(at, line_ends(count), 0));
+    }
     if input.len() - taken < count {
         return Planned::Stopped(Refusal::InputShort);
     }
