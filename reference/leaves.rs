@@ -1,8 +1,8 @@
-// The lines that the programs `leaves` and `allocations` must write (the argument names the program), computed from document 01 by
-// other means: words are lists of single bits, products and differences are 128 bits wide, numbers become characters by way of
-// text, a table's rules are read row by row, and the allocator is a list of live blocks, from which its map is drawn and through
-// which references lead. Only the generator of cases and the checksum are the programs'. `make expected` writes their files stdout
-// with it.
+// The lines that the programs `leaves`, `allocations` and `triples` must write (the argument names the program), computed from
+// document 01 by other means: words are lists of single bits, products and differences are 128 bits wide, numbers become characters
+// by way of text, a table's rules are read row by row, and the allocator is a list of live blocks, from which its map is drawn and
+// through which references lead. Only the generator of cases and the checksum are the programs'. `make expected` writes their files
+// stdout with it.
 
 // ---- The generator ----
 
@@ -695,6 +695,14 @@ fn bench_blocks() {
     }
 }
 
+// The three-character list: the decimal text of each number below 1,000, each digit as a character, which is two octal digits.
+fn triples() {
+    for k in 0..1000 {
+        let line: String = format!("{k:03}").chars().map(|c| format!("{:02o}", c.to_digit(10).unwrap())).collect();
+        println!("{line}");
+    }
+}
+
 fn main() {
     match std::env::args().nth(1).as_deref() {
         Some("leaves") => {
@@ -709,6 +717,7 @@ fn main() {
             references();
             bench_blocks();
         }
-        _ => println!("leaves or allocations"),
+        Some("triples") => triples(),
+        _ => println!("leaves, allocations or triples"),
     }
 }

@@ -3,3 +3,4 @@ pub mod Digits
 pub mod RoundTrip
 pub mod Table
 pub mod LineEnds
+pub mod Entries

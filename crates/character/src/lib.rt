@@ -1,5 +1,6 @@
 // Six-bit characters in a value of up to ten: the operations 24 to 31 of document 01. A value's first character is its leftmost.
 mod thousand;
+pub mod triples;
 
 ghost use mathlib.Core.Path.{_≡_};
 ghost use mathlib.Core.List.{_++_};

@@ -1008,7 +1008,7 @@ const THOUSAND: [u16; 1000] = [
 ];
 
 // An entry as a word.
-fn wide(entry: u16) -> u64
+pub(crate) fn wide(entry: u16) -> u64
     ensures { λ r. ⌜ r ≡ entry ⌝ }
 {
     entry as u64
