@@ -6,14 +6,14 @@ use mathlib.Core.Bool.{Bool, true, false, not, cond}
 use lib.Dec.{eqb}
 use mathlib.Core.List.{List, [], _∷_, _++_}
 use mathlib.Core.Path.{_≡_, refl, sym, ap, _∙_}
-use lib.ListN.{length, take, drop, getD}
+use lib.ListN.{length, take, drop, getD, length-drop}
 use lib.Seq.{take-at, take-take, drop-drop, drop-cons}
 use Rattle.octets.specs.Octets.{lowFirst, bytesOf}
 use Rattle.octets.proofs.RoundTrip.{length-bytes, number-of-bytes}
 use Rattle.machine.specs.declared.Place.{Place}
 use Rattle.machine.specs.declared.Definition.{Definition}
-use Rattle.layout.specs.Records.{numberAt}
-use Rattle.layout.specs.Layout.{bytesOfPlace, placeOf, bytesOfDefinition, definitionOf}
+use Rattle.layout.specs.Records.{numberAt, recordsOf}
+use Rattle.layout.specs.Layout.{stateLength, bytesOfPlace, placeOf, bytesOfDefinition, definitionOf, stateOf}
 use Rattle.layout.specs.Ranged.{Bytes, RangedPlace, RangedDefinition}
 
 pub length-place : (p : Place) → length (bytesOfPlace p) ≡ 5
@@ -68,3 +68,18 @@ pub short-at : (at : ℕ) (bytes : List ℕ) → at + 2 ≤ length bytes → num
 unfolding numberAt lowFirst
 short-at at bytes h =
     rw (drop-cons bytes at 0 (omega arith), drop-cons bytes (suc at) 0 (omega arith)) (omega (arith, ap (λ (k : ℕ). getD bytes k 0) (add-one at)))
+
+-- bytes as records of one byte are themselves
+pub bytes-are : (bytes : List ℕ) → recordsOf lowFirst 1 (length bytes) bytes ≡ bytes
+unfolding recordsOf lowFirst
+bytes-are [] = refl
+bytes-are (x ∷ xs) =
+    let same : x + 256 * 0 ≡ x = omega arith in
+    ap (λ (y : ℕ). y ∷ recordsOf lowFirst 1 (length xs) xs) same ∙ ap (λ (ys : List ℕ). x ∷ ys) (bytes-are xs)
+
+-- so the map is what stands from its place on
+pub map-is : (bytes : List ℕ) → length bytes ≡ stateLength → stateOf bytes .map ≡ drop 2579 bytes
+unfolding stateOf
+map-is bytes h =
+    let long : 4096 ≡ length (drop 2579 bytes) = omega (arith, length-drop 2579 bytes) in
+    ap (λ (n : ℕ). recordsOf lowFirst 1 n (drop 2579 bytes)) long ∙ bytes-are (drop 2579 bytes)

@@ -1,3 +1,5 @@
 -- Laws of the library's calls.
 pub mod Moving
 pub mod Leaving
+pub mod Blocks
+pub mod Corollaries

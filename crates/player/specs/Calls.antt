@@ -1,6 +1,6 @@
 -- The library's calls: what each answers, and what it leaves in the memory lent to it. The state is its bytes (layout/specs/Layout).
 -- Assumes nothing.
-use Prim.Native.Nat.{ℕ}
+use Prim.Native.Nat.{ℕ, _*_}
 use mathlib.Core.Bool.{Bool, true, false, not, _&&_, _||_, cond}
 use mathlib.Core.List.{List, [], _∷_, _++_}
 use lib.Dec.{eqb, ltb}
@@ -10,6 +10,7 @@ use Rattle.table.specs.declared.TableCheck.the-variants.{Lowest, BadLength}
 use Rattle.table.specs.Table.{checked}
 use Rattle.machine.specs.declared.Answer.{Answer}
 use Rattle.machine.specs.declared.Answer.the-variants.{Running, Finished, Refused}
+use Rattle.machine.specs.declared.Refusal.the-variants.{Unsound}
 use Rattle.machine.specs.declared.Report.{Report}
 use Rattle.machine.specs.declared.State.{State}
 use Rattle.machine.specs.declared.Store.{Store}
@@ -17,7 +18,9 @@ use Rattle.machine.specs.Answer.{refusalNumber}
 use Rattle.machine.specs.State.{fresh, isFinished}
 use Rattle.machine.specs.Sound.{Lent, Engine}
 use Rattle.machine.specs.Step.{Outcome, RunOutcome, step, run}
+use Rattle.block.specs.Blocks.{Block}
 use Rattle.layout.specs.Layout.{stateLength, bytesOfState, stateOf}
+use Rattle.listing.specs.Listing.{areBlocks, blocks, numbersOf}
 
 -- a step of the engine, and a run
 unfoldable pub stepCall : Lent → Engine → Outcome
@@ -143,3 +146,35 @@ afterCheck BadLength row = record { answer = 1; row = row }
 
 unfoldable pub checkLeft : List ℕ → ℕ → CheckLeft
 checkLeft table row = afterCheck (checked 36 table) row
+
+-- l6_count_blocks and l6_list_blocks leave the list that they are lent
+pub record ListLeft : Type 0 where
+  pub answer : ℕ
+  pub list : List ℕ
+
+-- the live blocks of these bytes, or the free ones
+abbrev pub blocksAt : Bool → List ℕ → List Block
+blocksAt asked bytes = blocks asked (stateOf bytes .core .setup) (stateOf bytes .map)
+
+-- what the blocks give, where the state has the right length and its set-up numbers and map keep their sections
+unfoldable pub ofBlocks : List ℕ → List ℕ → ListLeft → ListLeft
+ofBlocks bytes list given =
+    cond (areBlocks (stateOf bytes .core .setup) (stateOf bytes .map)) given (record { answer = code (Refused Unsound); list = list })
+
+-- how many blocks are live and how many free, in a list of two
+unfoldable pub countsLeft : List ℕ → List ℕ → ListLeft
+countsLeft bytes list =
+    cond (eqb (length bytes) stateLength)
+    (cond (eqb (length list) 2)
+    (ofBlocks bytes list (record { answer = 0; list = length (blocksAt true bytes) ∷ length (blocksAt false bytes) ∷ [] }))
+    (record { answer = wrongList; list = list }))
+    (record { answer = wrongState; list = list })
+
+-- address and size of each live block (live is not 0) or free one (live is 0), in a list of just that length
+unfoldable pub blocksLeft : List ℕ → ℕ → List ℕ → ListLeft
+blocksLeft bytes live list =
+    let found : List Block = blocksAt (not (eqb live 0)) bytes in
+    cond (eqb (length bytes) stateLength)
+    (ofBlocks bytes list
+    (cond (eqb (length list) (2 * length found)) (record { answer = 0; list = numbersOf found }) (record { answer = wrongList; list = list })))
+    (record { answer = wrongState; list = list })

@@ -8,13 +8,17 @@ ghost use lib.ListN.{length};
 ghost use Rattle.machine.specs.State.{fresh as freshState};
 ghost use Rattle.machine.specs.Storage.{placed};
 ghost use Rattle.layout.specs.Layout.{stateLength, bytesOfState, stateOf};
-ghost use Rattle.player.specs.Calls.{code, moved, numbersOfStore, numbersOfReport, engineAt, stepCall, runCall, freshLeft, stepLeft, runLeft, checkLeft};
+ghost use Rattle.player.specs.Calls.{code, moved, numbersOfStore, numbersOfReport, engineAt, stepCall, runCall, freshLeft, stepLeft, runLeft, checkLeft, countsLeft, blocksLeft};
 use engine::answers::refusal_number;
 use engine::fresh;
 use engine::run;
 use engine::step;
 use layout::reading::read_state;
+use layout::reading::setup_at;
 use layout::writing::write_state;
+use listing::are_blocks;
+use listing::count_blocks;
+use listing::list_blocks;
 use machine::Answer;
 use machine::Report;
 use machine::State;
@@ -182,4 +186,48 @@ pub extern "C" fn l6_check(table: &[u64], row: &mut u64) -> u64
         }
         TableCheck::BadLength => 1,
     }
+}
+
+// How many blocks are live, and how many free.
+#[no_mangle]
+pub extern "C" fn l6_count_blocks(state: &[u8], counts: &mut [u64]) -> u64
+    ensures { λ r. ⌜ record { answer = r; list = now (counts .exit) } ≡ countsLeft (now (state .entry)) (now (counts .entry)) ⌝ }
+{
+    if state.len() != 6675 {
+        return 101;
+    }
+    if counts.len() != 2 {
+        return 103;
+    }
+    let setup = setup_at(state);
+    let map = &state[2579..];
+    if !are_blocks(setup, map) {
+        return 11;
+    }
+    let live = count_blocks(true, setup, map);
+    let free = count_blocks(false, setup, map);
+    counts[0] = live;
+    counts[1] = free;
+    0
+}
+
+// Address and size of each live block, or of each free one where live is 0, lowest first.
+#[no_mangle]
+pub extern "C" fn l6_list_blocks(state: &[u8], live: u64, list: &mut [u64]) -> u64
+    ensures { λ r. ⌜ record { answer = r; list = now (list .exit) } ≡ blocksLeft (now (state .entry)) live (now (list .entry)) ⌝ }
+{
+    if state.len() != 6675 {
+        return 101;
+    }
+    let setup = setup_at(state);
+    let map = &state[2579..];
+    if !are_blocks(setup, map) {
+        return 11;
+    }
+    let asked = live != 0;
+    if list.len() as u64 != 2 * count_blocks(asked, setup, map) {
+        return 103;
+    }
+    list_blocks(asked, setup, map, list);
+    0
 }

@@ -22,15 +22,27 @@ enum-told-3 c = search needs
 
 returns-3 : tie.Need-returns-3
 unfolding isRefused
-returns-3 c = rw (c .enum-told .given .1) (moved-one (c .before .before .before .before .args .kind) _ (c .before .before .before .before .args .count) (c .before .before .before .if1 .left) (c .before .before .if2 .left))
+returns-3 c =
+    let at-if2 = c .before .before in
+    let at-if1 = at-if2 .before in
+    let entry = at-if1 .before in
+    rw (c .enum-told .given .1) (moved-one (entry .args .kind) _ (entry .args .count) (at-if1 .if1 .left) (at-if2 .if2 .left))
 
 returns-4 : tie.Need-returns-4
 unfolding isRefused
-returns-4 c = rw (c .enum-told2 .given .1) (moved-one (c .before .before .before .before .args .kind) _ (c .before .before .before .before .args .count) (c .before .before .before .if1 .left) (c .before .before .if2 .left))
+returns-4 c =
+    let at-if2 = c .before .before in
+    let at-if1 = at-if2 .before in
+    let entry = at-if1 .before in
+    rw (c .enum-told2 .given .1) (moved-one (entry .args .kind) _ (entry .args .count) (at-if1 .if1 .left) (at-if2 .if2 .left))
 
 returns-5 : tie.Need-returns-5
 unfolding isRefused
-returns-5 c = rw (c .enum-told3 .given .1) (moved-one (c .before .before .before .before .args .kind) _ (c .before .before .before .before .args .count) (c .before .before .before .if1 .left) (c .before .before .if2 .left))
+returns-5 c =
+    let at-if2 = c .before .before in
+    let at-if1 = at-if2 .before in
+    let entry = at-if1 .before in
+    rw (c .enum-told3 .given .1) (moved-one (entry .args .kind) _ (entry .args .count) (at-if1 .if1 .left) (at-if2 .if2 .left))
 
 pub has-moved-spec : {M : Type 1} → statement M
 has-moved-spec =

@@ -19,7 +19,11 @@ same-length : tie.Need-same-length
 same-length c = search needs
 
 returns-2 : tie.Need-returns-2
-returns-2 c = written _ _ _ (sym (c .before .before .before .before .before .has-moved .ensures) ∙ not-false _ (c .before .before .before .before .if1 .left)) (c .before .before .write-state .ensures .0) (c .before .before .write-state .ensures .1)
+returns-2 c =
+    let at-write-state = c .before .before in
+    let at-if1 = at-write-state .before .before in
+    let at-has-moved = at-if1 .before in
+    written _ _ _ (sym (at-has-moved .has-moved .ensures) ∙ not-false _ (at-if1 .if1 .left)) (at-write-state .write-state .ensures .0) (at-write-state .write-state .ensures .1)
 
 pub keep-state-spec : {M : Type 1} → statement M
 keep-state-spec =

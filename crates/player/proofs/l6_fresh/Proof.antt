@@ -19,10 +19,14 @@ same-length : tie.Need-same-length
 same-length c = search needs
 
 returns-2 : tie.Need-returns-2
-returns-2 c = (
-  fresh-leaves (c .before .before .before .before .before .before .before .args .state .now) (c .before .before .before .before .before .if1 .left) (c .before .before .before .fresh .ensures) (c .before .before .write-state .ensures .0),
-  λ h. ap stateOf (c .before .before .write-state .ensures .0) ∙ c .before .before .write-state .ensures .1 ∙ c .before .before .before .fresh .ensures,
-)
+returns-2 c =
+    let at-write-state = c .before .before in
+    let at-fresh = at-write-state .before in
+    let at-if1 = at-fresh .before .before in
+    let entry = at-if1 .before .before in (
+      fresh-leaves (entry .args .state .now) (at-if1 .if1 .left) (at-fresh .fresh .ensures) (at-write-state .write-state .ensures .0),
+      λ h. ap stateOf (at-write-state .write-state .ensures .0) ∙ at-write-state .write-state .ensures .1 ∙ at-fresh .fresh .ensures,
+    )
 
 pub l6-fresh-spec : {M : Type 1} → statement M
 l6-fresh-spec =

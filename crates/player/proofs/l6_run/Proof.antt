@@ -7,7 +7,9 @@ use Rattle.player.proofs.l6_run.Tie as tie
 
 returns : tie.Need-returns
 unfolding noRun
-returns c = (run-short (c .before .before .before .before .before .before .args .limit) _ (c .before .before .before .before .before .before .args .storage .now) (c .before .before .before .before .before .before .args .state .now) (c .before .before .before .before .before .before .args .count .now) (c .if1 .taken), λ h. absurd (c .if1 .taken h))
+returns c =
+    let entry = c .before .before .before .before .before .before in
+    (run-short (entry .args .limit) _ (entry .args .storage .now) (entry .args .state .now) (entry .args .count .now) (c .if1 .taken), λ h. absurd (c .if1 .taken h))
 
 read-state-requires : tie.Need-read-state-requires
 read-state-requires c κs = search needs
@@ -31,10 +33,17 @@ same-length-3 : tie.Need-same-length-3
 same-length-3 c = search needs
 
 returns-2 : tie.Need-returns-2
-returns-2 c = (
-  run-leaves (c .before .before .before .before .before .before .before .before .before .before .before .before .before .before .before .before .before .before .before .before .before .before .before .args .limit) _ (c .before .before .before .before .before .before .before .before .before .before .before .before .before .before .before .before .before .before .before .before .before .before .before .args .storage .now) (c .before .before .before .before .before .before .before .before .before .before .before .before .before .before .before .before .before .before .before .before .before .before .before .args .state .now) (c .before .before .before .before .before .before .before .before .before .before .before .before .before .before .before .read-state .ensures) (c .before .before .before .before .before .before .before .before .before .before .run .ensures .0) (c .before .before .before .keep-state .ensures .0) (c .before .before .before .before .before .before .before .before .before .before .before .before .before .before .before .before .before .before .before .before .before .before .before .args .count .now) (c .before .before .before .before .before .before .before .before .before .before .before .before .before .before .before .before .before .if1 .left) (c .code-of .ensures),
-  λ h. run-told (c .before .before .before .before .before .before .before .before .before .before .before .before .before .before .before .before .before .before .before .before .before .before .before .args .limit) _ (c .before .before .before .before .before .before .before .before .before .before .before .before .before .before .before .before .before .before .before .before .before .before .before .args .storage .now) (c .before .before .before .before .before .before .before .before .before .before .before .before .before .before .before .before .before .before .before .before .before .before .before .args .state .now) (c .before .before .before .before .before .before .before .before .before .before .before .before .before .before .before .read-state .ensures) (c .before .before .before .before .before .before .before .before .before .before .run .ensures .0) (c .before .before .before .keep-state .ensures .0) (c .before .before .before .keep-state .ensures .1),
-)
+returns-2 c =
+    let at-keep-state = c .before .before .before in
+    let at-run = at-keep-state .before .before .before .before .before .before .before in
+    let at-read-state = at-run .before .before .before .before .before in
+    let at-if1 = at-read-state .before .before in
+    let entry = at-if1 .before .before .before .before .before .before in (
+      run-leaves (entry .args .limit) _ (entry .args .storage .now) (entry .args .state .now) (at-read-state .read-state .ensures) (at-run .run .ensures .0) (at-keep-state .keep-state .ensures .0)
+          (entry .args .count .now) (at-if1 .if1 .left) (c .code-of .ensures),
+      λ h. run-told (entry .args .limit) _ (entry .args .storage .now) (entry .args .state .now) (at-read-state .read-state .ensures) (at-run .run .ensures .0) (at-keep-state .keep-state .ensures .0)
+          (at-keep-state .keep-state .ensures .1),
+    )
 
 pub l6-run-spec : {M : Type 1} → statement M
 l6-run-spec =

@@ -7,11 +7,16 @@ use Rattle.player.proofs.l6_step.Tie as tie
 
 returns : tie.Need-returns
 unfolding noStep
-returns c = (step-short _ (c .before .before .before .before .before .before .before .args .storage .now) (c .before .before .before .before .before .before .before .args .state .now) (c .before .before .before .before .before .before .before .args .report .now) (c .if1 .taken), λ h k. absurd (c .if1 .taken h))
+returns c =
+    let entry = c .before .before .before .before .before .before .before in
+    (step-short _ (entry .args .storage .now) (entry .args .state .now) (entry .args .report .now) (c .if1 .taken), λ h k. absurd (c .if1 .taken h))
 
 returns-2 : tie.Need-returns-2
 unfolding noStep
-returns-2 c = (step-unreported _ (c .before .before .before .before .before .before .before .before .args .storage .now) (c .before .before .before .before .before .before .before .before .args .state .now) (c .before .before .before .before .before .before .before .before .args .report .now) (c .before .if1 .left) (c .if2 .taken), λ h k. absurd (c .if2 .taken k))
+returns-2 c =
+    let at-if1 = c .before in
+    let entry = at-if1 .before .before .before .before .before .before .before in
+    (step-unreported _ (entry .args .storage .now) (entry .args .state .now) (entry .args .report .now) (at-if1 .if1 .left) (c .if2 .taken), λ h k. absurd (c .if2 .taken k))
 
 read-state-requires : tie.Need-read-state-requires
 read-state-requires c κs = search needs
@@ -41,10 +46,19 @@ same-length-4 : tie.Need-same-length-4
 same-length-4 c = search needs
 
 returns-3 : tie.Need-returns-3
-returns-3 c = (
-  step-leaves _ (c .before .before .before .before .before .before .before .before .before .before .before .before .before .before .before .before .before .before .before .before .before .before .before .before .before .before .before .before .before .args .storage .now) (c .before .before .before .before .before .before .before .before .before .before .before .before .before .before .before .before .before .before .before .before .before .before .before .before .before .before .before .before .before .args .state .now) (c .before .before .before .before .before .before .before .before .before .before .before .before .before .before .before .before .before .before .before .before .before .before .before .before .before .before .before .before .before .args .report .now) (c .before .before .before .before .before .before .before .before .before .before .before .before .before .before .before .before .before .before .before .read-state .ensures) (c .before .before .before .before .before .before .before .before .before .before .before .before .before .before .step .ensures .0) (c .before .before .before .keep-state .ensures .0) (c .before .before .before .before .before .before .before .before .before .before .before .before .before .before .before .before .before .before .before .before .before .before .if1 .left) (c .before .before .before .before .before .before .before .before .before .before .before .before .before .before .before .before .before .before .before .before .before .if2 .left) (c .before .before .before .before .before .before .before .put-report .ensures) (c .code-of .ensures),
-  λ h k. step-told _ (c .before .before .before .before .before .before .before .before .before .before .before .before .before .before .before .before .before .before .before .before .before .before .before .before .before .before .before .before .before .args .storage .now) (c .before .before .before .before .before .before .before .before .before .before .before .before .before .before .before .before .before .before .before .before .before .before .before .before .before .before .before .before .before .args .state .now) (c .before .before .before .before .before .before .before .before .before .before .before .before .before .before .before .before .before .before .before .before .before .before .before .before .before .before .before .before .before .args .report .now) (c .before .before .before .before .before .before .before .before .before .before .before .before .before .before .before .before .before .before .before .read-state .ensures) (c .before .before .before .before .before .before .before .before .before .before .before .before .before .before .step .ensures .0) (c .before .before .before .keep-state .ensures .0) (c .before .before .before .keep-state .ensures .1),
-)
+returns-3 c =
+    let at-keep-state = c .before .before .before in
+    let at-put-report = at-keep-state .before .before .before .before in
+    let at-step = at-put-report .before .before .before .before .before .before .before in
+    let at-read-state = at-step .before .before .before .before .before in
+    let at-if2 = at-read-state .before .before in
+    let at-if1 = at-if2 .before in
+    let entry = at-if1 .before .before .before .before .before .before .before in (
+      step-leaves _ (entry .args .storage .now) (entry .args .state .now) (entry .args .report .now) (at-read-state .read-state .ensures) (at-step .step .ensures .0) (at-keep-state .keep-state .ensures .0)
+          (at-if1 .if1 .left) (at-if2 .if2 .left) (at-put-report .put-report .ensures) (c .code-of .ensures),
+      λ h k. step-told _ (entry .args .storage .now) (entry .args .state .now) (entry .args .report .now) (at-read-state .read-state .ensures) (at-step .step .ensures .0) (at-keep-state .keep-state .ensures .0)
+          (at-keep-state .keep-state .ensures .1),
+    )
 
 pub l6-step-spec : {M : Type 1} → statement M
 l6-step-spec =

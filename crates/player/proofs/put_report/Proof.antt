@@ -22,9 +22,15 @@ same-length c = search needs
 
 returns : tie.Need-returns
 unfolding numbersOfStore numbersOfReport
-returns c = let of = c .before .before .before .before .before .before .before .before .before .before .before .before .before .args .of in
-    three-row 0 4 4 4 (of .freed ∷ of .delivered ∷ of .size ∷ of .copied ∷ []) (numbersOfStore (of .first)) (numbersOfStore (of .second)) (c .before .before .before .before .before .before .before .before .before .before .before .before .before .args .report .now) refl refl refl (c .before .before .before .before .before .before .before .before .before .before .put-four .ensures) (c .before .before .before .before .before .before .put-store .ensures) (c .before .before .put-store2 .ensures) (omega (arith, c .before .before .before .before .before .before .before .before .before .before .before .before .before .pre)) .put .same
-    ∙ whole _ (c .before .before .before .before .before .before .before .before .before .before .before .before .before .args .report .now) (sym (c .before .before .before .before .before .before .before .before .before .before .before .before .before .pre))
+returns c =
+    let at-put-store2 = c .before .before in
+    let at-put-store = at-put-store2 .before .before .before .before in
+    let at-put-four = at-put-store .before .before .before .before in
+    let entry = at-put-four .before .before .before in
+    let of = entry .args .of in
+    three-row 0 4 4 4 (of .freed ∷ of .delivered ∷ of .size ∷ of .copied ∷ []) (numbersOfStore (of .first)) (numbersOfStore (of .second)) (entry .args .report .now) refl refl refl (at-put-four .put-four .ensures)
+    (at-put-store .put-store .ensures) (at-put-store2 .put-store2 .ensures) (omega (arith, entry .pre)) .put .same
+    ∙ whole _ (entry .args .report .now) (sym (entry .pre))
 
 pub put-report-spec : {M : Type 1} → statement M
 put-report-spec =

@@ -47,7 +47,22 @@ count-at-requires-5 : tie.Need-count-at-requires-5
 count-at-requires-5 c κs = search needs
 
 returns : tie.Need-returns
-returns c = core-read (c .before .before .before .before .before .before .before .before .before .before .before .before .before .before .before .before .before .args .bytes .now) (c .before .before .before .before .before .before .before .before .before .before .before .before .before .before .read-words .ensures) (c .before .before .before .before .before .before .before .before .before .before .before .read-words2 .ensures) (c .before .before .before .before .before .before .before .before .before .definitions-at .ensures) (c .before .before .before .before .before .before .before .before .saved-at .ensures) (c .before .before .before .before .before .before .before .calls-at .ensures) (c .before .before .before .before .before .before .place-at .ensures) (c .before .before .before .before .before .count-at .ensures) (c .before .before .before .before .count-at2 .ensures) (c .before .before .before .count-at3 .ensures) (c .before .before .setup-at .ensures) (c .before .count-at4 .ensures) (c .count-at5 .ensures)
+returns c =
+    let at-count-at4 = c .before in
+    let at-setup-at = at-count-at4 .before in
+    let at-count-at3 = at-setup-at .before in
+    let at-count-at2 = at-count-at3 .before in
+    let at-count-at = at-count-at2 .before in
+    let at-place-at = at-count-at .before in
+    let at-calls-at = at-place-at .before in
+    let at-saved-at = at-calls-at .before in
+    let at-definitions-at = at-saved-at .before in
+    let at-read-words2 = at-definitions-at .before .before in
+    let at-read-words = at-read-words2 .before .before .before in
+    let entry = at-read-words .before .before .before in
+    core-read (entry .args .bytes .now) (at-read-words .read-words .ensures) (at-read-words2 .read-words2 .ensures) (at-definitions-at .definitions-at .ensures) (at-saved-at .saved-at .ensures)
+    (at-calls-at .calls-at .ensures) (at-place-at .place-at .ensures) (at-count-at .count-at .ensures) (at-count-at2 .count-at2 .ensures) (at-count-at3 .count-at3 .ensures) (at-setup-at .setup-at .ensures)
+    (at-count-at4 .count-at4 .ensures) (c .count-at5 .ensures)
 
 pub core-at-spec : {M : Type 1} → statement M
 core-at-spec =

@@ -20,7 +20,10 @@ short-at-requires-2 : tie.Need-short-at-requires-2
 short-at-requires-2 c κs = search needs
 
 returns : tie.Need-returns
-returns c = place-read (c .before .before .before .before .args .bytes .now) (c .before .before .before .before .args .at) (c .before .before .before .before .pre) (c .before .short-at .ensures) (c .short-at2 .ensures)
+returns c =
+    let at-short-at = c .before in
+    let entry = at-short-at .before .before .before in
+    place-read (entry .args .bytes .now) (entry .args .at) (entry .pre) (at-short-at .short-at .ensures) (c .short-at2 .ensures)
 
 pub place-at-spec : {M : Type 1} → statement M
 place-at-spec =

@@ -35,7 +35,10 @@ loop-less : tie.Need-loop-less Inv-loop μ-loop
 loop-less c = search needs
 
 loop-again : tie.Need-loop-again Inv-loop μ-loop
-loop-again c = reads-next lowFirst 1 (c .before .before .loop .inv) (omega (arith, c .before .before .loop .inv .long)) (byte-read (c .before .before .before .args .bytes .now) (c .before .before .before .args .at) (c .before .before .loop .i) (omega (arith, c .before .before .loop .inv .long, c .before .before .before .pre)))
+loop-again c =
+    let at-loop = c .before .before in
+    let entry = at-loop .before in
+    reads-next lowFirst 1 (at-loop .loop .inv) (omega (arith, at-loop .loop .inv .long)) (byte-read (entry .args .bytes .now) (entry .args .at) (at-loop .loop .i) (omega (arith, at-loop .loop .inv .long, entry .pre)))
 
 same-length : tie.Need-same-length Inv-loop μ-loop
 same-length c = c .before .loop .inv .long

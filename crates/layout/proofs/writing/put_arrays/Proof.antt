@@ -12,13 +12,17 @@ slice-aggregate-put-words : tie.Need-slice-aggregate-put-words
 slice-aggregate-put-words c = search needs
 
 put-words-requires : tie.Need-put-words-requires
-put-words-requires c κs = let long : length (c .before .before .before .before .before .before .before .before .before .before .before .args .core .bugs) ≡ 26 = search needs in omega (arith, c .before .before .before .before .before .before .before .before .before .before .before .pre)
+put-words-requires c κs =
+    let entry = c .before .before .before .before .before .before .before .before .before .before .before in
+    let long : length (entry .args .core .bugs) ≡ 26 = search needs in omega (arith, entry .pre)
 
 slice-aggregate-put-words-2 : tie.Need-slice-aggregate-put-words-2
 slice-aggregate-put-words-2 c = search needs
 
 put-words-requires-2 : tie.Need-put-words-requires-2
-put-words-requires-2 c κs = let long : length (c .before .before .before .before .before .before .before .before .before .before .before .before .before .before .before .before .args .core .contents .entries) ≡ 128 = search needs in omega (arith, c .before .before .before .before .before .before .before .before .before .before .before .before .before .before .before .before .pre)
+put-words-requires-2 c κs =
+    let entry = c .before .before .before .before .before .before .before .before .before .before .before .before .before .before .before .before in
+    let long : length (entry .args .core .contents .entries) ≡ 128 = search needs in omega (arith, entry .pre)
 
 put-definitions-requires : tie.Need-put-definitions-requires
 put-definitions-requires c κs = search needs
@@ -34,10 +38,27 @@ same-length c = search needs
 
 returns : tie.Need-returns
 returns c =
-    let bugs-long : length (c .before .before .before .before .before .before .before .before .before .before .before .before .before .before .before .before .before .before .before .before .before .before .before .before .before .before .before .before .before .before .before .args .core .bugs) ≡ 26 = sym (slice-aggregate-put-words (c .before .before .before .before .before .before .before .before .before .before .before .before .before .before .before .before .before .before .before .before)) in
-    let words-long : length (c .before .before .before .before .before .before .before .before .before .before .before .before .before .before .before .before .before .before .before .before .before .before .before .before .before .before .before .before .before .before .before .args .core .contents .entries) ≡ 128 = sym (slice-aggregate-put-words-2 (c .before .before .before .before .before .before .before .before .before .before .before .before .before .before .before)) in
-    let ok : RangedArrays (c .before .before .before .before .before .before .before .before .before .before .before .before .before .before .before .before .before .before .before .before .before .before .before .before .before .before .before .before .before .before .before .args .core) = record { bugs = rw bugs-long at (c .before .before .before .before .before .before .before .before .before .before .before .before .before .before .before .before .before .before .before .put-words .ensures .1); contents = rw words-long at (c .before .before .before .before .before .before .before .before .before .before .before .before .before .before .put-words2 .ensures .1); definitions = c .before .before .before .before .before .before .before .before .before .before .put-definitions .ensures .1; saved = c .before .before .before .before .before .before .put-saved .ensures .1; calls = c .before .before .put-calls .ensures .1 } in
-    (arrays-put (c .before .before .before .before .before .before .before .before .before .before .before .before .before .before .before .before .before .before .before .before .before .before .before .before .before .before .before .before .before .before .before .args .core) ok (c .before .before .before .before .before .before .before .before .before .before .before .before .before .before .before .before .before .before .before .before .before .before .before .before .before .before .before .before .before .before .before .args .bytes .now) (c .before .before .before .before .before .before .before .before .before .before .before .before .before .before .before .before .before .before .before .before .before .before .before .before .before .before .before .before .before .before .before .pre) (c .before .before .before .before .before .before .before .before .before .before .before .before .before .before .before .before .before .before .before .put-words .ensures .0) (c .before .before .before .before .before .before .before .before .before .before .before .before .before .before .put-words2 .ensures .0) (c .before .before .before .before .before .before .before .before .before .before .put-definitions .ensures .0) (c .before .before .before .before .before .before .put-saved .ensures .0) (c .before .before .put-calls .ensures .0), ok)
+    let at-put-calls = c .before .before in
+    let at-put-saved = at-put-calls .before .before .before .before in
+    let at-put-definitions = at-put-saved .before .before .before .before in
+    let at-put-words2 = at-put-definitions .before .before .before .before in
+    let at-words2 = at-put-words2 .before in
+    let at-put-words = at-words2 .before .before .before .before in
+    let at-bugs2 = at-put-words .before in
+    let entry = at-bugs2 .before .before .before .before .before .before .before .before .before .before .before in
+    let bugs-long : length (entry .args .core .bugs) ≡ 26 = sym (slice-aggregate-put-words at-bugs2) in
+    let words-long : length (entry .args .core .contents .entries) ≡ 128 = sym (slice-aggregate-put-words-2 at-words2) in
+    let ok : RangedArrays (entry .args .core) = record {
+      bugs = rw bugs-long at (at-put-words .put-words .ensures .1);
+      contents = rw words-long at (at-put-words2 .put-words2 .ensures .1);
+      definitions = at-put-definitions .put-definitions .ensures .1;
+      saved = at-put-saved .put-saved .ensures .1;
+      calls = at-put-calls .put-calls .ensures .1;
+    } in (
+      arrays-put (entry .args .core) ok (entry .args .bytes .now) (entry .pre) (at-put-words .put-words .ensures .0) (at-put-words2 .put-words2 .ensures .0) (at-put-definitions .put-definitions .ensures .0)
+          (at-put-saved .put-saved .ensures .0) (at-put-calls .put-calls .ensures .0),
+      ok,
+    )
 
 pub put-arrays-spec : {M : Type 1} → statement M
 put-arrays-spec =

@@ -38,8 +38,12 @@ loop-less c = search needs
 
 loop-again : tie.Need-loop-again Inv-loop μ-loop
 loop-again c =
-    let byte = c .shared-slice-known .given (c .before .before .loop .i) .fits in
-    puts-next (bytesOf 1) 0 1 (length-bytes 1) (omega (arith, c .before .before .before .pre)) (c .before .before .loop .inv) (c .before .loop-test .taken) (byte-placed (c .before .before .before .args .at) (c .before .before .loop .i) _ (c .before .before .loop .bytes) (omega (arith, c .before .before .before .pre, c .before .loop-test .taken, kept (c .before .before .loop .inv .put-so))) byte) byte
+    let at-loop-test = c .before in
+    let at-loop = at-loop-test .before in
+    let entry = at-loop .before in
+    let byte = c .shared-slice-known .given (at-loop .loop .i) .fits in
+    puts-next (bytesOf 1) 0 1 (length-bytes 1) (omega (arith, entry .pre)) (at-loop .loop .inv) (at-loop-test .loop-test .taken) (byte-placed (entry .args .at) (at-loop .loop .i) _ (at-loop .loop .bytes)
+    (omega (arith, entry .pre, at-loop-test .loop-test .taken, kept (at-loop .loop .inv .put-so))) byte) byte
 
 same-length : tie.Need-same-length Inv-loop μ-loop
 same-length c = kept (c .before .loop .inv .put-so)

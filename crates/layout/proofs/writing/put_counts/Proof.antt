@@ -21,8 +21,13 @@ same-length c = search needs
 
 returns : tie.Need-returns
 returns c =
-    let row = three-row 27 8 8 8 (bytesOf 8 (c .before .before .before .before .before .before .before .before .before .before .before .before .before .args .contents)) (bytesOf 8 (c .before .before .before .before .before .before .before .before .before .before .before .before .before .args .saved)) (bytesOf 8 (c .before .before .before .before .before .before .before .before .before .before .before .before .before .args .calls)) (c .before .before .before .before .before .before .before .before .before .before .before .before .before .args .bytes .now) (length-bytes 8 _) (length-bytes 8 _) (length-bytes 8 _) (number-placed 27 8 _ _ (c .before .before .before .before .before .before .before .before .before .before .put-number .ensures)) (number-placed 35 8 _ _ (c .before .before .before .before .before .before .put-number2 .ensures)) (number-placed 43 8 _ _ (c .before .before .put-number3 .ensures)) (omega (arith, c .before .before .before .before .before .before .before .before .before .before .before .before .before .pre)) in
-    (row .put .same, (c .before .before .before .before .before .before .before .before .before .before .before .before .before .fits .contents .fits, c .before .before .before .before .before .before .before .before .before .before .before .before .before .fits .saved .fits, c .before .before .before .before .before .before .before .before .before .before .before .before .before .fits .calls .fits))
+    let at-put-number3 = c .before .before in
+    let at-put-number2 = at-put-number3 .before .before .before .before in
+    let at-put-number = at-put-number2 .before .before .before .before in
+    let entry = at-put-number .before .before .before in
+    let row = three-row 27 8 8 8 (bytesOf 8 (entry .args .contents)) (bytesOf 8 (entry .args .saved)) (bytesOf 8 (entry .args .calls)) (entry .args .bytes .now) (length-bytes 8 _) (length-bytes 8 _) (length-bytes 8 _)
+    (number-placed 27 8 _ _ (at-put-number .put-number .ensures)) (number-placed 35 8 _ _ (at-put-number2 .put-number2 .ensures)) (number-placed 43 8 _ _ (at-put-number3 .put-number3 .ensures)) (omega (arith, entry .pre)) in
+    (row .put .same, (entry .fits .contents .fits, entry .fits .saved .fits, entry .fits .calls .fits))
 
 pub put-counts-spec : {M : Type 1} → statement M
 put-counts-spec =

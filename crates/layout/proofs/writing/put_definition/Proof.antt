@@ -55,10 +55,15 @@ same-length c = search needs
 
 returns : tie.Need-returns
 unfolding bytesOfDefinition
-returns c = let x = c .before .before .before .before .before .before .before .before .before .before .before .before .before .before .before .before .before .before .before .before .before .args .x in
+returns c =
+    let x = c .before .before .before .before .before .before .before .before .before .before .before .before .before .before .before .before .before .before .before .before .before .args .x in
     let at = c .before .before .before .before .before .before .before .before .before .before .before .before .before .before .before .before .before .before .before .before .before .args .at in
-    let defined = number-placed at 1 _ _ (c .before .before .before .before .before .before .before .before .before .before .before .before .before .before .before .before .before .put-number .ensures) ∙ ap (λ (v : ℕ). placed at (bytesOf 1 v) (c .before .before .before .before .before .before .before .before .before .before .before .before .before .before .before .before .before .before .before .before .before .args .bytes .now)) (flag (x .defined)) in
-    let row = four-row at 1 1 1 (bytesOf 1 (cond (x .defined) 1 0)) (bytesOf 1 (x .word)) (bytesOf 1 (x .left)) (c .before .before .before .before .before .before .before .before .before .before .before .before .before .before .before .before .before .before .before .before .before .args .bytes .now) (length-bytes 1 _) (length-bytes 1 _) (length-bytes 1 _) 1 (bytesOf 1 (x .right)) (length-bytes 1 _) defined (number-placed _ 1 _ _ (c .before .before .before .before .before .before .before .before .before .before .before .before .put-number2 .ensures)) (number-placed _ 1 _ _ (c .before .before .before .before .before .before .before .put-number3 .ensures)) (number-placed _ 1 _ _ (c .before .before .put-number4 .ensures)) (c .before .before .before .before .before .before .before .before .before .before .before .before .before .before .before .before .before .before .before .before .before .pre) in
+    let t = c .before .before .before .before .before .before .before .before .before .before .before .before .before .before .before .before .before .before .before .before .before .args .bytes .now in
+    let defined = number-placed at 1 _ _ (c .before .before .before .before .before .before .before .before .before .before .before .before .before .before .before .before .before .put-number .ensures) ∙ ap (λ (v : ℕ). placed at (bytesOf 1 v) t) (flag (x .defined)) in
+    let row = four-row at 1 1 1 (bytesOf 1 (cond (x .defined) 1 0)) (bytesOf 1 (x .word)) (bytesOf 1 (x .left)) t (length-bytes 1 _) (length-bytes 1 _) (length-bytes 1 _) 1 (bytesOf 1 (x .right))
+    (length-bytes 1 _) defined (number-placed _ 1 _ _ (c .before .before .before .before .before .before .before .before .before .before .before .before .put-number2 .ensures))
+    (number-placed _ 1 _ _ (c .before .before .before .before .before .before .before .put-number3 .ensures)) (number-placed _ 1 _ _ (c .before .before .put-number4 .ensures))
+    (c .before .before .before .before .before .before .before .before .before .before .before .before .before .before .before .before .before .before .before .before .before .pre) in
     (row .put .same, record { word = search needs; left = search needs; right = search needs })
 
 pub put-definition-spec : {M : Type 1} → statement M

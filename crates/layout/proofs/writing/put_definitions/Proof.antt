@@ -47,15 +47,30 @@ loop-less c = search needs
 
 loop-again : tie.Need-loop-again Inv-loop μ-loop
 unfolding undefined
-loop-again c = (c .before .before .before .before .before .before .loop .inv .0, puts-next bytesOfDefinition undefined 4 length-definition (omega (arith, c .before .before .before .before .before .before .before .before .pre, c .before .before .before .before .before .before .loop .inv .0)) (c .before .before .before .before .before .before .loop .inv .1) (omega (arith, c .before .before .before .before .before .before .loop .inv .0, c .before .before .before .before .before .loop-test .taken)) (c .before .before .put-definition .ensures .0) (c .before .before .put-definition .ensures .1))
+loop-again c =
+    let at-put-definition = c .before .before in
+    let at-loop-test = at-put-definition .before .before .before in
+    let at-loop = at-loop-test .before in
+    let entry = at-loop .before .before in (
+      at-loop .loop .inv .0,
+      puts-next bytesOfDefinition undefined 4 length-definition (omega (arith, entry .pre, at-loop .loop .inv .0)) (at-loop .loop .inv .1)
+          (omega (arith, at-loop .loop .inv .0, at-loop-test .loop-test .taken)) (at-put-definition .put-definition .ensures .0) (at-put-definition .put-definition .ensures .1),
+    )
 
 same-length : tie.Need-same-length Inv-loop μ-loop
 same-length c = kept (c .before .loop .inv .1 .put-so)
 
 returns : tie.Need-returns Inv-loop μ-loop
 returns c =
-    let all = c .before .loop .inv .1 in
-    (puts-all bytesOfDefinition undefined 4 length-definition (omega (arith, c .before .before .before .pre, c .before .loop .inv .0)) all (omega (arith, c .before .loop .inv .0, c .loop-test .left)), record { long = c .before .loop .inv .0; each = λ i h. all .each i (omega (arith, c .loop-test .left)) })
+    let at-loop = c .before in
+    let entry = at-loop .before .before in
+    let all = at-loop .loop .inv .1 in (
+      puts-all bytesOfDefinition undefined 4 length-definition (omega (arith, entry .pre, at-loop .loop .inv .0)) all (omega (arith, at-loop .loop .inv .0, c .loop-test .left)),
+      record {
+        long = at-loop .loop .inv .0;
+        each = λ i h. all .each i (omega (arith, c .loop-test .left));
+      },
+    )
 
 pub put-definitions-spec : {M : Type 1} → statement M
 put-definitions-spec =

@@ -18,10 +18,14 @@ same-length c = search needs
 
 returns : tie.Need-returns
 returns c =
-    let streams = c .before .before .before .before .before .before .before .before .before .before .put-streams .ensures in
-    let setup = c .before .before .before .before .before .before .put-setup .ensures in
-    let counts = c .before .before .put-counts .ensures in (
-      numbers-put (c .before .before .before .before .before .before .before .before .before .before .before .before .before .before .before .before .args .core) (c .before .before .before .before .before .before .before .before .before .before .before .before .before .before .before .before .args .bytes .now) (c .before .before .before .before .before .before .before .before .before .before .before .before .before .before .before .before .pre) (streams .0) (setup .0) (counts .0),
+    let at-put-counts = c .before .before in
+    let at-put-setup = at-put-counts .before .before .before .before in
+    let at-put-streams = at-put-setup .before .before .before .before in
+    let entry = at-put-streams .before .before .before .before .before .before in
+    let streams = at-put-streams .put-streams .ensures in
+    let setup = at-put-setup .put-setup .ensures in
+    let counts = at-put-counts .put-counts .ensures in (
+      numbers-put (entry .args .core) (entry .args .bytes .now) (entry .pre) (streams .0) (setup .0) (counts .0),
       record { place = streams .1 .0; taken = streams .1 .1; written = streams .1 .2; d = setup .1 .0; s1 = setup .1 .1; s2 = setup .1 .2; contents = counts .1 .0; saved = counts .1 .1; calls = counts .1 .2 },
     )
 

@@ -44,7 +44,13 @@ loop-less c = search needs
 
 loop-again : tie.Need-loop-again Inv-loop μ-loop
 loop-again c =
-    puts-next (bytesOf 8) 0 8 (length-bytes 8) (c .before .before .before .before .before .before .before .before .before .pre) (c .before .before .before .before .before .before .loop .inv) (c .before .before .before .before .before .loop-test .taken) (number-placed _ 8 _ _ (c .before .before .put-number .ensures)) (c .before .before .before .shared-slice-known2 .given (c .before .before .before .before .before .before .loop .i) .fits)
+    let at-put-number = c .before .before in
+    let at-shared-slice-known2 = at-put-number .before in
+    let at-loop-test = at-shared-slice-known2 .before .before in
+    let at-loop = at-loop-test .before in
+    let entry = at-loop .before .before .before in
+    puts-next (bytesOf 8) 0 8 (length-bytes 8) (entry .pre) (at-loop .loop .inv) (at-loop-test .loop-test .taken) (number-placed _ 8 _ _ (at-put-number .put-number .ensures))
+    (at-shared-slice-known2 .shared-slice-known2 .given (at-loop .loop .i) .fits)
 
 same-length : tie.Need-same-length Inv-loop μ-loop
 same-length c = kept (c .before .loop .inv .put-so)

@@ -19,16 +19,26 @@ slice-aggregate-put-bytes : tie.Need-slice-aggregate-put-bytes
 slice-aggregate-put-bytes c = search needs
 
 put-bytes-requires : tie.Need-put-bytes-requires
-put-bytes-requires c κs = let long : length (c .before .before .before .before .before .before .before .before .before .before .before .before .before .args .state .map) ≡ 4096 = search needs in omega (arith, c .before .before .before .before .before .before .before .before .before .before .before .before .before .pre)
+put-bytes-requires c κs =
+    let entry = c .before .before .before .before .before .before .before .before .before .before .before .before .before in
+    let long : length (entry .args .state .map) ≡ 4096 = search needs in omega (arith, entry .pre)
 
 same-length : tie.Need-same-length
 same-length c = search needs
 
 returns : tie.Need-returns
 returns c =
-    let long : length (c .before .before .before .before .before .before .before .before .before .before .before .before .before .before .before .before .args .state .map) ≡ 4096 = sym (slice-aggregate-put-bytes (c .before .before .before)) in
-    let ok : Ranged (c .before .before .before .before .before .before .before .before .before .before .before .before .before .before .before .before .args .state) = record { numbers = c .before .before .before .before .before .before .before .before .before .before .before .put-numbers .ensures .1; arrays = c .before .before .before .before .before .before .before .put-arrays .ensures .1; map = rw long at (c .before .before .put-bytes .ensures .1) } in
-    (state-put (c .before .before .before .before .before .before .before .before .before .before .before .before .before .before .before .before .args .state) ok (c .before .before .before .before .before .before .before .before .before .before .before .before .before .before .before .before .args .bytes .now) (c .before .before .before .before .before .before .before .before .before .before .before .before .before .before .before .before .pre) (c .before .before .before .before .before .before .before .before .before .before .before .put-numbers .ensures .0) (c .before .before .before .before .before .before .before .put-arrays .ensures .0) (c .before .before .put-bytes .ensures .0), state-back (c .before .before .before .before .before .before .before .before .before .before .before .before .before .before .before .before .args .state) ok)
+    let at-put-bytes = c .before .before in
+    let at-map2 = at-put-bytes .before in
+    let at-put-arrays = at-map2 .before .before .before .before in
+    let at-put-numbers = at-put-arrays .before .before .before .before in
+    let entry = at-put-numbers .before .before .before .before .before in
+    let long : length (entry .args .state .map) ≡ 4096 = sym (slice-aggregate-put-bytes at-map2) in
+    let ok : Ranged (entry .args .state) = record { numbers = at-put-numbers .put-numbers .ensures .1; arrays = at-put-arrays .put-arrays .ensures .1; map = rw long at (at-put-bytes .put-bytes .ensures .1) } in (
+      state-put (entry .args .state) ok (entry .args .bytes .now) (entry .pre) (at-put-numbers .put-numbers .ensures .0) (at-put-arrays .put-arrays .ensures .0)
+          (at-put-bytes .put-bytes .ensures .0),
+      state-back (entry .args .state) ok,
+    )
 
 pub write-state-spec : {M : Type 1} → statement M
 write-state-spec =

@@ -1,0 +1,2 @@
+-- The blocks of a map as numbers.
+pub mod Listing
