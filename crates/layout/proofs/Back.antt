@@ -1,15 +1,11 @@
 -- A state comes back from its bytes. Assumes nothing.
-use Prim.Native.Nat.{ℕ, _+_, _*_, _<_, _^_}
-use native.Mathlib.Omega.{arith}
+use Prim.Native.Nat.{ℕ, _+_}
 use mathlib.Core.List.{List, [], _++_, append-assoc, append-nil}
-use mathlib.Core.Path.{_≡_, refl, sym, ap, _∙_}
-use lib.ListN.{length, take, drop, getD, length-append}
+use mathlib.Core.Path.{_≡_, sym, ap, _∙_}
+use lib.ListN.{length, take, drop, getD}
 use lib.Seq.{take-at, drop-at, drop-drop}
 use Rattle.octets.specs.Octets.{lowFirst, bytesOf}
 use Rattle.octets.proofs.RoundTrip.{length-bytes, number-of-bytes}
-use Rattle.block.specs.declared.SetUp.{SetUp}
-use Rattle.machine.specs.declared.Place.{Place}
-use Rattle.machine.specs.declared.Definition.{Definition}
 use Rattle.machine.specs.declared.State.{State}
 use Rattle.machine.specs.State.{testsOf, undefined}
 use Rattle.layout.specs.Records.{numberAt, bytesOfAll, recordsOf}

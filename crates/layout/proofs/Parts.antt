@@ -1,8 +1,8 @@
 -- The parts of a state put one after the other: numbers, arrays, map. Assumes nothing.
-use Prim.Native.Nat.{ℕ, _+_, _≤_}
+use Prim.Native.Nat.{ℕ, _+_}
 use native.Mathlib.Omega.{arith}
 use mathlib.Core.List.{List, _++_, append-assoc}
-use mathlib.Core.Path.{_≡_, refl, sym, ap, _∙_}
+use mathlib.Core.Path.{_≡_, sym, ap, _∙_}
 use lib.ListN.{length, length-append}
 use Rattle.octets.specs.Octets.{bytesOf}
 use Rattle.octets.proofs.RoundTrip.{length-bytes}
@@ -13,7 +13,7 @@ use Rattle.machine.specs.Storage.{placed}
 use Rattle.layout.specs.Records.{bytesOfAll}
 use Rattle.layout.specs.Layout.{stateLength, bytesOfPlace, bytesOfDefinition, bytesOfNumbers, bytesOfArrays, bytesOfState}
 use Rattle.layout.specs.Ranged.{RangedArrays, Ranged}
-use Rattle.layout.proofs.Placing.{Row, row-first, row-more, three-row, whole}
+use Rattle.layout.proofs.Placing.{row-first, row-more, three-row, whole}
 use Rattle.layout.proofs.Records.{length-array}
 use Rattle.layout.proofs.Widths.{length-place, length-definition}
 

@@ -1,20 +1,20 @@
 -- How many bytes a place and a definition have, that they come back from them, and where a number in a record stands. Assumes nothing.
-use Prim.Native.Nat.{ℕ, zero, suc, _+_, _-_, _*_, _≤_, _<_, _^_}
+use Prim.Native.Nat.{ℕ, zero, suc, _+_, _-_, _*_, _≤_, _<_}
 use native.Mathlib.Numerals.{add-one}
 use native.Mathlib.Omega.{arith}
 use mathlib.Core.Bool.{Bool, true, false, not, cond}
 use lib.Dec.{eqb}
-use mathlib.Core.List.{List, [], _∷_, _++_}
-use mathlib.Core.Path.{_≡_, refl, sym, ap, _∙_}
+use mathlib.Core.List.{List, [], _∷_}
+use mathlib.Core.Path.{_≡_, refl, ap, _∙_}
 use lib.ListN.{length, take, drop, getD, length-drop}
-use lib.Seq.{take-at, take-take, drop-drop, drop-cons}
+use lib.Seq.{take-take, drop-drop, drop-cons}
 use Rattle.octets.specs.Octets.{lowFirst, bytesOf}
-use Rattle.octets.proofs.RoundTrip.{length-bytes, number-of-bytes}
+use Rattle.octets.proofs.RoundTrip.{number-of-bytes}
 use Rattle.machine.specs.declared.Place.{Place}
 use Rattle.machine.specs.declared.Definition.{Definition}
 use Rattle.layout.specs.Records.{numberAt, recordsOf}
 use Rattle.layout.specs.Layout.{stateLength, bytesOfPlace, placeOf, bytesOfDefinition, definitionOf, stateOf}
-use Rattle.layout.specs.Ranged.{Bytes, RangedPlace, RangedDefinition}
+use Rattle.layout.specs.Ranged.{RangedPlace, RangedDefinition}
 
 pub length-place : (p : Place) → length (bytesOfPlace p) ≡ 5
 unfolding bytesOfPlace bytesOf

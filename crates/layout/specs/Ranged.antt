@@ -4,7 +4,6 @@ use Prim.Native.Nat.{ℕ, _<_, _^_}
 use mathlib.Core.List.{List}
 use mathlib.Core.Path.{_≡_}
 use lib.ListN.{length, getD}
-use Rattle.block.specs.declared.SetUp.{SetUp}
 use Rattle.machine.specs.declared.Place.{Place}
 use Rattle.machine.specs.declared.Definition.{Definition}
 use Rattle.machine.specs.declared.Core.{Core}

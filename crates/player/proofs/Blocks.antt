@@ -1,7 +1,7 @@
 -- The blocks of a state's bytes, counted and listed. Assumes nothing.
-use Prim.Native.Nat.{ℕ, suc, _-_, _*_, _%_, _≤_}
+use Prim.Native.Nat.{ℕ, _-_, _*_, _%_}
 use native.Mathlib.Omega.{arith}
-use mathlib.Core.Bool.{Bool, true, false, not, cond}
+use mathlib.Core.Bool.{Bool, true, false, not}
 use mathlib.Core.List.{List, [], _∷_}
 use mathlib.Core.Path.{_≡_, refl, sym, ap, _∙_}
 use borrow.Author.Tests.{eq-eqb, ne-eqb}
@@ -13,8 +13,6 @@ use Rattle.block.specs.declared.SetUp.{SetUp}
 use Rattle.block.specs.Blocks.{size, Block}
 use Rattle.block.specs.SetUp.{top, words}
 use Rattle.block.specs.Map.{keeps}
-use Rattle.machine.specs.declared.Answer.the-variants.{Refused}
-use Rattle.machine.specs.declared.Refusal.the-variants.{Unsound}
 use Rattle.machine.specs.Answer.{refusalNumber}
 use Rattle.machine.proofs.Checks.{or-parts}
 use Rattle.operands.proofs.Readable.{numbers}

@@ -1,9 +1,9 @@
 -- What a host may rely on, from the equations of the calls: a refused step, one of a finished engine, and a run that stops so at its first
 -- step leave every byte of the state, every storage word and every output byte as they were. Assumes nothing.
 use Prim.Native.Nat.{ℕ}
-use mathlib.Core.Bool.{Bool, true, false, not, _&&_}
+use mathlib.Core.Bool.{Bool, true, false, not}
 use mathlib.Core.List.{List}
-use mathlib.Core.Path.{_≡_, refl, sym, ap, _∙_}
+use mathlib.Core.Path.{_≡_, refl}
 use borrow.Author.Tests.{eq-eqb}
 use lib.ListN.{length, replicate}
 use Rattle.word.proofs.Tests.{and-false}
@@ -14,10 +14,9 @@ use Rattle.machine.specs.Answer.{refusalNumber}
 use Rattle.machine.specs.State.{isFinished}
 use Rattle.machine.specs.Storage.{noStore, noReport}
 use Rattle.machine.specs.Sound.{Lent, sound}
-use Rattle.machine.specs.Step.{lowest}
 use Rattle.machine.proofs.Steps.{finished-stays}
 use Rattle.layout.specs.Layout.{stateLength, stateOf}
-use Rattle.player.specs.Calls.{stepCall, runCall, code, isRefused, moved, bytesAfter, engineAt, numbersOfStore, numbersOfReport, StepLeft, afterStep, stepLeft, RunLeft, afterRun, runLeft}
+use Rattle.player.specs.Calls.{stepCall, runCall, code, isRefused, moved, bytesAfter, engineAt, numbersOfStore, numbersOfReport, afterStep, stepLeft, afterRun, runLeft}
 use Rattle.player.proofs.Moving.{step-kept, run-kept}
 
 moved-refused : (finished : Bool) (r : Refusal) → moved finished (Refused r) 1 ≡ false
@@ -48,7 +47,7 @@ module _ (l : Lent) (storage bytes : List ℕ) (long : length bytes ≡ stateLen
   pub finished-step : (report : List ℕ) → length report ≡ 12 → sound 36 l (engineAt bytes storage) ≡ true → finished ≡ true
       → stepLeft l storage bytes report ≡ record { answer = 100; storage = storage; output = l .output; state = bytes; report = replicate 12 0 }
   unfolding code stepCall
-  finished-step report h fine end = step-still report Finished h (finished-stays 36 lowest l (engineAt bytes storage) fine end .0) (rw end (moved-never Finished))
+  finished-step report h fine end = step-still report Finished h (finished-stays 36 l (engineAt bytes storage) fine end .0) (rw end (moved-never Finished))
 
   -- so does a run that stops so at its first step
   run-still : (limit count : ℕ) (answer : Answer) → runCall limit l (engineAt bytes storage) .ran .answer ≡ answer → runCall limit l (engineAt bytes storage) .ran .count ≡ 1

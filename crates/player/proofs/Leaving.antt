@@ -2,7 +2,7 @@
 use Prim.Native.Nat.{ℕ}
 use mathlib.Core.Bool.{Bool, true, false, cond}
 use mathlib.Core.List.{List}
-use mathlib.Core.Path.{_≡_, refl, sym, ap, subst, _∙_}
+use mathlib.Core.Path.{_≡_, refl, sym, ap, _∙_}
 use borrow.Author.Tests.{eq-eqb, ne-eqb}
 use lib.Dec.{eqb}
 use lib.ListN.{length}
@@ -10,7 +10,7 @@ use Rattle.machine.specs.declared.Ran.{Ran}
 use Rattle.machine.specs.declared.State.{State}
 use Rattle.machine.specs.declared.Stepped.{Stepped}
 use Rattle.machine.specs.State.{fresh, isFinished}
-use Rattle.machine.specs.Sound.{Lent, Engine}
+use Rattle.machine.specs.Sound.{Lent}
 use Rattle.machine.specs.Step.{Outcome, RunOutcome, step, run}
 use Rattle.layout.specs.Layout.{stateLength, bytesOfState, stateOf}
 use Rattle.player.specs.Calls.{stepCall, runCall, code, moved, bytesAfter, engineAt, FreshLeft, freshLeft, numbersOfReport, StepLeft, afterStep, noStep, stepLeft, RunLeft, afterRun, noRun, runLeft, wrongState, wrongReport}

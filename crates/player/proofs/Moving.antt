@@ -11,7 +11,6 @@ use Rattle.machine.specs.declared.Answer.the-variants.{Running, Finished, Refus
 use Rattle.machine.specs.declared.State.{State}
 use Rattle.machine.specs.Answer.{isRunning}
 use Rattle.machine.specs.State.{isFinished}
-use Rattle.machine.specs.Storage.{noReport}
 use Rattle.machine.specs.Sound.{Lent, Engine}
 use Rattle.machine.specs.Step.{Outcome, RunOutcome, step, run, runFrom, unchanged, carriedOut, engineOf, ending}
 use Rattle.machine.proofs.Steps.{AsBefore, Stepping, refusing, staying, forward, stepping}

@@ -1,7 +1,6 @@
 -- `listing::count_blocks` meets its contract. The loop's invariant: the blocks up to word i are counted. Assumes nothing.
 use native.Mathlib.Omega.{arith}
-use Prim.Native.Nat.{_-_, _/_, _+_}
-use mathlib.Core.Path.{sym, ap, _∙_}
+use Prim.Native.Nat.{_-_, _/_}
 use lib.ListN.{getD}
 use Rattle.block.specs.SetUp.{words}
 use Rattle.block.proofs.Map.{keeps-words}

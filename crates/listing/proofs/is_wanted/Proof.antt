@@ -1,7 +1,6 @@
 -- `listing::is_wanted` meets its contract. Assumes nothing.
 use borrow.Author.Tests.{eq-eqb, ne-eqb}
 use Rattle.listing.specs.Listing.{wanted}
-use borrow.Author.Needs.{needs}
 use Rattle.listing.proofs.is_wanted.Statement.{statement}
 use Rattle.listing.proofs.is_wanted.Tie as tie
 

@@ -1,6 +1,6 @@
 -- `listing::list_blocks` meets its contract. The loop's invariant: the numbers of the blocks up to word i are put. Assumes nothing.
 use native.Mathlib.Omega.{arith}
-use Prim.Native.Nat.{_-_, _/_, _+_}
+use Prim.Native.Nat.{_-_, _/_}
 use mathlib.Core.Path.{_≡_}
 use lib.ListN.{length, getD}
 use Rattle.block.specs.SetUp.{words}

@@ -1,5 +1,5 @@
 -- `player::l6_check` meets its contract: by what the check finds. Assumes nothing.
-use mathlib.Core.Path.{_≡_, sym, _∙_, ap}
+use mathlib.Core.Path.{sym, _∙_}
 use Rattle.player.specs.Calls.{checkLeft, afterCheck}
 use borrow.Author.Needs.{needs}
 use Rattle.player.proofs.l6_check.Statement.{statement}

@@ -2,8 +2,8 @@
 use native.Mathlib.Omega.{arith}
 use Prim.Native.Nat.{_+_}
 use mathlib.Core.List.{[], _∷_}
-use mathlib.Core.Path.{_≡_, refl}
-use lib.ListN.{length, set, length-set}
+use mathlib.Core.Path.{refl}
+use lib.ListN.{set, length-set}
 use Rattle.layout.proofs.Placing.{one, four-row}
 use borrow.Author.Needs.{needs}
 use Rattle.player.proofs.put_four.Statement.{statement}

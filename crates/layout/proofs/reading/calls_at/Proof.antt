@@ -1,8 +1,7 @@
 -- `layout::reading::calls_at` meets its contract. The loop's invariant: the first i records are read. Assumes nothing.
 use native.Mathlib.Omega.{arith}
 use Prim.Native.Nat.{_-_}
-use mathlib.Core.Path.{_≡_}
-use lib.ListN.{length, length-replicate}
+use lib.ListN.{length-replicate}
 use Rattle.layout.specs.Layout.{placeOf}
 use Rattle.layout.proofs.Records.{Reads, reads-none, reads-next, reads-all}
 use borrow.Author.Needs.{needs}

@@ -1,7 +1,7 @@
 -- `layout::reading::read_words` meets its contract. The loop's invariant: the first i words are read. Assumes nothing.
 use native.Mathlib.Omega.{arith}
 use Prim.Native.Nat.{_-_}
-use mathlib.Core.Path.{_≡_, refl}
+use mathlib.Core.Path.{refl}
 use lib.ListN.{length}
 use Rattle.octets.specs.Octets.{lowFirst}
 use Rattle.layout.proofs.Records.{Reads, reads-none, reads-next, reads-all}

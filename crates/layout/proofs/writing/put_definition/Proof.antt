@@ -1,5 +1,4 @@
 -- `layout::writing::put_definition` meets its contract. Assumes nothing.
-use native.Mathlib.Omega.{arith}
 use mathlib.Core.Bool.{Bool, true, false, cond}
 use mathlib.Core.Path.{_≡_, refl, ap, _∙_}
 use mir.Val.{boolByte}

@@ -1,6 +1,6 @@
 -- `layout::writing::put_definitions` meets its contract. The loop's invariant: the first i records are put. Assumes nothing.
 use native.Mathlib.Omega.{arith}
-use Prim.Native.Nat.{_-_, _+_, _*_, _≤_}
+use Prim.Native.Nat.{_-_}
 use mathlib.Core.Path.{_≡_}
 use lib.ListN.{length}
 use Rattle.machine.specs.State.{undefined}

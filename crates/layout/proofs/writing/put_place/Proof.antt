@@ -1,5 +1,4 @@
 -- `layout::writing::put_place` meets its contract. Assumes nothing.
-use native.Mathlib.Omega.{arith}
 use Rattle.octets.proofs.RoundTrip.{length-bytes}
 use Rattle.octets.specs.Octets.{bytesOf}
 use Rattle.layout.specs.Layout.{bytesOfPlace}

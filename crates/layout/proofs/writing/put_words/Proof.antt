@@ -1,7 +1,7 @@
 -- `layout::writing::put_words` meets its contract. The loop's invariant: the first i words are put. Assumes nothing.
 use native.Mathlib.Omega.{arith}
 use Prim.Native.Nat.{_-_}
-use mathlib.Core.Path.{_≡_, refl}
+use mathlib.Core.Path.{refl}
 use lib.ListN.{length}
 use Rattle.octets.specs.Octets.{bytesOf}
 use Rattle.octets.proofs.RoundTrip.{length-bytes}
