@@ -48,8 +48,8 @@ bench:
 # Writes again what the programs must print, computed independently, the cases that comparison reads and the tables that tourrun and laps read.
 expected:
 	mkdir -p target
-	rustc -O -o target/leaves-reference reference/leaves.rs
-	for name in leaves allocations triples; do target/leaves-reference $$name > crates/$$name/stdout; done
+	rustc -O --edition 2021 -o target/leaves-reference reference/leaves.rs
+	for name in leaves allocations triples openings; do target/leaves-reference $$name > crates/$$name/stdout; done
 	rustc -O -o target/reference reference/main.rs
 	for file in stdin stdout; do target/reference comparison 7094 480 $$file > crates/comparison/$$file; done
 	tours/play --files tours/example.tour crates/tourrun/data

@@ -46,11 +46,12 @@ pub enum Refusal {
     StackEmpty,
     OutputFull,
     SubtrahendGreater,
+    Hours = 29,
 }
 use Refusal::*;
 
 /// Every refusal, and what it means.
-pub const REFUSALS: [(Refusal, &str); 22] = [
+pub const REFUSALS: [(Refusal, &str); 23] = [
     (TableLength, "the table has fewer than 20 numbers, more than 8,000, or no multiple of ten"),
     (BadRow, "the row, or a test of it, is missing, ill-formed or of another kind than is needed here"),
     (SetUpNumbers, "the set-up's numbers are not allowed, or ask for more words than there are"),
@@ -73,6 +74,7 @@ pub const REFUSALS: [(Refusal, &str); 22] = [
     (StackEmpty, "a stack has no entry to restore or to return to"),
     (OutputFull, "there is no room for more output"),
     (SubtrahendGreater, "a subtraction below zero"),
+    (Hours, "the opening hours break their rules, or the minute is above 1,439"),
 ];
 
 impl Refusal {
@@ -88,7 +90,7 @@ impl Refusal {
 }
 impl fmt::Display for Refusal {
     fn fmt(&self, f: &mut fmt::Formatter) -> fmt::Result {
-        f.write_str(REFUSALS[*self as usize - 1].1)
+        f.write_str(REFUSALS.iter().find(|(refusal, _)| refusal == self).map_or("", |(_, words)| words))
     }
 }
 impl std::error::Error for Refusal {}
@@ -274,6 +276,43 @@ pub fn check(table: &[u64]) -> Result<(), BadTable> {
     if row == 0 { Ok(()) } else { Err(BadTable::Row(row)) }
 }
 
+/// What opening hours say of a day and a minute.
+#[derive(Clone, Copy, Debug, PartialEq, Eq)]
+pub enum Opening {
+    Row(u64),
+    Closed,
+    Refused(Refusal),
+}
+impl Opening {
+    /// The row, or in words why there is none.
+    pub fn row(self) -> Result<u64, String> {
+        match self {
+            Opening::Row(row) => Ok(row),
+            Opening::Closed => Err("closed at this time".to_string()),
+            Opening::Refused(refusal) => Err(refusal.to_string()),
+        }
+    }
+}
+
+/// The row of the entry line at which a tour starts on a day, at a minute. Windows are four numbers each, exceptions five (l6.h).
+pub fn hours(windows: &[u64], exceptions: &[u64], day: u64, minute: u64) -> Opening {
+    let mut row = 0;
+    match unsafe { raw::l6_hours(windows.as_ptr(), windows.len(), exceptions.as_ptr(), exceptions.len(), day, minute, &mut row) } {
+        0 => Opening::Row(row),
+        104 => Opening::Closed,
+        refusal => Opening::Refused(Refusal::of(refusal)),
+    }
+}
+
+/// The numbers of a file, of eight bytes each, the low one first. No multiple of eight bytes counts as one number, which no table and no
+/// list of hours has.
+pub fn numbers(bytes: &[u8]) -> Vec<u64> {
+    if bytes.len() % 8 != 0 {
+        return vec![0];
+    }
+    bytes.chunks(8).map(|eight| u64::from_le_bytes(eight.try_into().unwrap())).collect()
+}
+
 /// The character of a code of the output: a line's end for octal 77, '?' for a code that has no character.
 pub fn character(code: u8) -> char {
     let all = b"0123456789???????ABCDEFGHI?.?????JKLMNOPQR?????? ?STUVWXYZ?????\n";
@@ -305,5 +344,9 @@ pub mod raw {
         pub fn l6_check(table: *const u64, table_length: usize, row: *mut u64) -> u64;
         pub fn l6_count_blocks(state: *const u8, state_length: usize, counts: *mut u64, counts_length: usize) -> u64;
         pub fn l6_list_blocks(state: *const u8, state_length: usize, live: u64, list: *mut u64, list_length: usize) -> u64;
+        pub fn l6_hours(
+            windows: *const u64, windows_length: usize, exceptions: *const u64, exceptions_length: usize, day: u64, minute: u64,
+            row: *mut u64,
+        ) -> u64;
     }
 }

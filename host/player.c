@@ -1,17 +1,19 @@
 /* An example host: plays the tour of a folder.   player FOLDER [--stop-after STEPS]
- * It reads the table tour.tab and the stop list stops.in, and prints what the guide says; progress goes to standard error. With
+ * It reads the table tour.tab and the stop list stops.in, and prints what the guide says; progress goes to standard error. Where there
+ * are opening hours, windows.tab and exceptions.tab, the tour starts at the entry line for the time (of UTC), or not at all. With
  * --stop-after it stops after so many steps and saves the tour as tour.saved; the next call goes on from there. */
 #include <inttypes.h>
 #include <stdio.h>
 #include <stdlib.h>
 #include <string.h>
+#include <time.h>
 #include <unistd.h>
 #include "l6.h"
 
-enum { WORDS = 4096 };
-static uint64_t table[8001]; /* one number more than a table has, so that a longer file is seen to be too long */
+enum { WORDS = 4096, ENTRY = 16 }; /* the go-to of row 1, where a tour starts */
+static uint64_t table[8001], windows[4097], exceptions[4097]; /* one number more than is taken, so that a longer file is refused */
 static uint8_t input[4096];
-/* What the tour goes on with: these three are saved together. */
+/* What the tour goes on with: these three are saved together, with the entry. */
 static uint8_t state[L6_STATE_LENGTH], output[4096];
 static uint64_t storage[WORDS];
 
@@ -22,51 +24,51 @@ static size_t load(const char *name, void *bytes, size_t room) {
     if (file) fclose(file);
     return length;
 }
-
-/* Goes on from a saved tour, or starts one. */
-static int begin(void) {
-    FILE *file = fopen("tour.saved", "rb");
-    if (!file) return l6_fresh(state, sizeof state) == 0;
-    int good = fread(state, sizeof state, 1, file) && fread(storage, sizeof storage, 1, file) && fread(output, sizeof output, 1, file);
-    fclose(file);
-    return good;
+/* Its numbers, low byte first as on this machine. No multiple of eight bytes counts as one number, which no table and no list has. */
+static size_t numbers(const char *name, uint64_t *list, size_t room) {
+    size_t bytes = load(name, list, room);
+    return bytes % 8 == 0 ? bytes / 8 : 1;
 }
+/* All that is saved, by fread or fwrite. */
+#define EACH(call) (call(state, sizeof state, 1, file) && call(storage, sizeof storage, 1, file) \
+                    && call(output, sizeof output, 1, file) && call(&table[ENTRY], sizeof table[ENTRY], 1, file))
 
-static int save(void) {
-    FILE *file = fopen("tour.saved", "wb");
-    if (!file) return 0;
-    int good = fwrite(state, sizeof state, 1, file) && fwrite(storage, sizeof storage, 1, file) && fwrite(output, sizeof output, 1, file);
-    return fclose(file) == 0 && good;
+/* Starts a tour, where hours are kept at the entry line for the time. */
+static uint64_t begin(void) {
+    size_t w = numbers("windows.tab", windows, sizeof windows), x = numbers("exceptions.tab", exceptions, sizeof exceptions);
+    uint64_t now = time(NULL), day = now / 86400 - 10957, minute = now % 86400 / 60;
+    l6_fresh(state, sizeof state);
+    return w + x == 0 ? L6_RUNNING : l6_hours(windows, w, exceptions, x, day, minute, &table[ENTRY]);
 }
-
 static int end(int status, const char *why) {
     fprintf(stderr, "%s\n", why);
     return status;
 }
-
 int main(int count, char **arguments) {
     int stops = count == 4 && strcmp(arguments[2], "--stop-after") == 0;
     if (count != 2 && !stops) return end(2, "usage: player FOLDER [--stop-after STEPS]");
     if (chdir(arguments[1]) != 0) return end(2, "there is no such folder");
-    size_t bytes = load("tour.tab", table, sizeof table), given = load("stops.in", input, sizeof input);
-    size_t numbers = bytes % 8 == 0 ? bytes / 8 : 0; /* the file has the low byte first, and so has this machine */
-
-    uint64_t row, answer = l6_check(table, numbers, &row);
-    if (answer != 0) return end(1, l6_words(answer));
+    size_t length = numbers("tour.tab", table, sizeof table), given = load("stops.in", input, sizeof input);
+    FILE *file = fopen("tour.saved", "rb");
+    if (file && !EACH(fread)) return end(1, "tour.saved is no saved tour");
+    uint64_t row, answer = file ? fclose(file), L6_RUNNING : begin();
+    if (answer != L6_RUNNING || (answer = l6_check(table, length, &row)) != 0) return end(1, l6_words(answer));
     if (row != 0) return fprintf(stderr, "row %" PRIu64 " is ill-formed\n", row), 1;
-    if (!begin()) return end(1, "tour.saved is no saved tour");
 
     uint64_t left = stops ? strtoull(arguments[3], NULL, 10) : UINT64_MAX, steps = 0;
     do {
         uint64_t taken, limit = left < 1000 ? left : 1000, said = l6_written(state);
-        answer = l6_run(table, numbers, storage, WORDS, input, given, output, sizeof output, state, sizeof state, limit, &taken);
+        answer = l6_run(table, length, storage, WORDS, input, given, output, sizeof output, state, sizeof state, limit, &taken);
         steps += taken;
         left -= taken;
         for (; said < l6_written(state) && said < sizeof output; said++) putchar(l6_character(output[said]));
         fprintf(stderr, "%" PRIu64 " steps, row %" PRIu64 ", %" PRIu64 " characters read\n", steps, l6_row(state), l6_taken(state));
     } while (answer == L6_RUNNING && left > 0);
 
-    if (answer == L6_RUNNING) return save() ? end(0, "saved") : end(1, "can't save");
+    if (answer == L6_RUNNING) {
+        int good = (file = fopen("tour.saved", "wb")) && EACH(fwrite);
+        return file && fclose(file) == 0 && good ? end(0, "saved") : end(1, "can't save");
+    }
     remove("tour.saved");
     if (answer == L6_FINISHED) return end(0, l6_words(answer));
     fprintf(stderr, "refused at row %" PRIu64 " by %" PRIu64 ": %s\n", l6_row(state), answer, l6_words(answer));

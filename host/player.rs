@@ -1,64 +1,64 @@
 //! An example host: plays the tour of a folder.   player FOLDER [--stop-after STEPS]
-//! It reads the table tour.tab and the stop list stops.in, and prints what the guide says; progress goes to standard error. With
+//! It reads the table tour.tab and the stop list stops.in, and prints what the guide says; progress goes to standard error. Where there
+//! are opening hours, windows.tab and exceptions.tab, the tour starts at the entry line for the time (of UTC), or not at all. With
 //! --stop-after it stops after so many steps and saves the tour as tour.saved; the next call goes on from there.
 mod l6;
 
-use l6::{Answer, Lent, State, STATE_LENGTH};
+use l6::{numbers, Answer, Lent, State, STATE_LENGTH};
 use std::process::ExitCode;
 
-/// What a tour goes on with: these three are saved together.
-struct Tour {
-    state: State,
-    storage: Vec<u64>,
-    output: Vec<u8>,
-}
+const ENTRY: usize = 16; // the go-to of row 1, where a tour starts
 
-/// Numbers of eight bytes each, the low one first.
-fn numbers(bytes: &[u8]) -> Vec<u64> {
-    bytes.chunks_exact(8).map(|eight| u64::from_le_bytes(eight.try_into().unwrap())).collect()
-}
+/// What a tour goes on with, state, storage and output: these are saved together, with the entry.
+struct Tour(State, Vec<u64>, Vec<u8>, u64);
 
 impl Tour {
-    fn fresh() -> Tour {
-        Tour { state: State::fresh(), storage: vec![0; 4096], output: vec![0; 4096] }
-    }
     fn of_bytes(bytes: &[u8]) -> Option<Tour> {
         let (state, rest) = bytes.split_at_checked(STATE_LENGTH)?;
-        let (storage, output) = rest.split_at_checked(8 * 4096)?;
-        let output = output.get(..4096)?.to_vec();
-        Some(Tour { state: State::from_bytes(state)?, storage: numbers(storage), output })
+        let (storage, rest) = rest.split_at_checked(8 * 4096)?;
+        let (output, entry) = rest.split_at_checked(4096)?;
+        Some(Tour(State::from_bytes(state)?, numbers(storage), output.to_vec(), numbers(entry.get(..8)?)[0]))
     }
-    fn bytes(&self) -> Vec<u8> {
-        let storage = self.storage.iter().flat_map(|word| word.to_le_bytes()).collect();
-        [self.state.bytes().to_vec(), storage, self.output.clone()].concat()
+    fn bytes(Tour(state, storage, output, entry): Tour) -> Vec<u8> {
+        let storage = storage.iter().flat_map(|word| word.to_le_bytes()).collect();
+        [state.bytes().to_vec(), storage, output, entry.to_le_bytes().to_vec()].concat()
     }
+}
+
+/// Where a tour starts: the entry line for the time, or the table's own where no hours are kept.
+fn enter(windows: &[u64], exceptions: &[u64], own: u64) -> Result<u64, String> {
+    if windows.len() + exceptions.len() == 0 { return Ok(own) }
+    let now = std::time::UNIX_EPOCH.elapsed().unwrap_or_default().as_secs();
+    l6::hours(windows, exceptions, (now / 86400).wrapping_sub(10957), now % 86400 / 60).row()
 }
 
 /// Plays the tour of a folder: how it ended, or why it did not.
-fn play(folder: &str, limit: u64) -> Result<&str, String> {
+fn play(folder: &str, mut left: u64) -> Result<&str, String> {
     std::env::set_current_dir(folder).map_err(|_| "there is no such folder")?;
     let load = |name| std::fs::read(name).unwrap_or_default(); // a missing file counts as empty
-    let (table, mut input) = (load("tour.tab"), load("stops.in"));
-    let table = if table.len() % 8 == 0 { numbers(&table) } else { vec![] };
-    input.truncate(4096);
-    l6::check(&table).map_err(|bad| bad.to_string())?;
-    let Tour { mut state, mut storage, mut output } = match std::fs::read("tour.saved") {
+    let (mut table, windows, exceptions) = (numbers(&load("tour.tab")), numbers(&load("windows.tab")), numbers(&load("exceptions.tab")));
+    let input: Vec<u8> = load("stops.in").into_iter().take(4096).collect();
+    let own = table.get(ENTRY).copied().unwrap_or(0);
+    let Tour(mut state, mut storage, mut output, entry) = match std::fs::read("tour.saved") {
         Ok(bytes) => Tour::of_bytes(&bytes).ok_or("tour.saved is no saved tour")?,
-        Err(_) => Tour::fresh(),
+        Err(_) => Tour(State::fresh(), vec![0; 4096], vec![0; 4096], enter(&windows, &exceptions, own)?),
     };
+    table.iter_mut().skip(ENTRY).take(1).for_each(|go_to| *go_to = entry);
+    l6::check(&table).map_err(|bad| bad.to_string())?;
 
     let mut lent = Lent { table: &table, storage: &mut storage, input: &input, output: &mut output };
-    let (mut left, mut steps, mut answer) = (limit, 0, Answer::Running);
+    let (mut steps, mut answer) = (0, Answer::Running);
     while answer == Answer::Running && left > 0 {
-        let (said, taken) = (state.written(), left.min(1000));
-        let taken = { let ran = state.run(&mut lent, taken); answer = ran.0; ran.1 };
+        let (said, taken);
+        (said, (answer, taken)) = (state.written(), state.run(&mut lent, left.min(1000)));
         (left, steps) = (left - taken, steps + taken);
         print!("{}", l6::text(lent.output.get(said..state.written()).unwrap_or_default()));
         eprintln!("{steps} steps, row {}, {} characters read", state.row(), state.taken());
     }
 
     if answer == Answer::Running {
-        return std::fs::write("tour.saved", Tour { state, storage, output }.bytes()).map(|()| "saved").map_err(|_| "can't save".into());
+        let saved = Tour::bytes(Tour(state, storage, output, entry));
+        return std::fs::write("tour.saved", saved).map(|()| "saved").map_err(|_| "can't save".into());
     }
     let _ = std::fs::remove_file("tour.saved");
     let Answer::Refused(refusal) = answer else { return Ok("the tour has come to its end") };

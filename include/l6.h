@@ -55,13 +55,16 @@ enum {
     L6_STACK_EMPTY = 20,      /* a stack has no entry to restore or to return to */
     L6_OUTPUT_FULL = 21,      /* the output has no room for the characters */
     L6_SUBTRAHEND_GREATER = 22, /* a subtraction below zero */
+    L6_HOURS = 29,            /* opening hours of a wrong length, with an entry that breaks the rules, or a minute above 1,439 */
 
     L6_FINISHED = 100,        /* the tour has come to its end */
 
     /* A buffer of a fixed length has another one. Nothing is changed. */
     L6_BAD_STATE_LENGTH = 101,  /* the state has not L6_STATE_LENGTH bytes */
     L6_BAD_REPORT_LENGTH = 102, /* the report has not L6_REPORT_LENGTH numbers */
-    L6_BAD_LIST_LENGTH = 103    /* the counts have not 2 numbers, or the list not two for each block */
+    L6_BAD_LIST_LENGTH = 103,   /* the counts have not 2 numbers, or the list not two for each block */
+
+    L6_CLOSED = 104           /* by the opening hours no tour starts at this time */
 };
 
 /* ---------------------------------------------------------------- the state */
@@ -154,6 +157,16 @@ uint64_t l6_count_blocks(const uint8_t *state, size_t state_length, uint64_t *co
  * order of the tests. */
 uint64_t l6_list_blocks(const uint8_t *state, size_t state_length, uint64_t live, uint64_t *list, size_t list_length);
 
+/* Opening hours: the row of the entry line at which a tour starts on a day, at a minute.
+ * Days count from 0 on 1 January 2000, weekdays from 0, Monday, to 6. A window is four numbers: a weekday, the opening minute, which is
+ * open, the closing minute, which is closed, and a row from 1 to 799; 0 <= opening < closing <= 1,440. An exception is five: a day, the
+ * same three, and 0; or a day, three zeros, and 1 where that day is closed. If an exception names the day, only those that do count,
+ * otherwise the windows of its weekday; the first that holds the minute gives the row.
+ * Reads both lists, any numbers of any lengths. Answers 0 and writes into row; or answers L6_CLOSED or L6_HOURS, and row is unchanged.
+ * docs/EMBEDDING.md says how a tour is started at a row. */
+uint64_t l6_hours(const uint64_t *windows, size_t windows_length, const uint64_t *exceptions, size_t exceptions_length, uint64_t day,
+                  uint64_t minute, uint64_t *row);
+
 /* ---------------------------------------------------------------- for people */
 
 /* An answer in words. */
@@ -182,10 +195,12 @@ static inline const char *l6_words(uint64_t answer) {
     case L6_STACK_EMPTY: return "a stack has no entry to restore or to return to";
     case L6_OUTPUT_FULL: return "there is no room for more output";
     case L6_SUBTRAHEND_GREATER: return "a subtraction below zero";
+    case L6_HOURS: return "the opening hours break their rules, or the minute is above 1,439";
     case L6_FINISHED: return "the tour has come to its end";
     case L6_BAD_STATE_LENGTH: return "the state's length is wrong";
     case L6_BAD_REPORT_LENGTH: return "the report's length is wrong";
     case L6_BAD_LIST_LENGTH: return "the list's length is wrong";
+    case L6_CLOSED: return "closed at this time";
     default: return "an answer that this header does not know";
     }
 }

@@ -1,6 +1,7 @@
 //! The library's functions, called through the header (header.c) or through the Rust module, with buffers of any length.
 use crate::bytes::Tour;
 use crate::l6::raw as module;
+use crate::lists::Lists;
 use std::ffi::c_char;
 
 type Step = unsafe extern "C" fn(
@@ -9,6 +10,7 @@ type Step = unsafe extern "C" fn(
 type Run = unsafe extern "C" fn(
     *const u64, usize, *mut u64, usize, *const u8, usize, *mut u8, usize, *mut u8, usize, u64, *mut u64,
 ) -> u64;
+type Hours = unsafe extern "C" fn(*const u64, usize, *const u64, usize, u64, u64, *mut u64) -> u64;
 
 pub struct Calls {
     fresh: unsafe extern "C" fn(*mut u8, usize) -> u64,
@@ -17,6 +19,7 @@ pub struct Calls {
     check: unsafe extern "C" fn(*const u64, usize, *mut u64) -> u64,
     count_blocks: unsafe extern "C" fn(*const u8, usize, *mut u64, usize) -> u64,
     list_blocks: unsafe extern "C" fn(*const u8, usize, u64, *mut u64, usize) -> u64,
+    hours: Hours,
 }
 
 extern "C" {
@@ -32,20 +35,23 @@ extern "C" {
     fn header_check(table: *const u64, numbers: usize, row: *mut u64) -> u64;
     fn header_count_blocks(state: *const u8, length: usize, counts: *mut u64, numbers: usize) -> u64;
     fn header_list_blocks(state: *const u8, length: usize, live: u64, list: *mut u64, numbers: usize) -> u64;
+    fn header_hours(
+        windows: *const u64, n: usize, exceptions: *const u64, m: usize, day: u64, minute: u64, row: *mut u64,
+    ) -> u64;
     // what else the header has
     pub fn header_reads(state: *const u8, numbers: *mut u64);
     pub fn header_words(answer: u64) -> *const c_char;
     pub fn header_character(code: u8) -> u8;
-    pub static header_constants: [u64; 29];
+    pub static header_constants: [u64; 31];
 }
 
 pub static HEADER: Calls = Calls {
     fresh: header_fresh, step: header_step, run: header_run, check: header_check, count_blocks: header_count_blocks,
-    list_blocks: header_list_blocks,
+    list_blocks: header_list_blocks, hours: header_hours,
 };
 pub static MODULE: Calls = Calls {
     fresh: module::l6_fresh, step: module::l6_step, run: module::l6_run, check: module::l6_check,
-    count_blocks: module::l6_count_blocks, list_blocks: module::l6_list_blocks,
+    count_blocks: module::l6_count_blocks, list_blocks: module::l6_list_blocks, hours: module::l6_hours,
 };
 
 /// What is lent and only read.
@@ -78,5 +84,7 @@ impl Calls {
     }
     pub fn list_blocks(&self, state: &[u8], live: u64, list: &mut [u64]) -> u64 {
         unsafe { (self.list_blocks)(state.as_ptr(), state.len(), live, list.as_mut_ptr(), list.len()) }
+    }    pub fn hours(&self, Lists { windows, exceptions, day, minute }: &Lists, row: &mut u64) -> u64 {
+        unsafe { (self.hours)(windows.as_ptr(), windows.len(), exceptions.as_ptr(), exceptions.len(), *day, *minute, row) }
     }
 }

@@ -2,6 +2,7 @@
 //! First come the cases of `comparison` that are not drawn and set-ups of 4,096 words, then generated tours until so many steps are
 //! compared: each is stepped and run from its start, and again from places on its way after damages of its state's bytes, storage,
 //! table, input or lengths. Calls go through the header and through the Rust module in turn; wrong lengths are tried with both.
+//! With each tour go drawn opening hours.
 //! Prints how many steps and answers of each number there were, and how many differences.
 #![allow(dead_code)]
 mod bytes;
@@ -10,8 +11,10 @@ mod comparison;
 mod damage;
 mod engine;
 mod generator;
+mod hours;
 #[path = "../host/l6.rs"]
 mod l6;
+mod lists;
 mod raw;
 
 use bytes::*;
@@ -63,7 +66,7 @@ impl Compared {
     fn answered(&mut self, answer: u64, steps: u64) {
         self.steps += steps;
         self.calls += 1;
-        self.answers[answer.min(104) as usize] += 1;
+        self.answers[answer.min(105) as usize] += 1;
     }
 
     // ------------------------------------------------------------ walks
@@ -126,6 +129,21 @@ impl Compared {
         self.answered(answer, 0);
         let expected = lowest_ill_formed(table).map_or((1, 77), |lowest| (0, lowest));
         self.same("the table check", (answer, row), expected);
+    }
+    /// Opening hours by a call, and by the Rust module's safe one.
+    fn opening(&mut self, calls: &Calls, rng: &mut Rng) {
+        let lists = lists::lists(rng);
+        let mut row = 77;
+        let answer = calls.hours(&lists, &mut row);
+        self.answered(answer, 0);
+        let expected = hours::open_at(&lists.windows, &lists.exceptions, lists.day, lists.minute);
+        let (wanted, safe) = match expected {
+            Ok(Some(row)) => ((0, row), l6::Opening::Row(row)),
+            Ok(None) => ((104, 77), l6::Opening::Closed),
+            Err(refusal) => ((refusal, 77), l6::Opening::Refused(l6::Refusal::Hours)),
+        };
+        self.same("opening hours", (answer, row), wanted);
+        self.same("safe opening hours", l6::hours(&lists.windows, &lists.exceptions, lists.day, lists.minute), safe);
     }
     /// Buffers of fixed length that have another one: the answers in their order, and nothing changed.
     fn lengths(&mut self, calls: &Calls, rng: &mut Rng, given: &Given, tour: &Tour) {
@@ -190,10 +208,11 @@ impl Compared {
     }
     /// Numbers and words of the header against the Rust module's.
     fn constants(&mut self) {
-        let numbers: Vec<u64> = [6675, 12].into_iter().chain(0..=22).chain(100..=103).collect();
+        let numbers: Vec<u64> = [6675, 12].into_iter().chain(0..=22).chain([29]).chain(100..=104).collect();
         self.same("the header's numbers", unsafe { header_constants }, numbers[..].try_into().unwrap());
         self.same("the module's length", l6::STATE_LENGTH, STATE);
         let words = |answer| unsafe { CStr::from_ptr(header_words(answer)) }.to_str().unwrap();
+        self.same("words of closed", words(104), &l6::Opening::Closed.row().unwrap_err());
         for (refusal, _) in l6::REFUSALS { self.same("words", words(refusal.number()), &refusal.to_string()); }
         let characters = |code| (unsafe { header_character(code) } as char, l6::character(code));
         (0..=255).for_each(|code| { let (c, rust) = characters(code); self.same("a character", c, rust); });
@@ -215,6 +234,7 @@ impl Compared {
         let last = &passed[passed.len() - 1];
         self.blocks(one, last);
         self.table(other, &given.table);
+        for calls in [one, other] { self.opening(calls, rng) }
         self.lengths(one, rng, given, last);
         self.lengths(other, rng, given, start);
         self.wrapped(given, &passed[passed.len() / 2]);
@@ -251,7 +271,7 @@ impl Compared {
 fn main() {
     let arguments: Vec<u64> = std::env::args().skip(1).filter_map(|text| text.parse().ok()).collect();
     let [seed, steps] = arguments[..] else { return eprintln!("usage: compare SEED STEPS") };
-    let mut compared = Compared { answers: vec![0; 105], label: "constants".to_string(), ..Compared::default() };
+    let mut compared = Compared { answers: vec![0; 106], label: "constants".to_string(), ..Compared::default() };
     compared.constants();
     compared.label = "large set-ups".to_string();
     compared.large();
@@ -273,7 +293,8 @@ fn main() {
             0 => println!("running, or done: {count} calls"),
             100 => println!("finished: {count}"),
             101..=103 => println!("wrong length, {answer}: {count}"),
-            1..=22 => println!("refusal {answer}: {count}"),
+            104 => println!("closed: {count}"),
+            1..=22 | 29 => println!("refusal {answer}: {count}"),
             _ if *count > 0 => println!("an unknown answer, {answer}: {count}"),
             _ => {}
         }

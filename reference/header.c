@@ -22,6 +22,10 @@ uint64_t header_count_blocks(const uint8_t *state, size_t state_length, uint64_t
 uint64_t header_list_blocks(const uint8_t *state, size_t state_length, uint64_t live, uint64_t *list, size_t list_length) {
     return l6_list_blocks(LENT(state), live, LENT(list));
 }
+uint64_t header_hours(const uint64_t *windows, size_t windows_length, const uint64_t *exceptions, size_t exceptions_length, uint64_t day,
+                      uint64_t minute, uint64_t *row) {
+    return l6_hours(LENT(windows), LENT(exceptions), day, minute, row);
+}
 
 /* What the header reads of a state. */
 void header_reads(const uint8_t *state, uint64_t numbers[5]) {
@@ -34,10 +38,10 @@ void header_reads(const uint8_t *state, uint64_t numbers[5]) {
 const char *header_words(uint64_t answer) { return l6_words(answer); }
 char header_character(uint8_t code) { return l6_character(code); }
 
-/* The lengths, and the answers by their names: 0 and 1 to 22 in their order, and then the others. */
-const uint64_t header_constants[29] = {
+/* The lengths, and the answers by their names: 0 and the refusals in their order, and then the others. */
+const uint64_t header_constants[31] = {
     L6_STATE_LENGTH, L6_REPORT_LENGTH, L6_RUNNING, L6_TABLE_LENGTH, L6_BAD_ROW, L6_SET_UP_NUMBERS, L6_INPUT_BYTE, L6_INPUT_SHORT,
     L6_NOT_A_DIGIT, L6_DEFINITION_NUMBER, L6_BLOCK_SIZE, L6_ZERO_DIVISOR, L6_CHARACTER_COUNT, L6_UNSOUND, L6_BEFORE_SET_UP,
     L6_SECOND_SET_UP, L6_UNDEFINED_FIELD, L6_NOT_A_BLOCK, L6_OUTSIDE_BLOCK, L6_NO_RUN, L6_FIELD_FREED, L6_STACK_FULL, L6_STACK_EMPTY,
-    L6_OUTPUT_FULL, L6_SUBTRAHEND_GREATER, L6_FINISHED, L6_BAD_STATE_LENGTH, L6_BAD_REPORT_LENGTH, L6_BAD_LIST_LENGTH,
+    L6_OUTPUT_FULL, L6_SUBTRAHEND_GREATER, L6_HOURS, L6_FINISHED, L6_BAD_STATE_LENGTH, L6_BAD_REPORT_LENGTH, L6_BAD_LIST_LENGTH, L6_CLOSED,
 };

@@ -1,8 +1,11 @@
-// The lines that the programs `leaves`, `allocations` and `triples` must write (the argument names the program), computed from
-// document 01 by other means: words are lists of single bits, products and differences are 128 bits wide, numbers become characters
-// by way of text, a table's rules are read row by row, and the allocator is a list of live blocks, from which its map is drawn and
-// through which references lead. Only the generator of cases and the checksum are the programs'. `make expected` writes their files
-// stdout with it.
+// The lines that the programs `leaves`, `allocations`, `triples` and `openings` must write (the argument names the program), computed from documents
+// 01 and 02 by other means: words are lists of single bits, products and differences are 128 bits wide, numbers become characters by way of
+// text, a table's rules are read row by row, and the allocator is a list of live blocks, from which its map is drawn and through
+// which references lead. Only the generator of cases and the checksum are the programs'. `make expected` writes their files stdout
+// with it.
+
+mod hours;
+mod openings;
 
 // ---- The generator ----
 
@@ -718,6 +721,7 @@ fn main() {
             bench_blocks();
         }
         Some("triples") => triples(),
-        _ => println!("leaves, allocations or triples"),
+        Some("openings") => openings::lines(),
+        _ => println!("leaves, allocations, triples or openings"),
     }
 }

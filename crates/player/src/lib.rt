@@ -1,4 +1,6 @@
 // The engine as a library for players in C and Rust: numbers and slices alone.
+pub mod opening;
+
 ghost use Prim.Native.Nat.{_≤_};
 ghost use mathlib.Core.Bool.{true, cond};
 ghost use mathlib.Core.List.{[], _∷_};

@@ -1,0 +1,65 @@
+-- `hours::first_holding` meets its contract. The loop's invariant: what is found in the whole list is what is found from here on. Assumes nothing.
+use mathlib.Core.List.{List}
+use mathlib.Core.Path.{sym, _∙_}
+use native.Mathlib.Omega.{arith}
+use Rattle.hours.specs.declared.Entry.{Entry}
+use Rattle.hours.specs.Hours.{naming, firstHolding}
+use Rattle.hours.proofs.Walk.{Walk, walk-start, walk-done, walk-inside, walk-next, walk-found}
+use Rattle.hours.proofs.Tests.{search-from}
+use borrow.Author.Needs.{needs}
+use Rattle.hours.proofs.first_holding.Statement.{statement}
+use Rattle.hours.proofs.first_holding.Tie as tie
+
+abbrev Inv-loop : tie.InvT-loop
+Inv-loop list n name minute at₀ left₀ at left = Walk (λ (es : List Entry). firstHolding minute (naming name es)) n list at left
+
+abbrev μ-loop : tie.MeasureT-loop
+μ-loop list n name minute at₀ left₀ at left = left
+
+div-left : tie.Need-div-left Inv-loop μ-loop
+div-left c = search needs
+
+loop-holds : tie.Need-loop-holds Inv-loop μ-loop
+loop-holds c = walk-start _ _ _
+
+entry-at-requires : tie.Need-entry-at-requires Inv-loop μ-loop
+entry-at-requires c κs = (search needs, walk-inside (c .before .loop .inv) (c .loop-test .taken))
+
+answers-requires : tie.Need-answers-requires Inv-loop μ-loop
+answers-requires c κs = search needs
+
+returns : tie.Need-returns Inv-loop μ-loop
+returns c = walk-found (c .before .before .before .before .loop .inv) (c .before .before .before .loop-test .taken) _ (c .before .before .entry-at .ensures) _ (search-from _ _ _ _ (sym (c .before .answers .ensures) ∙ c .if1 .taken))
+
+add-at : tie.Need-add-at Inv-loop μ-loop
+add-at c = record { fits = omega (arith, walk-inside (c .before .before .before .before .loop .inv) (c .before .before .before .loop-test .taken)) }
+
+sub-left : tie.Need-sub-left Inv-loop μ-loop
+sub-left c = search needs
+
+loop-less : tie.Need-loop-less Inv-loop μ-loop
+loop-less c = search needs
+
+loop-again : tie.Need-loop-again Inv-loop μ-loop
+loop-again c = walk-next (c .before .before .before .before .loop .inv) (c .before .before .before .loop-test .taken) _ (c .before .before .entry-at .ensures) (search-from _ _ _ _ (sym (c .before .answers .ensures) ∙ c .if1 .left))
+
+returns-2 : tie.Need-returns-2 Inv-loop μ-loop
+unfolding naming firstHolding
+returns-2 c = walk-done (c .before .loop .inv) (omega arith)
+
+pub first-holding-spec : {M : Type 1} → statement M
+first-holding-spec =
+    tie.close
+    (tie.spec
+    Inv-loop
+    μ-loop
+    div-left
+    loop-holds
+    entry-at-requires
+    answers-requires
+    returns
+    add-at
+    sub-left
+    loop-less
+    loop-again
+    returns-2)

@@ -1,0 +1,2 @@
+-- Opening hours.
+pub mod Hours

@@ -1,0 +1,40 @@
+//! Drawn windows and exceptions for compare.rs, with a day and a minute; some with a number or a length that breaks the rules.
+use crate::generator::Rng;
+
+pub struct Lists { pub windows: Vec<u64>, pub exceptions: Vec<u64>, pub day: u64, pub minute: u64 }
+
+/// The opening and the closing minute and the row of an entry.
+fn open(rng: &mut Rng) -> [u64; 3] {
+    let opening = rng.below(1440);
+    let closing = 1440 - rng.below(1440 - opening);
+    [opening, rng.pick(&[opening + 1, 1440, closing]), 1 + rng.below(799)]
+}
+
+/// Damages a list seldom: a number near a bound, one number more or fewer.
+fn spoil(rng: &mut Rng, list: &mut Vec<u64>) {
+    let any = rng.next();
+    let i = rng.below(list.len() as u64 + 1) as usize;
+    match rng.below(16) {
+        0 => list.push(any),
+        1 => list.truncate(i),
+        2 | 3 if i < list.len() => list[i] = rng.pick(&[0, 1, 2, 6, 7, 799, 800, 1440, 1441, u64::MAX, any]),
+        _ => {}
+    }
+}
+
+pub fn lists(rng: &mut Rng) -> Lists {
+    let any = rng.next();
+    let day = rng.pick(&[0, 1, 5, any, any % 8000, u64::MAX, u64::MAX - any % 8]);
+    let mut windows: Vec<u64> = (0..rng.below(30)).flat_map(|_| [&[rng.below(7)], &open(rng)[..]].concat()).collect();
+    let exceptions = (0..rng.below(6)).flat_map(|_| {
+        let day = day.wrapping_add(rng.pick(&[0, 0, 1, 7, u64::MAX, 1 << 32]));
+        if rng.below(3) == 0 { vec![day, 0, 0, 0, 1] } else { [&[day], &open(rng)[..], &[0]].concat() }
+    });
+    let mut exceptions: Vec<u64> = exceptions.collect();
+    spoil(rng, &mut windows);
+    spoil(rng, &mut exceptions);
+    let (first, last) = (windows.get(1).copied().unwrap_or(0), exceptions.get(2).copied().unwrap_or(0));
+    let drawn = rng.below(1440);
+    let minute = rng.pick(&[0, 1439, 1440, any, first, first.wrapping_sub(1), last, last.wrapping_sub(1), drawn, drawn, drawn, drawn]);
+    Lists { windows, exceptions, day, minute }
+}
