@@ -313,6 +313,57 @@ pub fn numbers(bytes: &[u8]) -> Vec<u64> {
     bytes.chunks(8).map(|eight| u64::from_le_bytes(eight.try_into().unwrap())).collect()
 }
 
+/// Why words are not saved or loaded, with its number. As text it is explained in words.
+#[derive(Clone, Copy, Debug, PartialEq, Eq)]
+pub enum NotKept {
+    WordTooWide = 33,
+    NotSaved,
+    OutputShort,
+    BadWidth = 105,
+}
+/// Every such reason, and what it means.
+pub const NOT_KEPT: [(NotKept, &str); 4] = [
+    (NotKept::WordTooWide, "a word to save does not fit the width"),
+    (NotKept::NotSaved, "the bytes to load are not those of so many saved words"),
+    (NotKept::OutputShort, "there is no room for what is saved or loaded"),
+    (NotKept::BadWidth, "the width is neither 36 nor 48"),
+];
+impl NotKept {
+    /// Its number.
+    pub fn number(self) -> u64 {
+        self as u64
+    }
+    /// Whether a call did what it was asked for.
+    fn done(answer: u64) -> Result<(), NotKept> {
+        match NOT_KEPT.iter().find(|(reason, _)| reason.number() == answer) {
+            Some((reason, _)) => Err(*reason),
+            None if answer == 0 => Ok(()),
+            None => panic!("libplayer.a answers {answer}, which l6.rs does not know"),
+        }
+    }
+}
+impl fmt::Display for NotKept {
+    fn fmt(&self, f: &mut fmt::Formatter) -> fmt::Result {
+        f.write_str(NOT_KEPT.iter().find(|(reason, _)| reason == self).map_or("", |(_, words)| words))
+    }
+}
+impl std::error::Error for NotKept {}
+
+/// How many bytes so many words have by bit columns: the width, 36 or 48, for each group of eight.
+pub fn saved_length(width: u64, words: usize) -> usize {
+    words.div_ceil(8) * width as usize
+}
+/// Saves words by bit columns at the start of the bytes, and says how many it wrote. The others stay; all do where it is refused.
+pub fn save(width: u64, words: &[u64], bytes: &mut [u8]) -> Result<usize, NotKept> {
+    let mut count = 0;
+    NotKept::done(unsafe { raw::l6_save(width, words.as_ptr(), words.len(), bytes.as_mut_ptr(), bytes.len(), &mut count) })?;
+    Ok(count as usize)
+}
+/// Loads n words, whose bytes are all of these, at the start of the words. The others stay; all do where it is refused.
+pub fn load(width: u64, bytes: &[u8], n: usize, words: &mut [u64]) -> Result<(), NotKept> {
+    NotKept::done(unsafe { raw::l6_load(width, bytes.as_ptr(), bytes.len(), n, words.as_mut_ptr(), words.len()) })
+}
+
 /// The character of a code of the output: a line's end for octal 77, '?' for a code that has no character.
 pub fn character(code: u8) -> char {
     let all = b"0123456789???????ABCDEFGHI?.?????JKLMNOPQR?????? ?STUVWXYZ?????\n";
@@ -348,5 +399,7 @@ pub mod raw {
             windows: *const u64, windows_length: usize, exceptions: *const u64, exceptions_length: usize, day: u64, minute: u64,
             row: *mut u64,
         ) -> u64;
+        pub fn l6_save(width: u64, words: *const u64, words_length: usize, bytes: *mut u8, bytes_length: usize, count: *mut u64) -> u64;
+        pub fn l6_load(width: u64, bytes: *const u8, bytes_length: usize, n: usize, words: *mut u64, words_length: usize) -> u64;
     }
 }

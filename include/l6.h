@@ -57,6 +57,11 @@ enum {
     L6_SUBTRAHEND_GREATER = 22, /* a subtraction below zero */
     L6_HOURS = 29,            /* opening hours of a wrong length, with an entry that breaks the rules, or a minute above 1,439 */
 
+    /* l6_save and l6_load */
+    L6_WORD_TOO_WIDE = 33,    /* a word to save does not fit the width */
+    L6_NOT_SAVED = 34,        /* so many words have not so many bytes, or a bit of the words that fill up is one */
+    L6_OUTPUT_SHORT = 35,     /* the bytes or words to write have no room */
+
     L6_FINISHED = 100,        /* the tour has come to its end */
 
     /* A buffer of a fixed length has another one. Nothing is changed. */
@@ -64,7 +69,8 @@ enum {
     L6_BAD_REPORT_LENGTH = 102, /* the report has not L6_REPORT_LENGTH numbers */
     L6_BAD_LIST_LENGTH = 103,   /* the counts have not 2 numbers, or the list not two for each block */
 
-    L6_CLOSED = 104           /* by the opening hours no tour starts at this time */
+    L6_CLOSED = 104,          /* by the opening hours no tour starts at this time */
+    L6_BAD_WIDTH = 105          /* the width is neither 36 nor 48 */
 };
 
 /* ---------------------------------------------------------------- the state */
@@ -167,6 +173,25 @@ uint64_t l6_list_blocks(const uint8_t *state, size_t state_length, uint64_t live
 uint64_t l6_hours(const uint64_t *windows, size_t windows_length, const uint64_t *exceptions, size_t exceptions_length, uint64_t day,
                   uint64_t minute, uint64_t *row);
 
+/* Words kept by bit columns, for a card. They are taken in groups of eight, the last filled up with zero words; for each bit place,
+ * leftmost first, one byte holds that bit of the eight words, the first word highest. The width is 36, that of the storage, or 48; a
+ * group has so many bytes, and no words have none. */
+
+/* How many bytes so many words have. */
+static inline size_t l6_saved_length(uint64_t width, size_t words) { return (words / 8 + (words % 8 != 0)) * width; }
+
+/* Saves words.
+ * Reads words. Writes l6_saved_length bytes at the start of bytes, and into count how many; bytes past them stay.
+ * Answers 0, L6_BAD_WIDTH, L6_WORD_TOO_WIDE, or L6_OUTPUT_SHORT where bytes has no room; nothing is written then. The order of these
+ * is the order of the tests. */
+uint64_t l6_save(uint64_t width, const uint64_t *words, size_t words_length, uint8_t *bytes, size_t bytes_length, uint64_t *count);
+
+/* Loads n words: what l6_save wrote for them.
+ * Reads bytes, all of which are those of the words. Writes n words at the start of words; words past them stay.
+ * Answers 0, L6_BAD_WIDTH, L6_NOT_SAVED where bytes has not the length that n words have, or words that fill up are not zero, or
+ * L6_OUTPUT_SHORT where words has no room; nothing is written then. The order of these is the order of the tests. */
+uint64_t l6_load(uint64_t width, const uint8_t *bytes, size_t bytes_length, size_t n, uint64_t *words, size_t words_length);
+
 /* ---------------------------------------------------------------- for people */
 
 /* An answer in words. */
@@ -196,11 +221,15 @@ static inline const char *l6_words(uint64_t answer) {
     case L6_OUTPUT_FULL: return "there is no room for more output";
     case L6_SUBTRAHEND_GREATER: return "a subtraction below zero";
     case L6_HOURS: return "the opening hours break their rules, or the minute is above 1,439";
+    case L6_WORD_TOO_WIDE: return "a word to save does not fit the width";
+    case L6_NOT_SAVED: return "the bytes to load are not those of so many saved words";
+    case L6_OUTPUT_SHORT: return "there is no room for what is saved or loaded";
     case L6_FINISHED: return "the tour has come to its end";
     case L6_BAD_STATE_LENGTH: return "the state's length is wrong";
     case L6_BAD_REPORT_LENGTH: return "the report's length is wrong";
     case L6_BAD_LIST_LENGTH: return "the list's length is wrong";
     case L6_CLOSED: return "closed at this time";
+    case L6_BAD_WIDTH: return "the width is neither 36 nor 48";
     default: return "an answer that this header does not know";
     }
 }

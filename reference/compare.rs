@@ -3,10 +3,13 @@
 //! compared: each is stepped and run from its start, and again from places on its way after damages of its state's bytes, storage,
 //! table, input or lengths. Calls go through the header and through the Rust module in turn; wrong lengths are tried with both.
 //! With each tour go drawn opening hours.
+//! Before the generated tours, 20,000 lists of words and bytes are saved and loaded by bit columns, damaged ones among them, with both
+//! and with the safe calls.
 //! Prints how many steps and answers of each number there were, and how many differences.
 #![allow(dead_code)]
 mod bytes;
 mod calls;
+mod columns;
 mod comparison;
 mod damage;
 mod engine;
@@ -23,6 +26,9 @@ use engine::*;
 use generator::*;
 use l6::{BadTable, State};
 use std::ffi::CStr;
+
+/// How many lists are saved and loaded by bit columns.
+const COLUMNS: u64 = 20_000;
 
 /// What was compared so far; `label` says of what the present case is.
 #[derive(Default)]
@@ -66,7 +72,7 @@ impl Compared {
     fn answered(&mut self, answer: u64, steps: u64) {
         self.steps += steps;
         self.calls += 1;
-        self.answers[answer.min(105) as usize] += 1;
+        self.answers[answer.min(106) as usize] += 1;
     }
 
     // ------------------------------------------------------------ walks
@@ -224,6 +230,74 @@ impl Compared {
         self.same("a safe fresh state", &State::fresh().bytes()[..], &Tour::fresh(vec![], vec![]).state);
     }
 
+    // ------------------------------------------------------------ storage kept by bit columns
+
+    /// What a call left in a buffer of 77s, and what the reference says: answer, and what is written at the start.
+    fn kept<T: PartialEq + Copy + From<u8>>(&mut self, what: &str, answer: u64, buffer: &[T], expected: &Result<Vec<T>, u64>) {
+        self.answered(answer, 0);
+        let mut wanted = expected.clone().unwrap_or_default();
+        wanted.resize(buffer.len(), T::from(77));
+        self.same(what, (answer, buffer), (expected.as_ref().err().copied().unwrap_or(0), &wanted[..]));
+    }
+    fn saved(&mut self, b: u64, words: &[u64], room: usize) {
+        let expected = columns::save(b, words, room);
+        for calls in [&HEADER, &MODULE] {
+            let (mut bytes, mut count) = (vec![77; room], 77);
+            let answer = calls.save(b, words, &mut bytes, &mut count);
+            self.kept("what is saved", answer, &bytes, &expected);
+            self.same("a count of bytes", count, expected.as_ref().map_or(77, |bytes| bytes.len() as u64));
+        }
+        let mut bytes = vec![77; room];
+        let answer = l6::save(b, words, &mut bytes);
+        self.kept("what is saved safely", answer.map_or_else(|reason| reason.number(), |_| 0), &bytes, &expected);
+        self.same("a safe count of bytes", answer.ok(), expected.ok().map(|bytes| bytes.len()));
+    }
+    fn loaded(&mut self, b: u64, bytes: &[u8], n: usize, room: usize) {
+        let expected = columns::load(b, bytes, n, room);
+        for calls in [&HEADER, &MODULE] {
+            let mut words = vec![77; room];
+            let answer = calls.load(b, bytes, n, &mut words);
+            self.kept("what is loaded", answer, &words, &expected);
+        }
+        let mut words = vec![77; room];
+        let answer = l6::load(b, bytes, n, &mut words).map_or_else(|reason| reason.number(), |_| 0);
+        self.kept("what is loaded safely", answer, &words, &expected);
+    }
+    /// Drawn words saved and loaded, some of them, their bytes, widths and lengths damaged.
+    fn columns(&mut self, rng: &mut Rng) {
+        let width = rng.pick(&[36, 48]);
+        let mut words: Vec<u64> = (0..rng.below(70)).map(|_| rng.next() >> (64 - width) >> rng.below(width)).collect();
+        let length = columns::groups(words.len()) * width as usize;
+        let mut bytes = columns::save(width, &words, length).unwrap();
+        let (given, room) = (words.len(), words.len());
+        if !words.is_empty() && rng.below(4) == 0 { words[rng.below(room as u64) as usize] ^= 1 << rng.below(64) }
+        if !bytes.is_empty() && rng.below(3) == 0 {
+            let last = bytes.len() as u64 - 1;
+            bytes[(last - rng.below(last + 1).min(rng.next() % 200)) as usize] ^= 1 << rng.below(8);
+        }
+        if rng.below(8) == 0 { bytes.resize(rng.pick(&[0, 35, 36, 37, 48, length + 1, length + 36, length.saturating_sub(1)]), 0) }
+        let b = if rng.below(8) == 0 { rng.pick(&[0, 1, 8, 35, 37, 47, 49, 64, 292, 1 << 32 | 36, u64::MAX]) } else { width };
+        let near = |rng: &mut Rng, n: usize| rng.pick(&[n, n, n, n, n + 1, n + 100, n.saturating_sub(1), 0]);
+        let most = [given, given, given, given + 1, given + 8, given.saturating_sub(1), 0, usize::MAX, usize::MAX - 7, 1 << 63];
+        let (to, n, room) = (near(rng, length), rng.pick(&most), near(rng, room));
+        self.saved(b, &words, to);
+        self.loaded(b, &bytes, n, room);
+    }
+    /// Numbers, words and lengths of the header against the Rust module's.
+    fn kept_constants(&mut self) {
+        self.same("the header's numbers of what is kept", unsafe { header_kept }, [33, 34, 35, 105]);
+        for (reason, _) in l6::NOT_KEPT {
+            let words = unsafe { CStr::from_ptr(header_words(reason.number())) }.to_str().unwrap();
+            self.same("words of what is kept", words, &reason.to_string());
+        }
+        for n in 0..100 {
+            for b in [36, 48] {
+                let lengths = [unsafe { header_saved_length(b, n) }, l6::saved_length(b, n)];
+                self.same("a length of what is saved", lengths, [columns::groups(n) * b as usize; 2]);
+            }
+        }
+    }
+
     // ------------------------------------------------------------ the cases
 
     /// Everything on one tour from its start.
@@ -271,7 +345,7 @@ impl Compared {
 fn main() {
     let arguments: Vec<u64> = std::env::args().skip(1).filter_map(|text| text.parse().ok()).collect();
     let [seed, steps] = arguments[..] else { return eprintln!("usage: compare SEED STEPS") };
-    let mut compared = Compared { answers: vec![0; 106], label: "constants".to_string(), ..Compared::default() };
+    let mut compared = Compared { answers: vec![0; 107], label: "constants".to_string(), ..Compared::default() };
     compared.constants();
     compared.label = "large set-ups".to_string();
     compared.large();
@@ -281,6 +355,12 @@ fn main() {
         let given = Given { table: engine.lent.table, input: engine.lent.input };
         compared.whole(i as u64, &mut Rng(i as u64), &given, &written(raw), trial.limit);
     }
+    compared.kept_constants();
+    let mut rng = Rng(seed ^ 3648);
+    for i in 0..COLUMNS {
+        compared.label = format!("columns {i} of seed {seed}");
+        compared.columns(&mut rng);
+    }
     let mut i = 0;
     while compared.steps < steps {
         compared.label = format!("tour {i} of seed {seed}");
@@ -288,13 +368,15 @@ fn main() {
         i += 1;
     }
     println!("{} steps in {} calls, {i} generated tours of seed {seed}", compared.steps, compared.calls);
+    println!("{COLUMNS} lists saved, and as many loaded, each by three calls");
     for (answer, count) in compared.answers.iter().enumerate() {
         match answer {
             0 => println!("running, or done: {count} calls"),
             100 => println!("finished: {count}"),
             101..=103 => println!("wrong length, {answer}: {count}"),
             104 => println!("closed: {count}"),
-            1..=22 | 29 => println!("refusal {answer}: {count}"),
+            105 => println!("no width, 105: {count}"),
+            1..=22 | 29 | 33..=35 => println!("refusal {answer}: {count}"),
             _ if *count > 0 => println!("an unknown answer, {answer}: {count}"),
             _ => {}
         }

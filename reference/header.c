@@ -26,6 +26,13 @@ uint64_t header_hours(const uint64_t *windows, size_t windows_length, const uint
                       uint64_t minute, uint64_t *row) {
     return l6_hours(LENT(windows), LENT(exceptions), day, minute, row);
 }
+uint64_t header_save(uint64_t width, const uint64_t *words, size_t words_length, uint8_t *bytes, size_t bytes_length, uint64_t *count) {
+    return l6_save(width, LENT(words), LENT(bytes), count);
+}
+uint64_t header_load(uint64_t width, const uint8_t *bytes, size_t bytes_length, size_t n, uint64_t *words, size_t words_length) {
+    return l6_load(width, LENT(bytes), n, LENT(words));
+}
+size_t header_saved_length(uint64_t width, size_t words) { return l6_saved_length(width, words); }
 
 /* What the header reads of a state. */
 void header_reads(const uint8_t *state, uint64_t numbers[5]) {
@@ -45,3 +52,6 @@ const uint64_t header_constants[31] = {
     L6_SECOND_SET_UP, L6_UNDEFINED_FIELD, L6_NOT_A_BLOCK, L6_OUTSIDE_BLOCK, L6_NO_RUN, L6_FIELD_FREED, L6_STACK_FULL, L6_STACK_EMPTY,
     L6_OUTPUT_FULL, L6_SUBTRAHEND_GREATER, L6_HOURS, L6_FINISHED, L6_BAD_STATE_LENGTH, L6_BAD_REPORT_LENGTH, L6_BAD_LIST_LENGTH, L6_CLOSED,
 };
+
+/* The answers of l6_save and l6_load. */
+const uint64_t header_kept[4] = {L6_WORD_TOO_WIDE, L6_NOT_SAVED, L6_OUTPUT_SHORT, L6_BAD_WIDTH};

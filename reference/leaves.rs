@@ -1,9 +1,10 @@
-// The lines that the programs `leaves`, `allocations`, `triples` and `openings` must write (the argument names the program), computed from documents
+// The lines that the programs `leaves`, `allocations`, `triples`, `openings` and `cards` must write (the argument names the program), computed from documents
 // 01 and 02 by other means: words are lists of single bits, products and differences are 128 bits wide, numbers become characters by way of
 // text, a table's rules are read row by row, and the allocator is a list of live blocks, from which its map is drawn and through
 // which references lead. Only the generator of cases and the checksum are the programs'. `make expected` writes their files stdout
 // with it.
 
+mod columns;
 mod hours;
 mod openings;
 
@@ -706,6 +707,58 @@ fn triples() {
     }
 }
 
+// ---- Storage kept by bit columns ----
+
+fn drawn_words(b: u64, drawn: u64) -> Vec<u64> {
+    let mut g = Generator(drawn);
+    (0..48).map(|_| g.next() >> if b == 36 { 28 } else { 16 }).collect()
+}
+
+fn whole(b: u64, groups: u64) -> u64 {
+    groups * if b == 36 { 36 } else { 48 }
+}
+
+fn near(b: u64, a: u64) -> usize {
+    (whole(b, a / 64 % 7) + a / 512 % 3).saturating_sub(1) as usize
+}
+
+// What a call answers and leaves: what it writes stands at the start of a buffer of so many 77.
+fn left<T: Copy + From<u8> + Into<u64>>(length: usize, answer: Result<Vec<T>, u64>) -> u64 {
+    let written = answer.as_ref().map_or(vec![], |written| written.clone());
+    let after = vec![T::from(77); length - written.len()];
+    let sum = written.iter().chain(&after).fold(1, |sum, &x| fold(sum, x.into()));
+    fold(figure(answer.map(|written| written.len() as u64)), sum)
+}
+
+fn saved(b: u64, a: u64, y: u64) -> u64 {
+    let mut words = drawn_words(b, y);
+    if a / 4 % 4 == 3 { words[y as usize / 64 % 48] ^= 1 << (a / 16 % 64) }
+    left(300, columns::save(b, &words[..y as usize % 41], near(b, a)))
+}
+
+fn loaded(b: u64, a: u64, y: u64) -> u64 {
+    let n = y as usize % 41;
+    let mut bytes = columns::save(b, &drawn_words(b, y)[..n], 300).unwrap_or_default();
+    bytes.resize(300, 0);
+    if a / 4 % 4 == 3 { bytes[y as usize / 64 % 288] ^= 1 << (a / 16 % 8) }
+    let seldom = |from: u64, one: usize, other: usize| if a / from % 4 == 0 { one } else { other };
+    let given = seldom(8192, near(b, a), whole(b, columns::groups(n) as u64) as usize);
+    let wanted = seldom(32768, y as usize / 4096 % 41, n);
+    let room = seldom(131072, y as usize / 262144 % 49, 48);
+    left(48, columns::load(b, &bytes[..given], wanted, room))
+}
+
+fn cards() {
+    for (name, call) in [("save", saved as fn(u64, u64, u64) -> u64), ("load", loaded)] {
+        for width in ["width 36", "width 48", "any width"] {
+            let b = |a, x| match width { "width 36" => 36, "width 48" => 48, _ => x >> (a % 64) };
+            let mut g = Generator(SEED);
+            let sum = (0..CASES).fold(0, |sum, _| { let c = g.case(); fold(sum, call(b(c.a, c.x), c.a, g.0)) });
+            println!("{name}, {width}: {}", sum / 2);
+        }
+    }
+}
+
 fn main() {
     match std::env::args().nth(1).as_deref() {
         Some("leaves") => {
@@ -722,6 +775,7 @@ fn main() {
         }
         Some("triples") => triples(),
         Some("openings") => openings::lines(),
-        _ => println!("leaves, allocations, triples or openings"),
+        Some("cards") => cards(),
+        _ => println!("leaves, allocations, triples, openings or cards"),
     }
 }

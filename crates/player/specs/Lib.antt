@@ -1,3 +1,4 @@
 -- What the library's calls answer and leave.
 pub mod Calls
 pub mod Hours
+pub mod Keeping

@@ -1,4 +1,5 @@
 // The engine as a library for players in C and Rust: numbers and slices alone.
+pub mod keeping;
 pub mod opening;
 
 ghost use Prim.Native.Nat.{_≤_};

@@ -1,0 +1,94 @@
+-- The calls by their checks. Assumes nothing.
+use Prim.Native.Nat.{ℕ, _+_, _*_, _/_, _%_, _≤_, _<_}
+use native.Mathlib.Nat.{div-add-mod', mul-div-cancel-left, mul-mod-right}
+use native.Mathlib.Omega.{arith}
+use mathlib.Core.Bool.{Bool, true, false, _&&_, _||_, cond}
+use mathlib.Core.List.{List, _++_}
+use mathlib.Core.Path.{_≡_, refl, sym, ap, _∙_}
+use borrow.Author.Tests.{eq-eqb, ne-eqb, eqb-true, le-leb, lt-leb}
+use lib.Dec.{eqb, leb}
+use lib.ListN.{length, take, drop, length-take}
+use Rattle.word.proofs.Tests.{by-eqb}
+use Rattle.columns.specs.declared.Kept.{Kept}
+use Rattle.columns.specs.declared.Kept.the-variants.{Count, NoWidth, WordTooWide, NotSaved, OutputShort}
+use Rattle.columns.specs.Columns.{Left, groupsOf, saved, allLoaded, loaded, fitsWidth, eachBelow, isSaved, isWidth, written, saving, loading, turnedGroups}
+use Rattle.columns.proofs.Back.{room, length-saved}
+use Rattle.columns.proofs.Turning.{length-groups}
+
+-- a whole number of groups, by remainder and quotient
+pub whole-is : (length b groups : ℕ) → 0 < b → (eqb (length % b) 0 && eqb (length / b) groups) ≡ eqb length (b * groups)
+whole-is length b groups pos =
+    by-eqb (λ t. (t && eqb (length / b) groups) ≡ eqb length (b * groups)) (length % b) 0
+    (λ none. by-eqb (λ t. t ≡ eqb length (b * groups)) (length / b) groups
+    (λ same. sym (eq-eqb length (b * groups) (omega (arith, div-add-mod' length b, ap (λ (n : ℕ). n * b) same))))
+    (λ other. sym (ne-eqb length (b * groups) (λ e. other (ap (λ (n : ℕ). n / b) e ∙ mul-div-cancel-left groups pos)))))
+    (λ some. sym (ne-eqb length (b * groups) (λ e. some (ap (λ (n : ℕ). n % b) e ∙ mul-mod-right b groups))))
+
+-- a width is one of two
+pub width-range : (b : ℕ) → isWidth b ≡ true → (8 ≤ b) × (b ≤ 48)
+unfolding isWidth
+width-range b is =
+    by-eqb (λ t. (t || eqb b 48) ≡ true → (8 ≤ b) × (b ≤ 48)) b 36
+    (λ e _. (omega arith, omega arith))
+    (λ _ later. let e = eqb-true b 48 later in (omega arith, omega arith)) is
+
+abbrev left : Kept → List ℕ → Left
+left answer output = record { answer = answer; output = output }
+
+module _ (b : ℕ) (ws output : List ℕ) where
+  pub saving-no-width : isWidth b ≡ false → left NoWidth output ≡ saving b ws output
+  unfolding saving
+  saving-no-width w = rw w
+
+  module _ (w : isWidth b ≡ true) where
+    pub saving-wide : fitsWidth b ws ≡ false → left WordTooWide output ≡ saving b ws output
+    unfolding saving
+    saving-wide f = rw (w, f)
+
+    module _ (f : fitsWidth b ws ≡ true) {count : ℕ} (is : count ≡ b * groupsOf (length ws)) where
+      pub saving-short : length output < count → left OutputShort output ≡ saving b ws output
+      unfolding saving written
+      saving-short h = rw (w, f, lt-leb (length (saved b ws)) (length output) (omega (arith, length-saved b ws)))
+
+      pub saving-done : count ≤ length output → {after : List ℕ} → after ≡ saved b ws ++ drop count output → left (Count count) after ≡ saving b ws output
+      unfolding saving written
+      saving-done h e =
+          let same : count ≡ length (saved b ws) = is ∙ sym (length-saved b ws) in
+          rw (w, f, le-leb (length (saved b ws)) (length output) (omega arith), e, same)
+
+module _ (b n : ℕ) (bytes output : List ℕ) where
+  pub loading-no-width : isWidth b ≡ false → left NoWidth output ≡ loading b n bytes output
+  unfolding loading
+  loading-no-width w = rw w
+
+  module _ (w : isWidth b ≡ true) {groups : ℕ} (is : groups ≡ groupsOf n) where
+    pub loading-uneven : eqb (length bytes) (b * groups) ≡ false → left NotSaved output ≡ loading b n bytes output
+    unfolding loading isSaved
+    loading-uneven e = rw (w, ← is, e)
+
+    module _ (even : eqb (length bytes) (b * groups) ≡ true) where
+      pub loading-filled : eachBelow 1 (drop n (turnedGroups 8 b groups bytes)) ≡ false → left NotSaved output ≡ loading b n bytes output
+      unfolding loading isSaved allLoaded
+      loading-filled e = rw (w, ← is, even, e)
+
+      module _ (zeros : eachBelow 1 (drop n (turnedGroups 8 b groups bytes)) ≡ true) where
+        accepted : isSaved b n bytes ≡ true
+        unfolding isSaved allLoaded
+        accepted = rw (← is, even, zeros)
+
+        long : length (loaded b n bytes) ≡ n
+        unfolding loaded allLoaded
+        long = simp length-take (omega (arith, length-groups 8 b (groupsOf n) bytes, room n))
+
+        pub loading-short : length output < n → left OutputShort output ≡ loading b n bytes output
+        unfolding loading written
+        loading-short h = rw (w, accepted, lt-leb (length (loaded b n bytes)) (length output) (omega (arith, long)))
+
+        same-words : take n (turnedGroups 8 b groups bytes) ≡ loaded b n bytes
+        unfolding loaded allLoaded
+        same-words = ap (λ (k : ℕ). take n (turnedGroups 8 b k bytes)) is
+
+        pub loading-done : n ≤ length output → {after : List ℕ} → after ≡ take n (turnedGroups 8 b groups bytes) ++ drop n output
+            → left (Count n) after ≡ loading b n bytes output
+        unfolding loading written
+        loading-done h e = rw (w, accepted, le-leb (length (loaded b n bytes)) (length output) (omega (arith, long)), long, e, same-words)

@@ -1,0 +1,77 @@
+-- `columns::save` meets its contract, check by check. Assumes nothing.
+use Prim.Native.Nat.{ℕ, _*_, _/_, _≤_, _<_}
+use mathlib.Core.Path.{_≡_, sym, ap, _∙_}
+use native.Mathlib.Nat.{div-lt-iff-lt-mul, le-div-iff-mul-le}
+use native.Mathlib.Omega.{arith}
+use borrow.Author.Tests.{not-true, not-false}
+use lib.ListN.{length}
+use Rattle.columns.proofs.Calls.{width-range, saving-no-width, saving-wide, saving-short, saving-done}
+use borrow.Author.Needs.{needs}
+use Rattle.columns.proofs.save.Statement.{statement}
+use Rattle.columns.proofs.save.Tie as tie
+
+is-width-requires : tie.Need-is-width-requires
+is-width-requires c κs = search needs
+
+returns : tie.Need-returns
+returns c = saving-no-width _ _ _ (sym (c .before .is-width .ensures) ∙ not-true _ (c .if1 .taken))
+
+fit-requires : tie.Need-fit-requires
+fit-requires c κs = width-range _ (sym (c .before .is-width .ensures) ∙ not-false _ (c .if1 .left)) .1
+
+returns-2 : tie.Need-returns-2
+returns-2 c = saving-wide _ _ _ (sym (c .before .before .before .is-width .ensures) ∙ not-false _ (c .before .before .if1 .left)) (sym (c .before .fit .ensures) ∙ not-true _ (c .if2 .taken))
+
+groups-of-requires : tie.Need-groups-of-requires
+groups-of-requires c κs = search needs
+
+div-if3 : tie.Need-div-if3
+div-if3 c = let range = width-range (c .before .before .before .before .before .before .before .args .b) (sym (c .before .before .before .before .is-width .ensures) ∙ not-false _ (c .before .before .before .if1 .left)) in omega (arith, range .0)
+
+returns-3 : tie.Need-returns-3
+returns-3 c =
+    let wide = sym (c .before .before .before .before .before .is-width .ensures) ∙ not-false _ (c .before .before .before .before .if1 .left) in
+    let some : 0 < c .before .before .before .before .before .before .before .before .args .b = omega (arith, width-range (c .before .before .before .before .before .before .before .before .args .b) wide .0) in
+    let short = div-lt-iff-lt-mul {x = length (c .before .before .before .before .before .before .before .before .args .bytes .now)} {y = c .before .groups-of .result} some .0 (c .if3 .taken) in
+    saving-short _ _ _ wide (sym (c .before .before .before .fit .ensures) ∙ not-false _ (c .before .before .if2 .left)) (ap (λ (n : ℕ). c .before .before .before .before .before .before .before .before .args .b * n) (c .before .groups-of .ensures)) (omega arith)
+
+mul-count : tie.Need-mul-count
+mul-count c =
+    let some : 0 < c .before .before .before .before .before .before .before .before .args .b = omega (arith, width-range (c .before .before .before .before .before .before .before .before .args .b) (sym (c .before .before .before .before .before .is-width .ensures) ∙ not-false _ (c .before .before .before .before .if1 .left)) .0) in
+    let room = le-div-iff-mul-le {x = c .before .groups-of .result} {y = length (c .before .before .before .before .before .before .before .before .args .bytes .now)} some .0 (c .if3 .left) in
+    omega arith
+
+save-all-requires : tie.Need-save-all-requires
+save-all-requires c κs =
+    let wide = sym (c .before .before .before .before .before .before .is-width .ensures) ∙ not-false _ (c .before .before .before .before .before .if1 .left) in
+    let range = width-range (c .before .before .before .before .before .before .before .before .before .args .b) wide in
+    let some : 0 < c .before .before .before .before .before .before .before .before .before .args .b = omega (arith, range .0) in
+    let room = le-div-iff-mul-le {x = c .before .before .groups-of .result} {y = length (c .before .before .before .before .before .before .before .before .before .args .bytes .now)} some .0 (c .before .if3 .left) in
+    (some, range .1, ap (λ (n : ℕ). c .before .before .before .before .before .before .before .before .before .args .b * n) (c .before .before .groups-of .ensures), omega arith)
+
+same-length : tie.Need-same-length
+same-length c = search needs
+
+returns-4 : tie.Need-returns-4
+returns-4 c =
+    let wide = sym (c .before .before .before .before .before .before .before .before .before .is-width .ensures) ∙ not-false _ (c .before .before .before .before .before .before .before .before .if1 .left) in
+    let some : 0 < c .before .before .before .before .before .before .before .before .before .before .before .before .args .b = omega (arith, width-range (c .before .before .before .before .before .before .before .before .before .before .before .before .args .b) wide .0) in
+    let room = le-div-iff-mul-le {x = c .before .before .before .before .before .groups-of .result} {y = length (c .before .before .before .before .before .before .before .before .before .before .before .before .args .bytes .now)} some .0 (c .before .before .before .before .if3 .left) in
+    saving-done _ _ _ wide (sym (c .before .before .before .before .before .before .before .fit .ensures) ∙ not-false _ (c .before .before .before .before .before .before .if2 .left))
+    (ap (λ (n : ℕ). c .before .before .before .before .before .before .before .before .before .before .before .before .args .b * n) (c .before .before .before .before .before .groups-of .ensures)) (omega arith) (c .before .before .save-all .ensures)
+
+pub save-spec : {M : Type 1} → statement M
+save-spec =
+    tie.close
+    (tie.spec
+    is-width-requires
+    returns
+    fit-requires
+    returns-2
+    groups-of-requires
+    div-if3
+    returns-3
+    mul-count
+    save-all-requires
+    same-length
+    returns-4)

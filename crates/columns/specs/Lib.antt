@@ -1,0 +1,2 @@
+-- Storage kept by bit columns.
+pub mod Columns
