@@ -30,36 +30,46 @@ word-at-requires c κs = let low = c .loop-test .taken in let same = c .before .
 
 returns : tie.Need-returns Inv-loop μ-loop
 returns c =
-    let all = turnedGroups 8 (c .before .before .before .before .before .args .b) (c .before .before .before .before .before .args .groups) (c .before .before .before .before .before .args .bytes .now) in
+    let start = c .before .before .before .before .before in
+    let l = c .before .before .before .loop in
+    let all = turnedGroups 8 (start .args .b) (start .args .groups) (start .args .bytes .now) in
     let low = c .before .before .loop-test .taken in
-    let same = c .before .before .before .loop .inv .0 in
+    let same = l .inv .0 in
     let some = c .if1 .taken in
-    sym (below-not 1 all (c .before .before .before .loop .i) (omega (arith, length-groups 8 (c .before .before .before .before .before .args .b) (c .before .before .before .before .before .args .groups) (c .before .before .before .before .before .args .bytes .now))) (omega (arith, c .before .word-at .ensures))) ∙ c .before .before .before .loop .inv .1
+    let inside : l .i < length all = omega (arith, length-groups 8 (start .args .b) (start .args .groups) (start .args .bytes .now)) in
+    sym (below-not 1 all (l .i) inside (omega (arith, c .before .word-at .ensures))) ∙ l .inv .1
 
 add-i : tie.Need-add-i Inv-loop μ-loop
 add-i c =
+    let start = c .before .before .before .before .before in
     let low = c .before .before .loop-test .taken in
     let same = c .before .before .before .loop .inv .0 in
-    let less = mul-le-mul-right {m = 8} {n = c .before .before .before .before .before .args .b} (c .before .before .before .before .before .args .groups) (c .before .before .before .before .before .pre .0) in
-    omega (arith, c .before .before .before .before .before .pre .2)
+    let less = mul-le-mul-right {m = 8} {n = start .args .b} (start .args .groups) (start .pre .0) in
+    omega (arith, start .pre .2)
 
 loop-less : tie.Need-loop-less Inv-loop μ-loop
 loop-less c = let same = c .before .before .before .loop .inv .0 in omega arith
 
 loop-again : tie.Need-loop-again Inv-loop μ-loop
 loop-again c =
-    let all = turnedGroups 8 (c .before .before .before .before .before .args .b) (c .before .before .before .before .before .args .groups) (c .before .before .before .before .before .args .bytes .now) in
+    let start = c .before .before .before .before .before in
+    let l = c .before .before .before .loop in
+    let all = turnedGroups 8 (start .args .b) (start .args .groups) (start .args .bytes .now) in
     let low = c .before .before .loop-test .taken in
-    let same = c .before .before .before .loop .inv .0 in
+    let same = l .inv .0 in
     let none = c .if1 .left in
-    (same, below-next 1 all (c .before .before .before .loop .i) (omega (arith, length-groups 8 (c .before .before .before .before .before .args .b) (c .before .before .before .before .before .args .groups) (c .before .before .before .before .before .args .bytes .now))) (omega (arith, c .before .word-at .ensures)) ∙ c .before .before .before .loop .inv .1)
+    let inside : l .i < length all = omega (arith, length-groups 8 (start .args .b) (start .args .groups) (start .args .bytes .now)) in
+    (same, below-next 1 all (l .i) inside (omega (arith, c .before .word-at .ensures)) ∙ l .inv .1)
 
 returns-2 : tie.Need-returns-2 Inv-loop μ-loop
 returns-2 c =
-    let all = turnedGroups 8 (c .before .before .before .args .b) (c .before .before .before .args .groups) (c .before .before .before .args .bytes .now) in
+    let start = c .before .before .before in
+    let l = c .before .loop in
+    let all = turnedGroups 8 (start .args .b) (start .args .groups) (start .args .bytes .now) in
     let past = c .loop-test .left in
-    let same = c .before .loop .inv .0 in
-    sym (below-all 1 all (c .before .loop .i) (omega (arith, length-groups 8 (c .before .before .before .args .b) (c .before .before .before .args .groups) (c .before .before .before .args .bytes .now)))) ∙ c .before .loop .inv .1
+    let same = l .inv .0 in
+    let inside : length all ≤ l .i = omega (arith, length-groups 8 (start .args .b) (start .args .groups) (start .args .bytes .now)) in
+    sym (below-all 1 all (l .i) inside) ∙ l .inv .1
 
 pub filled-with-zeros-spec : {M : Type 1} → statement M
 filled-with-zeros-spec =

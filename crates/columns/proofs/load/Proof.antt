@@ -22,38 +22,81 @@ groups-of-requires : tie.Need-groups-of-requires
 groups-of-requires c κs = search needs
 
 is-whole-requires : tie.Need-is-whole-requires
-is-whole-requires c κs = let range = width-range (c .before .before .before .before .before .args .b) (sym (c .before .before .is-width .ensures) ∙ not-false _ (c .before .if1 .left)) in omega (arith, range .0)
+is-whole-requires c κs =
+    let at-if1 = c .before in
+    let at-width = at-if1 .before in
+    omega (arith, width-range (at-width .before .before .before .args .b) (sym (at-width .is-width .ensures) ∙ not-false _ (at-if1 .if1 .left)) .0)
 
 returns-2 : tie.Need-returns-2
-returns-2 c = loading-uneven _ _ _ _ (sym (c .before .before .before .before .is-width .ensures) ∙ not-false _ (c .before .before .before .if1 .left)) (c .before .before .groups-of .ensures) (sym (c .before .is-whole .ensures) ∙ not-true _ (c .if2 .taken))
+returns-2 c =
+    let at-whole = c .before in
+    let at-groups = at-whole .before in
+    let at-if1 = at-groups .before in
+    loading-uneven _ _ _ _ (sym (at-if1 .before .is-width .ensures) ∙ not-false _ (at-if1 .if1 .left)) (at-groups .groups-of .ensures)
+    (sym (at-whole .is-whole .ensures) ∙ not-true _ (c .if2 .taken))
 
 filled-with-zeros-requires : tie.Need-filled-with-zeros-requires
 filled-with-zeros-requires c κs =
-    let range = width-range (c .before .before .before .before .before .before .before .args .b) (sym (c .before .before .before .before .is-width .ensures) ∙ not-false _ (c .before .before .before .if1 .left)) in
-    (range .0, range .1, eqb-true _ _ (sym (c .before .is-whole .ensures) ∙ not-false _ (c .if2 .left)))
+    let at-whole = c .before in
+    let at-if1 = at-whole .before .before in
+    let at-width = at-if1 .before in
+    let range = width-range (at-width .before .before .before .args .b) (sym (at-width .is-width .ensures) ∙ not-false _ (at-if1 .if1 .left)) in
+    (range .0, range .1, eqb-true _ _ (sym (at-whole .is-whole .ensures) ∙ not-false _ (c .if2 .left)))
 
 returns-3 : tie.Need-returns-3
 returns-3 c =
-    loading-filled _ _ _ _ (sym (c .before .before .before .before .before .before .is-width .ensures) ∙ not-false _ (c .before .before .before .before .before .if1 .left)) (c .before .before .before .before .groups-of .ensures) (sym (c .before .before .before .is-whole .ensures) ∙ not-false _ (c .before .before .if2 .left))
-    (sym (c .before .filled-with-zeros .ensures) ∙ not-true _ (c .if3 .taken))
+    let at-filled = c .before in
+    let at-if2 = at-filled .before in
+    let at-whole = at-if2 .before in
+    let at-groups = at-whole .before in
+    let at-if1 = at-groups .before in
+    loading-filled _ _ _ _ (sym (at-if1 .before .is-width .ensures) ∙ not-false _ (at-if1 .if1 .left)) (at-groups .groups-of .ensures)
+    (sym (at-whole .is-whole .ensures) ∙ not-false _ (at-if2 .if2 .left)) (sym (at-filled .filled-with-zeros .ensures) ∙ not-true _ (c .if3 .taken))
 
 returns-4 : tie.Need-returns-4
 returns-4 c =
-    loading-short _ _ _ _ (sym (c .before .before .before .before .before .before .before .is-width .ensures) ∙ not-false _ (c .before .before .before .before .before .before .if1 .left)) (c .before .before .before .before .before .groups-of .ensures) (sym (c .before .before .before .before .is-whole .ensures) ∙ not-false _ (c .before .before .before .if2 .left))
-    (sym (c .before .before .filled-with-zeros .ensures) ∙ not-false _ (c .before .if3 .left)) (c .if4 .taken)
+    let at-if3 = c .before in
+    let at-filled = at-if3 .before in
+    let at-if2 = at-filled .before in
+    let at-whole = at-if2 .before in
+    let at-groups = at-whole .before in
+    let at-if1 = at-groups .before in
+    loading-short _ _ _ _ (sym (at-if1 .before .is-width .ensures) ∙ not-false _ (at-if1 .if1 .left)) (at-groups .groups-of .ensures)
+    (sym (at-whole .is-whole .ensures) ∙ not-false _ (at-if2 .if2 .left)) (sym (at-filled .filled-with-zeros .ensures) ∙ not-false _ (at-if3 .if3 .left))
+    (c .if4 .taken)
 
 load-all-requires : tie.Need-load-all-requires
 load-all-requires c κs =
-    let range = width-range (c .before .before .before .before .before .before .before .before .before .before .before .args .b) (sym (c .before .before .before .before .before .before .before .before .is-width .ensures) ∙ not-false _ (c .before .before .before .before .before .before .before .if1 .left)) in
-    (range .1, eqb-true _ _ (sym (c .before .before .before .before .before .is-whole .ensures) ∙ not-false _ (c .before .before .before .before .if2 .left)), omega (arith, room (c .before .before .before .before .before .before .before .before .before .before .before .args .n), c .before .before .before .before .before .before .groups-of .ensures), c .before .if4 .left)
+    let at-if4 = c .before in
+    let at-if2 = at-if4 .before .before .before in
+    let at-whole = at-if2 .before in
+    let at-groups = at-whole .before in
+    let at-if1 = at-groups .before in
+    let at-width = at-if1 .before in
+    let start = at-width .before .before .before in
+    let range = width-range (start .args .b) (sym (at-width .is-width .ensures) ∙ not-false _ (at-if1 .if1 .left)) in (
+      range .1,
+      eqb-true _ _ (sym (at-whole .is-whole .ensures) ∙ not-false _ (at-if2 .if2 .left)),
+      omega (arith, room (start .args .n), at-groups .groups-of .ensures),
+      at-if4 .if4 .left,
+    )
 
 same-length : tie.Need-same-length
 same-length c = search needs
 
 returns-5 : tie.Need-returns-5
 returns-5 c =
-    loading-done _ _ _ _ (sym (c .before .before .before .before .before .before .before .before .before .before .before .is-width .ensures) ∙ not-false _ (c .before .before .before .before .before .before .before .before .before .before .if1 .left)) (c .before .before .before .before .before .before .before .before .before .groups-of .ensures) (sym (c .before .before .before .before .before .before .before .before .is-whole .ensures) ∙ not-false _ (c .before .before .before .before .before .before .before .if2 .left))
-    (sym (c .before .before .before .before .before .before .filled-with-zeros .ensures) ∙ not-false _ (c .before .before .before .before .before .if3 .left)) (c .before .before .before .before .if4 .left) (c .before .before .load-all .ensures)
+    let at-load = c .before .before in
+    let at-if4 = at-load .before .before in
+    let at-if3 = at-if4 .before in
+    let at-filled = at-if3 .before in
+    let at-if2 = at-filled .before in
+    let at-whole = at-if2 .before in
+    let at-groups = at-whole .before in
+    let at-if1 = at-groups .before in
+    loading-done _ _ _ _ (sym (at-if1 .before .is-width .ensures) ∙ not-false _ (at-if1 .if1 .left)) (at-groups .groups-of .ensures)
+    (sym (at-whole .is-whole .ensures) ∙ not-false _ (at-if2 .if2 .left)) (sym (at-filled .filled-with-zeros .ensures) ∙ not-false _ (at-if3 .if3 .left))
+    (at-if4 .if4 .left) (at-load .load-all .ensures)
 
 pub load-spec : {M : Type 1} → statement M
 load-spec =
