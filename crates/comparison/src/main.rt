@@ -3,16 +3,14 @@
 // count of steps, and checksums over the steps and over all that they leave (state, storage, output); the run's answer, count and
 // checksum over all that it leaves; and the case's label. At the end there is a line for each count of what the cases reached.
 ghost use Prim.Native.Nat.{_<_};
-
-mod checksums;
-mod counts;
-mod numbers;
-
-use counts::COUNTS;
 use engine::answers::refusal_number;
 use machine::Answer;
-use numbers::NUMBERS;
 use states::STATE;
+use states::checksums;
+use states::counts;
+use states::counts::COUNTS;
+use states::numbers;
+use states::numbers::NUMBERS;
 
 // What a step answers, as a number; the checksum with it; and which count its first store belongs to.
 struct Told {

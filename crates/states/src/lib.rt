@@ -2,6 +2,11 @@
 // bugs; for each field's definition defined (0 or 1), word, left and right; the entries of the three stacks (128 words, 128
 // definitions, 128 places) and their counts; d, s1 and s2; characters taken and written; and the bytes of the map.
 ghost use Prim.Native.Nat.{_<_};
+
+pub mod checksums;
+pub mod counts;
+pub mod numbers;
+
 use block::SetUp;
 use machine::CallStack;
 use machine::ContentsStack;

@@ -1,8 +1,8 @@
--- `comparison::counts::has_free` meets its contract. The measure is the bytes left. Assumes nothing.
+-- `states::counts::has_free` meets its contract. The measure is the bytes left. Assumes nothing.
 use Prim.Native.Nat.{_-_, _≤_}
 use borrow.Author.Needs.{needs}
-use Rattle.comparison.proofs.counts.has_free.Statement.{statement}
-use Rattle.comparison.proofs.counts.has_free.Tie as tie
+use Rattle.states.proofs.counts.has_free.Statement.{statement}
+use Rattle.states.proofs.counts.has_free.Tie as tie
 
 abbrev Inv-loop : tie.InvT-loop
 Inv-loop state i₀ i = i ≤ 4096

@@ -1,9 +1,9 @@
--- `comparison::numbers::number_at` meets its contract. The shift is less than a word; the measure is the bytes left. Assumes nothing.
+-- `states::numbers::number_at` meets its contract. The shift is less than a word; the measure is the bytes left. Assumes nothing.
 use Prim.Native.Nat.{_-_, _<_}
 use lib.ListN.{length}
 use borrow.Author.Needs.{needs}
-use Rattle.comparison.proofs.numbers.number_at.Statement.{statement}
-use Rattle.comparison.proofs.numbers.number_at.Tie as tie
+use Rattle.states.proofs.numbers.number_at.Statement.{statement}
+use Rattle.states.proofs.numbers.number_at.Tie as tie
 
 abbrev Inv-loop : tie.InvT-loop
 Inv-loop file from at₀ value₀ shift₀ at value shift = shift < 64

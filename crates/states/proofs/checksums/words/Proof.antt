@@ -1,9 +1,9 @@
--- `comparison::checksums::bytes` meets its contract. The measure is what is left of the slice. Assumes nothing.
+-- `states::checksums::words` meets its contract. The measure is what is left of the slice. Assumes nothing.
 use Prim.Native.Nat.{_-_, _≤_}
 use lib.ListN.{length}
 use borrow.Author.Needs.{needs}
-use Rattle.comparison.proofs.checksums.bytes.Statement.{statement}
-use Rattle.comparison.proofs.checksums.bytes.Tie as tie
+use Rattle.states.proofs.checksums.words.Statement.{statement}
+use Rattle.states.proofs.checksums.words.Tie as tie
 
 abbrev Inv-loop : tie.InvT-loop
 Inv-loop before s sum₀ i₀ sum i = i ≤ length s
@@ -14,11 +14,11 @@ abbrev μ-loop : tie.MeasureT-loop
 loop-holds : tie.Need-loop-holds Inv-loop μ-loop
 loop-holds c = search needs
 
-shared-slice-read-wide : tie.Need-shared-slice-read-wide Inv-loop μ-loop
-shared-slice-read-wide c = search needs
+mul-fold : tie.Need-mul-fold Inv-loop μ-loop
+mul-fold c = search needs
 
-wide-requires : tie.Need-wide-requires Inv-loop μ-loop
-wide-requires c κs = search needs
+shared-slice-read-fold : tie.Need-shared-slice-read-fold Inv-loop μ-loop
+shared-slice-read-fold c = search needs
 
 fold-requires : tie.Need-fold-requires Inv-loop μ-loop
 fold-requires c κs = search needs
@@ -35,15 +35,15 @@ loop-again c = search needs
 returns : tie.Need-returns Inv-loop μ-loop
 returns c = search needs
 
-pub bytes-spec : {M : Type 1} → statement M
-bytes-spec =
+pub words-spec : {M : Type 1} → statement M
+words-spec =
     tie.close
     (tie.spec
     Inv-loop
     μ-loop
     loop-holds
-    shared-slice-read-wide
-    wide-requires
+    mul-fold
+    shared-slice-read-fold
     fold-requires
     add-i
     loop-less

@@ -1,24 +1,20 @@
--- `comparison::checksums::words` meets its contract. The measure is what is left of the slice. Assumes nothing.
+-- `states::checksums::numbers` meets its contract. The measure is the numbers left. Assumes nothing.
 use Prim.Native.Nat.{_-_, _≤_}
-use lib.ListN.{length}
 use borrow.Author.Needs.{needs}
-use Rattle.comparison.proofs.checksums.words.Statement.{statement}
-use Rattle.comparison.proofs.checksums.words.Tie as tie
+use Rattle.states.proofs.checksums.numbers.Statement.{statement}
+use Rattle.states.proofs.checksums.numbers.Tie as tie
 
 abbrev Inv-loop : tie.InvT-loop
-Inv-loop before s sum₀ i₀ sum i = i ≤ length s
+Inv-loop before state sum₀ i₀ sum i = i ≤ 5301
 
 abbrev μ-loop : tie.MeasureT-loop
-μ-loop before s sum₀ i₀ sum i = length s - i
+μ-loop before state sum₀ i₀ sum i = 5301 - i
 
 loop-holds : tie.Need-loop-holds Inv-loop μ-loop
 loop-holds c = search needs
 
-mul-fold : tie.Need-mul-fold Inv-loop μ-loop
-mul-fold c = search needs
-
-shared-slice-read-fold : tie.Need-shared-slice-read-fold Inv-loop μ-loop
-shared-slice-read-fold c = search needs
+counted-requires : tie.Need-counted-requires Inv-loop μ-loop
+counted-requires c κs = search needs
 
 fold-requires : tie.Need-fold-requires Inv-loop μ-loop
 fold-requires c κs = search needs
@@ -35,15 +31,14 @@ loop-again c = search needs
 returns : tie.Need-returns Inv-loop μ-loop
 returns c = search needs
 
-pub words-spec : {M : Type 1} → statement M
-words-spec =
+pub numbers-spec : {M : Type 1} → statement M
+numbers-spec =
     tie.close
     (tie.spec
     Inv-loop
     μ-loop
     loop-holds
-    mul-fold
-    shared-slice-read-fold
+    counted-requires
     fold-requires
     add-i
     loop-less

@@ -1,20 +1,24 @@
--- `comparison::checksums::numbers` meets its contract. The measure is the numbers left. Assumes nothing.
+-- `states::checksums::bytes` meets its contract. The measure is what is left of the slice. Assumes nothing.
 use Prim.Native.Nat.{_-_, _≤_}
+use lib.ListN.{length}
 use borrow.Author.Needs.{needs}
-use Rattle.comparison.proofs.checksums.numbers.Statement.{statement}
-use Rattle.comparison.proofs.checksums.numbers.Tie as tie
+use Rattle.states.proofs.checksums.bytes.Statement.{statement}
+use Rattle.states.proofs.checksums.bytes.Tie as tie
 
 abbrev Inv-loop : tie.InvT-loop
-Inv-loop before state sum₀ i₀ sum i = i ≤ 5301
+Inv-loop before s sum₀ i₀ sum i = i ≤ length s
 
 abbrev μ-loop : tie.MeasureT-loop
-μ-loop before state sum₀ i₀ sum i = 5301 - i
+μ-loop before s sum₀ i₀ sum i = length s - i
 
 loop-holds : tie.Need-loop-holds Inv-loop μ-loop
 loop-holds c = search needs
 
-counted-requires : tie.Need-counted-requires Inv-loop μ-loop
-counted-requires c κs = search needs
+shared-slice-read-wide : tie.Need-shared-slice-read-wide Inv-loop μ-loop
+shared-slice-read-wide c = search needs
+
+wide-requires : tie.Need-wide-requires Inv-loop μ-loop
+wide-requires c κs = search needs
 
 fold-requires : tie.Need-fold-requires Inv-loop μ-loop
 fold-requires c κs = search needs
@@ -31,14 +35,15 @@ loop-again c = search needs
 returns : tie.Need-returns Inv-loop μ-loop
 returns c = search needs
 
-pub numbers-spec : {M : Type 1} → statement M
-numbers-spec =
+pub bytes-spec : {M : Type 1} → statement M
+bytes-spec =
     tie.close
     (tie.spec
     Inv-loop
     μ-loop
     loop-holds
-    counted-requires
+    shared-slice-read-wide
+    wide-requires
     fold-requires
     add-i
     loop-less

@@ -1,10 +1,10 @@
 // Checksums: over a state with its storage and output, and over what the steps answer and report.
+use crate::STATE;
+use crate::counted;
 use cases::fold;
 use cases::wide;
 use machine::Report;
 use machine::Store;
-use states::STATE;
-use states::counted;
 
 // Words folded.
 fn words(before: u64, s: &[u64]) -> u64 {

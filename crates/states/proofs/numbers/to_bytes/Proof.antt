@@ -1,11 +1,11 @@
--- `comparison::numbers::to_bytes` meets its contract. The measure is the bytes left. Assumes nothing.
+-- `states::numbers::to_bytes` meets its contract. The measure is the bytes left. Assumes nothing.
 use Prim.Native.Nat.{_-_, _≤_}
 use mathlib.Core.Path.{_≡_}
 use native.Mathlib.Omega.{arith}
 use lib.ListN.{length, length-set}
 use borrow.Author.Needs.{needs}
-use Rattle.comparison.proofs.numbers.to_bytes.Statement.{statement}
-use Rattle.comparison.proofs.numbers.to_bytes.Tie as tie
+use Rattle.states.proofs.numbers.to_bytes.Statement.{statement}
+use Rattle.states.proofs.numbers.to_bytes.Tie as tie
 
 abbrev Inv-loop : tie.InvT-loop
 Inv-loop numbers bytes₀ i₀ bytes i = (i ≤ length bytes₀) × (length bytes ≡ length bytes₀)

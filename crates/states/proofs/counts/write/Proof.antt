@@ -1,8 +1,8 @@
--- `comparison::counts::write` meets its contract. The measure is the counts left. Assumes nothing.
+-- `states::counts::write` meets its contract. The measure is the counts left. Assumes nothing.
 use Prim.Native.Nat.{_-_, _≤_}
 use borrow.Author.Needs.{needs}
-use Rattle.comparison.proofs.counts.write.Statement.{statement}
-use Rattle.comparison.proofs.counts.write.Tie as tie
+use Rattle.states.proofs.counts.write.Statement.{statement}
+use Rattle.states.proofs.counts.write.Tie as tie
 
 abbrev Inv-loop : tie.InvT-loop
 Inv-loop counts file from at₀ i₀ t7 t8 at i = i ≤ 95

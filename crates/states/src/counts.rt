@@ -4,13 +4,13 @@
 // tells whether it held. A first store counts by where it goes: to a bug, a whole word, a narrow field, or a null field, in which
 // case the report has none.
 ghost use Prim.Native.Nat.{_<_, _≤_};
+use crate::MAP;
+use crate::STATE;
+use crate::at;
 use crate::numbers::number;
 use crate::numbers::number_at;
 use crate::numbers::write_text;
 use machine::Store;
-use states::MAP;
-use states::STATE;
-use states::at;
 use std::num;
 
 // How many counts there are: 36 operations, then from 36 on tests, from 50 modes, from 59 refusals, from 81 set-ups, from 89 stores,

@@ -1,8 +1,8 @@
--- `comparison::numbers::read_numbers` meets its contract. The measure is the numbers left. Assumes nothing.
+-- `states::numbers::read_numbers` meets its contract. The measure is the numbers left. Assumes nothing.
 use Prim.Native.Nat.{_-_, _≤_}
 use borrow.Author.Needs.{needs}
-use Rattle.comparison.proofs.numbers.read_numbers.Statement.{statement}
-use Rattle.comparison.proofs.numbers.read_numbers.Tie as tie
+use Rattle.states.proofs.numbers.read_numbers.Statement.{statement}
+use Rattle.states.proofs.numbers.read_numbers.Tie as tie
 
 abbrev Inv-loop : tie.InvT-loop
 Inv-loop file from count numbers₀ at₀ i₀ numbers at i = i ≤ count
