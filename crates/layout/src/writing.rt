@@ -68,28 +68,16 @@ fn put_bytes(bytes: &mut [u8], at: usize, map: &[u8])
     }
 }
 
-// The fields' definitions.
-fn put_definitions(bytes: &mut [u8], entries: [Definition; 36])
+// The fields' definitions, and after them those saved.
+fn put_definitions(bytes: &mut [u8], current: [Definition; 36], saved: [Definition; 128])
     requires { ⌜ length (now bytes) ≡ stateLength ⌝ }
-    ensures { λ _. ⌜ now (bytes .exit) ≡ placed 1283 (bytesOfAll bytesOfDefinition entries) (now (bytes .entry)) ⌝ }
-    ensures ranged { λ _. ⌜ Array RangedDefinition undefined 36 entries ⌝ }
+    ensures { λ _. ⌜ now (bytes .exit) ≡ placed 1283 (bytesOfAll bytesOfDefinition current ++ bytesOfAll bytesOfDefinition saved) (now (bytes .entry)) ⌝ }
+    ensures ranged { λ _. ⌜ Array RangedDefinition undefined 36 current × Array RangedDefinition undefined 128 saved ⌝ }
 {
     let mut i = 0;
-    while i < 36 {
-        put_definition(bytes, 1283 + 4 * i, entries[i]);
-        i += 1;
-    }
-}
-
-// The entries of the stack of definitions.
-fn put_saved(bytes: &mut [u8], entries: [Definition; 128])
-    requires { ⌜ length (now bytes) ≡ stateLength ⌝ }
-    ensures { λ _. ⌜ now (bytes .exit) ≡ placed 1427 (bytesOfAll bytesOfDefinition entries) (now (bytes .entry)) ⌝ }
-    ensures ranged { λ _. ⌜ Array RangedDefinition undefined 128 entries ⌝ }
-{
-    let mut i = 0;
-    while i < 128 {
-        put_definition(bytes, 1427 + 4 * i, entries[i]);
+    while i < 164 {
+        let one = if i < 36 { current[i] } else { saved[i - 36] };
+        put_definition(bytes, 1283 + 4 * i, one);
         i += 1;
     }
 }
@@ -170,8 +158,7 @@ fn put_arrays(bytes: &mut [u8], core: Core)
     let places = calls.entries;
     put_words(bytes, 51, &bugs);
     put_words(bytes, 259, &words);
-    put_definitions(bytes, definitions);
-    put_saved(bytes, kept);
+    put_definitions(bytes, definitions, kept);
     put_calls(bytes, places);
 }
 
