@@ -70,17 +70,6 @@ fn words_of(right: u64, drawn: u64) -> [u64; 48]
     made
 }
 
-// The words of a slice folded.
-fn folded(s: &[u64]) -> u64 {
-    let mut sum = 1;
-    let mut i = 0;
-    while i < s.len() {
-        sum = cases::fold(sum, s[i]);
-        i += 1;
-    }
-    sum
-}
-
 // Drawn words, one bit of them changed in one case of four.
 fn damaged(b: u64, a: u64, y: u64) -> [u64; 48] {
     let mut words = words_of(moved(b), y);
@@ -132,7 +121,7 @@ fn load(b: u64, a: u64, y: u64) -> u64 {
     let room = seldom(a / 131072, y / 262144 % 49, 48) as usize % 49;
     let mut words = [77u64; 48];
     let answer = load_into(b, &bytes[..given], wanted, room, &mut words);
-    cases::fold(answer, folded(&words))
+    cases::fold(answer, cases::fold_words(1, &words))
 }
 
 // What a line's call gives on a case.

@@ -90,13 +90,29 @@ pub fn wide(byte: u8) -> u64 {
     byte as u64
 }
 
-// The bytes of a slice folded.
-pub fn bytes(s: &[u8]) -> u64 {
-    let mut sum = 1;
+// Words folded into a checksum.
+pub fn fold_words(before: u64, s: &[u64]) -> u64 {
+    let mut sum = before;
+    let mut i = 0;
+    while i < s.len() {
+        sum = fold(sum, s[i]);
+        i += 1;
+    }
+    sum
+}
+
+// Bytes folded into a checksum.
+pub fn fold_bytes(before: u64, s: &[u8]) -> u64 {
+    let mut sum = before;
     let mut i = 0;
     while i < s.len() {
         sum = fold(sum, wide(s[i]));
         i += 1;
     }
     sum
+}
+
+// The bytes of a slice folded.
+pub fn bytes(s: &[u8]) -> u64 {
+    fold_bytes(1, s)
 }

@@ -4,6 +4,7 @@
 ghost use Prim.Native.Nat.{_≤_, _<_};
 ghost use Rattle.io.specs.Counts.{Counts};
 use cases::fold;
+use cases::fold_words;
 use engine::answers::refusal_number;
 use libc::STDOUT_FILENO;
 use machine::Answer;
@@ -49,17 +50,6 @@ fn at_most_4096(length: usize) -> usize
     ensures { λ r. ⌜ (r ≤ length) × (r ≤ 4096) ⌝ }
 {
     if length < 4096 { length } else { 4096 }
-}
-
-// Words folded.
-fn fold_words(before: u64, words: &[u64]) -> u64 {
-    let mut sum = before;
-    let mut i = 0;
-    while i < words.len() {
-        sum = fold(sum, words[i]);
-        i += 1;
-    }
-    sum
 }
 
 // A store folded.

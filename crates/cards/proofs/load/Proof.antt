@@ -38,11 +38,11 @@ slice-aggregate-load-into-2 c = search needs
 load-into-requires : tie.Need-load-into-requires
 load-into-requires c κs = search needs
 
-slice-aggregate-folded : tie.Need-slice-aggregate-folded
-slice-aggregate-folded c = search needs
+slice-aggregate-fold-words : tie.Need-slice-aggregate-fold-words
+slice-aggregate-fold-words c = search needs
 
-folded-requires : tie.Need-folded-requires
-folded-requires c κs = search needs
+fold-words-requires : tie.Need-fold-words-requires
+fold-words-requires c κs = search needs
 
 fold-requires : tie.Need-fold-requires
 fold-requires c κs = search needs
@@ -65,7 +65,7 @@ load-spec =
     slice-aggregate-load-into
     slice-aggregate-load-into-2
     load-into-requires
-    slice-aggregate-folded
-    folded-requires
+    slice-aggregate-fold-words
+    fold-words-requires
     fold-requires
     returns)

@@ -1,15 +1,15 @@
--- `laps::fold_words` meets its contract. The measure is what is left of the slice. Assumes nothing.
+-- `cases::fold_words` meets its contract. The measure is what is left of the slice. Assumes nothing.
 use Prim.Native.Nat.{_-_, _≤_}
 use lib.ListN.{length}
 use borrow.Author.Needs.{needs}
-use Rattle.laps.proofs.fold_words.Statement.{statement}
-use Rattle.laps.proofs.fold_words.Tie as tie
+use Rattle.cases.proofs.fold_words.Statement.{statement}
+use Rattle.cases.proofs.fold_words.Tie as tie
 
 abbrev Inv-loop : tie.InvT-loop
-Inv-loop before words sum₀ i₀ sum i = i ≤ length words
+Inv-loop before s sum₀ i₀ sum i = i ≤ length s
 
 abbrev μ-loop : tie.MeasureT-loop
-μ-loop before words sum₀ i₀ sum i = length words - i
+μ-loop before s sum₀ i₀ sum i = length s - i
 
 loop-holds : tie.Need-loop-holds Inv-loop μ-loop
 loop-holds c = search needs

@@ -1,15 +1,15 @@
--- `cases::bytes` meets its contract. The measure is what is left of the slice. Assumes nothing.
+-- `cases::fold_bytes` meets its contract. The measure is what is left of the slice. Assumes nothing.
 use Prim.Native.Nat.{_-_, _≤_}
 use lib.ListN.{length}
 use borrow.Author.Needs.{needs}
-use Rattle.cases.proofs.bytes.Statement.{statement}
-use Rattle.cases.proofs.bytes.Tie as tie
+use Rattle.cases.proofs.fold_bytes.Statement.{statement}
+use Rattle.cases.proofs.fold_bytes.Tie as tie
 
 abbrev Inv-loop : tie.InvT-loop
-Inv-loop s sum₀ i₀ sum i = i ≤ length s
+Inv-loop before s sum₀ i₀ sum i = i ≤ length s
 
 abbrev μ-loop : tie.MeasureT-loop
-μ-loop s sum₀ i₀ sum i = length s - i
+μ-loop before s sum₀ i₀ sum i = length s - i
 
 loop-holds : tie.Need-loop-holds Inv-loop μ-loop
 loop-holds c = search needs
@@ -35,8 +35,8 @@ loop-again c = search needs
 returns : tie.Need-returns Inv-loop μ-loop
 returns c = search needs
 
-pub bytes-spec : {M : Type 1} → statement M
-bytes-spec =
+pub fold-bytes-spec : {M : Type 1} → statement M
+fold-bytes-spec =
     tie.close
     (tie.spec
     Inv-loop
