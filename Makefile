@@ -50,7 +50,7 @@ expected:
 	mkdir -p target
 	rustc -O --edition 2021 -o target/leaves-reference reference/leaves.rs
 	for name in leaves allocations triples openings cards; do target/leaves-reference $$name > crates/$$name/stdout; done
-	rustc -O -o target/reference reference/main.rs
+	rustc -O --edition 2021 -o target/reference reference/main.rs
 	for file in stdin stdout; do target/reference comparison 7094 480 $$file > crates/comparison/$$file; done
 	tours/play --files tours/example.tour crates/tourrun/data
 	rm crates/tourrun/data/stops.in

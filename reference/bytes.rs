@@ -44,24 +44,6 @@ pub fn written(mut raw: Raw) -> Tour {
     Tour { state, storage: raw.storage, output: raw.output }
 }
 
-/// What document 01 leaves open, and the reference engine's lists do not hold: entries of a stack that are no longer used stay as they
-/// are, and an undefined definition has the numbers that it had; a save or restore (of field `name`) moves them along.
-fn keep_unused(before: &Raw, after: &mut Raw, name: usize) {
-    let used = after.counts.map(|count| count as usize);
-    after.contents[used[0]..].copy_from_slice(&before.contents[used[0]..]);
-    after.saved[used[1]..].copy_from_slice(&before.saved[used[1]..]);
-    after.calls[used[2]..].copy_from_slice(&before.calls[used[2]..]);
-    let undefined = |four: &[u64; 4]| four[0] == 0;
-    let saves = after.counts[1] > before.counts[1];
-    let restores = after.counts[1] < before.counts[1];
-    for (i, four) in after.saved[..used[1]].iter_mut().enumerate().filter(|(_, four)| undefined(four)) {
-        *four = if saves && i + 1 == used[1] { before.definitions[name] } else { before.saved[i] }
-    }
-    for (i, four) in after.definitions.iter_mut().enumerate().filter(|(_, four)| undefined(four)) {
-        *four = if restores && i == name { before.saved[used[1]] } else { before.definitions[i] }
-    }
-}
-
 /// Answers by the library's numbers.
 fn number(answer: Answer) -> u64 {
     match answer { Answer::Running => 0, Answer::Finished => 100, Answer::Refused(k) => k }
@@ -72,25 +54,18 @@ fn report_numbers(r: Report) -> [u64; 12] {
 }
 
 impl Tour {
-    /// A fresh engine. Its saved places that are not used are the tests of row 1.
-    pub fn fresh(storage: Vec<u64>, output: Vec<u8>) -> Tour {
-        let mut raw = Raw::fresh(storage, output);
-        raw.calls = [[0, 0, 1]; STACK];
-        written(raw)
-    }
+    pub fn fresh(storage: Vec<u64>, output: Vec<u8>) -> Tour { written(Raw::fresh(storage, output)) }
     /// Up to so many steps: the answer, the count of steps, and the last one's report. The bytes are written anew where a step was
     /// carried out.
     pub fn walk(&mut self, engine: &mut Engine, limit: u64) -> (u64, u64, [u64; 12]) {
         let (mut answer, mut count, mut report, mut carried) = (Answer::Running, 0, Report::default(), false);
         let mut raw = read(self.clone());
         while count < limit && answer == Answer::Running {
-            let before = raw.clone();
+            let finished = raw.place[0] == 3;
             (answer, report) = raw.step(engine);
             count += 1;
-            if matches!(answer, Answer::Refused(_)) || before.place[0] == 3 { break; }
+            if matches!(answer, Answer::Refused(_)) || finished { break; }
             carried = true;
-            let name = engine.lent.table.get(10 * before.place[1] as usize + 3).map_or(0, |&name| name as usize);
-            keep_unused(&before, &mut raw, name);
         }
         if carried { *self = written(raw) }
         (number(answer), count, report_numbers(report))

@@ -3,11 +3,13 @@
 //! The input is numbers, each in groups of seven bits, the lowest first, every byte but the last with 128 added: how many
 //! cases there are; then for each case how many numbers it has, these, the length of its label and its characters. The
 //! numbers of a case are the lengths of the table, the input, the storage and the output, the steps before the damages, how
-//! many damages there are, the limit of the steps after them, then the table, the input, and an index and a value for each
-//! damage (see raw.rs). After the cases stands for each count what it is of, its length before it.
+//! many damages there are, the limit of the steps after them, then the table, the input, and for each damage the index of a byte
+//! of the state and its new value (from 6,675 on, of a word of the storage). After the cases stands for each count what it is of,
+//! its length before it.
 //!
 //! A case starts from a fresh engine over a storage and an output of known patterns. After the steps and damages that it
 //! begins with, it is stepped until its limit, a finish or a refusal; and from the start again, run with that limit.
+use crate::bytes::*;
 use crate::engine::*;
 use crate::generator::*;
 use crate::raw::*;
@@ -25,11 +27,12 @@ impl Trial {
     }
     fn numbers(&self) -> Vec<u64> {
         let lengths = [self.table.len(), self.input.len(), self.storage, self.output];
+        let damages: Vec<(usize, u64)> = self.damages.iter().flat_map(|d| d.bytes()).collect();
         let mut all = lengths.map(|n| n as u64).to_vec();
-        all.extend([self.before, self.damages.len() as u64, self.limit]);
+        all.extend([self.before, damages.len() as u64, self.limit]);
         all.extend(&self.table);
         all.extend(self.input.iter().map(|&byte| byte as u64));
-        all.extend(self.damages.iter().flat_map(|d| [(d.what as usize + d.index) as u64, d.value]));
+        all.extend(damages.iter().flat_map(|&(index, value)| [index as u64, value]));
         all
     }
     /// The engine with what is lent, and its numbers after the steps and damages that the case begins with.
@@ -53,10 +56,11 @@ fn next(state: u64) -> u64 {
     b ^ b << 17
 }
 fn fold(sum: u64, numbers: &[u64]) -> u64 { numbers.iter().fold(sum, |sum, &number| next(sum ^ number)) }
-/// All numbers of the state, storage and output.
-fn left_sum(raw: &Raw) -> u64 {
-    let output: Vec<u64> = raw.output.iter().map(|&byte| byte as u64).collect();
-    fold(fold(fold(1, &raw.shown()), &raw.storage), &output)
+/// The state's bytes, the storage and the output.
+fn left_sum(raw: Raw) -> u64 {
+    let Tour { state, storage, output } = written(raw);
+    let wide = |bytes: &[u8]| bytes.iter().map(|&byte| byte as u64).collect::<Vec<_>>();
+    fold(fold(fold(1, &wide(&state)), &storage), &wide(&output))
 }
 /// One more step: its report, its answer and the place after it.
 fn step_sum(sum: u64, answer: Answer, place: [u64; 3], r: &Report) -> u64 {
@@ -439,7 +443,7 @@ pub fn stdout(seed: u64, count: u64) -> String {
             Answer::Finished => "finished".to_string(),
             Answer::Refused(k) => k.to_string(),
         };
-        let left = left_sum(&raw);
+        let left = left_sum(raw);
         text += &format!("{i} {word} {steps} {sum:016x} {left:016x}, run {word} {steps} {left:016x}: {}\n", trial.label);
     }
     for (name, count) in names.iter().zip(counts) { text += &format!("{name}: {count}\n") }

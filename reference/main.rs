@@ -1,5 +1,7 @@
 //! Commands over the reference engine.
 //! Usage: reference gen|cover SEED N | comparison SEED N stdin|stdout | bench | tourrun
+#[allow(dead_code)]
+mod bytes;
 mod comparison;
 mod engine;
 mod generator;
@@ -7,7 +9,6 @@ mod raw;
 
 use engine::*;
 use generator::*;
-use std::convert::TryInto;
 use std::io::Write;
 
 fn list<T: std::fmt::Display>(numbers: &[T]) -> String {

@@ -24,11 +24,26 @@ pub struct Raw {
 /// places 3 times), and its new value.
 #[derive(Clone, Copy)]
 pub struct Damage { pub what: What, pub index: usize, pub value: u64 }
-/// Where these numbers start when all numbers of a state stand one after the other, and after them the storage.
+/// Where these numbers start among the bytes of a state, and after these the words of the storage.
 #[derive(Clone, Copy)]
 pub enum What {
-    Place = 0, Bug = 3, Definition = 29, Contents = 173, Saved = 301, Calls = 813, Count = 1197, SetUp = 1200, Stream = 1203,
-    Map = 1205, Storage = 5301,
+    Place = 0, Stream = 5, SetUp = 21, Count = 27, Bug = 51, Contents = 259, Definition = 1283, Saved = 1427, Calls = 1939,
+    Map = 2579, Storage = 6675,
+}
+
+impl Damage {
+    /// The bytes that it changes, each by its index and its new value, or the word.
+    pub fn bytes(self) -> Vec<(usize, u64)> {
+        let Damage { what, index: i, value } = self;
+        let (offset, length) = match what {
+            What::Place | What::Calls => (5 * (i / 3) + [0, 1, 3][i % 3], [1, 2, 2][i % 3]),
+            What::SetUp => (2 * i, 2),
+            What::Stream | What::Count | What::Bug | What::Contents => (8 * i, 8),
+            What::Definition | What::Saved | What::Map => (i, 1),
+            What::Storage => return vec![(what as usize + i, value)],
+        };
+        (0..length).map(|k| (what as usize + offset + k, value >> (8 * k) & 255)).collect()
+    }
 }
 
 fn definition(field: Option<Field>) -> [u64; 4] { field.map_or([0; 4], |f| [1, f.word, f.left, f.right]) }
@@ -59,11 +74,29 @@ fn stack_sound<T: Copy>(count: u64, entries: &[T], sound: impl Fn(T) -> bool) ->
     count <= STACK as u64 && entries[..count as usize].iter().all(|&entry| sound(entry))
 }
 
+/// What document 01 leaves open, and the reference engine's lists do not hold: entries of a stack that are no longer used stay as they
+/// are, and an undefined definition has the numbers that it had; a save or restore (of field `name`) moves them along.
+fn keep_unused(before: &Raw, after: &mut Raw, name: usize) {
+    let used = after.counts.map(|count| count as usize);
+    after.contents[used[0]..].copy_from_slice(&before.contents[used[0]..]);
+    after.saved[used[1]..].copy_from_slice(&before.saved[used[1]..]);
+    after.calls[used[2]..].copy_from_slice(&before.calls[used[2]..]);
+    let undefined = |four: &[u64; 4]| four[0] == 0;
+    let saves = after.counts[1] > before.counts[1];
+    let restores = after.counts[1] < before.counts[1];
+    for (i, four) in after.saved[..used[1]].iter_mut().enumerate().filter(|(_, four)| undefined(four)) {
+        *four = if saves && i + 1 == used[1] { before.definitions[name] } else { before.saved[i] }
+    }
+    for (i, four) in after.definitions.iter_mut().enumerate().filter(|(_, four)| undefined(four)) {
+        *four = if restores && i == name { before.saved[used[1]] } else { before.definitions[i] }
+    }
+}
+
 impl Raw {
-    /// A fresh engine over a lent storage and output.
+    /// A fresh engine over a lent storage and output. Its saved places that are not used are the tests of row 1.
     pub fn fresh(storage: Vec<u64>, output: Vec<u8>) -> Raw {
         let state = Engine::fresh(vec![], vec![], storage, output.len()).state;
-        Raw::of(&state, &output)
+        Raw { calls: [[0, 0, 1]; STACK], ..Raw::of(&state, &output) }
     }
     /// The numbers of a state; `output` is the lent buffer, of which the written bytes are replaced.
     pub fn of(state: &State, output: &[u8]) -> Raw {
@@ -145,22 +178,12 @@ impl Raw {
         if !self.sound(engine.lent.input.len()) { return (Answer::Refused(11), Report::default()); }
         engine.state = self.state();
         let (answer, report) = engine.step();
-        if !matches!(answer, Answer::Refused(_)) { *self = Raw::of(&engine.state, &self.output) }
+        if !matches!(answer, Answer::Refused(_)) {
+            let before = std::mem::replace(self, Raw::of(&engine.state, &self.output));
+            let name = engine.lent.table.get(10 * before.place[1] as usize + 3).map_or(0, |&name| name as usize);
+            keep_unused(&before, self, name);
+        }
         (answer, report)
-    }
-    /// All numbers but those of the storage, in their order; 0 in the entries that are not used (all of them in a stack over
-    /// 128) and in a definition that is undefined.
-    pub fn shown(&self) -> Vec<u64> {
-        let four = |four: [u64; 4]| if four[0] == 0 { [0; 4] } else { four };
-        let used = self.counts.map(|count| if count > STACK as u64 { 0 } else { count as usize });
-        let (mut contents, mut saved, mut calls) = ([0; STACK], [[0; 4]; STACK], [[0; 3]; STACK]);
-        contents[..used[0]].copy_from_slice(&self.contents[..used[0]]);
-        saved[..used[1]].copy_from_slice(&self.saved[..used[1]]);
-        calls[..used[2]].copy_from_slice(&self.calls[..used[2]]);
-        let mut all = [&self.place[..], &self.bugs, &self.definitions.map(four).concat(), &contents].concat();
-        all.extend([&saved.map(four).concat()[..], &calls.concat(), &self.counts, &self.setup, &self.streams].concat());
-        all.extend(self.map.iter().map(|&byte| byte as u64));
-        all
     }
     pub fn change(&mut self, Damage { what, index: i, value }: Damage) {
         match what {

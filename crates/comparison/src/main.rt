@@ -4,6 +4,8 @@
 // checksum over all that it leaves; and the case's label. At the end there is a line for each count of what the cases reached.
 ghost use Prim.Native.Nat.{_<_};
 use engine::answers::refusal_number;
+use layout::reading::read_state;
+use layout::writing::write_state;
 use machine::Answer;
 use states::STATE;
 use states::checksums;
@@ -56,15 +58,15 @@ fn fill_bytes(output: &mut [u8]) {
 
 // One step of a state; the checksum so far gets its report.
 fn step(
-    state: &mut [u64; STATE],
+    state: &mut [u8; STATE],
     table: &[u64],
     storage: &mut [u64],
     input: &[u8],
     output: &mut [u8],
     steps: u64,
 ) -> Told {
-    let stepped = engine::step(table, storage, input, output, states::state_of(state));
-    states::put_state(state, stepped.state);
+    let stepped = engine::step(table, storage, input, output, read_state(state));
+    write_state(state, stepped.state);
     let answer = stepped.answer;
     let report = stepped.report;
     Told {
@@ -76,22 +78,15 @@ fn step(
 
 // A run of a state.
 fn run(
-    state: &mut [u64; STATE],
+    state: &mut [u8; STATE],
     table: &[u64],
     storage: &mut [u64],
     input: &[u8],
     output: &mut [u8],
     limit: u64,
 ) -> Ended {
-    let ran = engine::run(
-        table,
-        storage,
-        input,
-        output,
-        states::state_of(state),
-        limit,
-    );
-    states::put_state(state, ran.state);
+    let ran = engine::run(table, storage, input, output, read_state(state), limit);
+    write_state(state, ran.state);
     let answer = ran.answer;
     Ended {
         answer: answer_number(answer),
@@ -101,10 +96,10 @@ fn run(
     }
 }
 
-// Changes a number of a state, or, past them, a word of the storage.
-fn change(state: &mut [u64; STATE], storage: &mut [u64], i: usize, value: u64) {
-    states::put(state, i, value);
+// Changes a byte of a state, or, past them, a word of the storage.
+fn change(state: &mut [u8; STATE], storage: &mut [u64], i: usize, value: u64) {
     if i < STATE {
+        state[i] = (value % 256) as u8;
         return;
     }
     if storage.len() <= i - STATE {
@@ -114,7 +109,7 @@ fn change(state: &mut [u64; STATE], storage: &mut [u64], i: usize, value: u64) {
 }
 
 // Carries damages out, each an index and a value.
-fn damage(state: &mut [u64; STATE], storage: &mut [u64], damages: &[u64]) {
+fn damage(state: &mut [u8; STATE], storage: &mut [u64], damages: &[u64]) {
     let mut i = 0;
     while i < damages.len() / 2 {
         change(state, storage, damages[2 * i] as usize, damages[2 * i + 1]);
@@ -124,7 +119,7 @@ fn damage(state: &mut [u64; STATE], storage: &mut [u64], damages: &[u64]) {
 
 // The state that a case starts from: a fresh engine over new storage and output, some steps on, and damaged.
 fn start(
-    state: &mut [u64; STATE],
+    state: &mut [u8; STATE],
     table: &[u64],
     storage: &mut [u64],
     input: &[u8],
@@ -134,7 +129,7 @@ fn start(
 ) {
     fill_words(storage);
     fill_bytes(output);
-    states::put_state(state, engine::fresh());
+    write_state(state, engine::fresh());
     run(state, table, storage, input, output, before);
     damage(state, storage, damages);
 }
@@ -145,16 +140,16 @@ fn is_done(answer: u64) -> bool {
 }
 
 // The checksum with a step's answer and the place after it.
-fn folded(state: &[u64; STATE], told: Told) -> u64 {
+fn folded(state: &[u8; STATE], told: Told) -> u64 {
     let a = cases::fold(told.steps, told.answer);
-    let b = cases::fold(a, states::at(state, 0));
-    let c = cases::fold(b, states::at(state, 1));
-    cases::fold(c, states::at(state, 2))
+    let b = cases::fold(a, states::kind(state));
+    let c = cases::fold(b, states::row(state));
+    cases::fold(c, states::line(state))
 }
 
 // One step of a case, counted: its answer, and the checksum with it.
 fn counted_step(
-    state: &mut [u64; STATE],
+    state: &mut [u8; STATE],
     table: &[u64],
     storage: &mut [u64],
     input: &[u8],
@@ -162,9 +157,9 @@ fn counted_step(
     steps: u64,
     counts: &mut [u64; COUNTS],
 ) -> Told {
-    let kind = states::at(state, 0);
-    let row = states::at(state, 1);
-    let line = states::at(state, 2);
+    let kind = states::kind(state);
+    let row = states::row(state);
+    let line = states::line(state);
     let told = step(state, table, storage, input, output, steps);
     if is_done(told.answer) {
         counts::done(
@@ -173,7 +168,7 @@ fn counted_step(
             kind,
             row,
             line,
-            states::at(state, 0),
+            states::kind(state),
             told.store,
         );
     }
@@ -194,7 +189,7 @@ fn left_after(left: u64, answer: u64) -> u64
 
 // A case stepped until its limit, a finish or a refusal.
 fn step_all(
-    state: &mut [u64; STATE],
+    state: &mut [u8; STATE],
     table: &[u64],
     storage: &mut [u64],
     input: &[u8],
@@ -267,7 +262,7 @@ fn play(
     limit: u64,
     counts: &mut [u64; COUNTS],
 ) {
-    let mut state = [0u64; STATE];
+    let mut state = [0u8; STATE];
     start(&mut state, table, storage, input, output, damages, before);
     let stepped = step_all(&mut state, table, storage, input, output, limit, counts);
     start(&mut state, table, storage, input, output, damages, before);

@@ -1,47 +1,15 @@
 // Checksums: over a state with its storage and output, and over what the steps answer and report.
 use crate::STATE;
-use crate::counted;
+use cases::bytes;
 use cases::fold;
-use cases::wide;
+use cases::fold_bytes;
+use cases::fold_words;
 use machine::Report;
 use machine::Store;
 
-// Words folded.
-fn words(before: u64, s: &[u64]) -> u64 {
-    let mut sum = before;
-    let mut i = 0;
-    while i < s.len() {
-        sum = fold(sum, s[i]);
-        i += 1;
-    }
-    sum
-}
-
-// Bytes folded.
-fn bytes(before: u64, s: &[u8]) -> u64 {
-    let mut sum = before;
-    let mut i = 0;
-    while i < s.len() {
-        sum = fold(sum, wide(s[i]));
-        i += 1;
-    }
-    sum
-}
-
-// The numbers of a state folded.
-fn numbers(before: u64, state: &[u64; STATE]) -> u64 {
-    let mut sum = before;
-    let mut i = 0;
-    while i < 5301 {
-        sum = fold(sum, counted(state, i));
-        i += 1;
-    }
-    sum
-}
-
-// A state with its storage and output folded.
-pub fn left(state: &[u64; STATE], storage: &[u64], output: &[u8]) -> u64 {
-    bytes(words(numbers(1, state), storage), output)
+// A state's bytes with its storage and output folded.
+pub fn left(state: &[u8; STATE], storage: &[u64], output: &[u8]) -> u64 {
+    fold_bytes(fold_words(bytes(state), storage), output)
 }
 
 // A store folded.

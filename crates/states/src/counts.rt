@@ -4,9 +4,7 @@
 // tells whether it held. A first store counts by where it goes: to a bug, a whole word, a narrow field, or a null field, in which
 // case the report has none.
 ghost use Prim.Native.Nat.{_<_, _≤_};
-use crate::MAP;
 use crate::STATE;
-use crate::at;
 use crate::numbers::number;
 use crate::numbers::number_at;
 use crate::numbers::write_text;
@@ -16,6 +14,9 @@ use std::num;
 // How many counts there are: 36 operations, then from 36 on tests, from 50 modes, from 59 refusals, from 81 set-ups, from 89 stores,
 // and from 93 refusal 17 without and with free blocks.
 pub const COUNTS: usize = 95;
+
+// Where the map starts among a state's bytes.
+const MAP: usize = 2579;
 
 // One more of count i.
 fn add(counts: &mut [u64; COUNTS], i: u64) {
@@ -116,10 +117,10 @@ pub fn done(
 }
 
 // Whether a block of a state's map is free.
-fn has_free(state: &[u64; STATE]) -> bool {
-    let mut i = 0;
-    while i < 4096 {
-        if at(state, MAP + i) % 2 == 1 {
+fn has_free(state: &[u8; STATE]) -> bool {
+    let mut i = MAP;
+    while i < STATE {
+        if state[i] % 2 == 1 {
             return true;
         }
         i += 1;
@@ -128,7 +129,7 @@ fn has_free(state: &[u64; STATE]) -> bool {
 }
 
 // How a case ends: with a refusal, or not (0 or 100).
-pub fn ended(counts: &mut [u64; COUNTS], answer: u64, state: &[u64; STATE]) {
+pub fn ended(counts: &mut [u64; COUNTS], answer: u64, state: &[u8; STATE]) {
     if answer == 17 {
         add(counts, 93 + bit(has_free(state)));
     }

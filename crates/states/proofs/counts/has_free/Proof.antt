@@ -5,19 +5,16 @@ use Rattle.states.proofs.counts.has_free.Statement.{statement}
 use Rattle.states.proofs.counts.has_free.Tie as tie
 
 abbrev Inv-loop : tie.InvT-loop
-Inv-loop state i₀ i = i ≤ 4096
+Inv-loop state i₀ i = i ≤ 6675
 
 abbrev μ-loop : tie.MeasureT-loop
-μ-loop state i₀ i = 4096 - i
+μ-loop state i₀ i = 6675 - i
 
 loop-holds : tie.Need-loop-holds Inv-loop μ-loop
 loop-holds c = search needs
 
-add-at : tie.Need-add-at Inv-loop μ-loop
-add-at c = search needs
-
-at-requires : tie.Need-at-requires Inv-loop μ-loop
-at-requires c κs = search needs
+element-copy-out-if1 : tie.Need-element-copy-out-if1 Inv-loop μ-loop
+element-copy-out-if1 c = search needs
 
 returns : tie.Need-returns Inv-loop μ-loop
 returns c = search needs
@@ -41,8 +38,7 @@ has-free-spec =
     Inv-loop
     μ-loop
     loop-holds
-    add-at
-    at-requires
+    element-copy-out-if1
     returns
     add-i
     loop-less
