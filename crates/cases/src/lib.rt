@@ -90,6 +90,14 @@ pub fn wide(byte: u8) -> u64 {
     byte as u64
 }
 
+// How many steps are left after one more: none if its answer is not that it is running.
+pub fn left_after(left: u64, answer: u64) -> u64
+    requires { ⌜ 0 < left ⌝ }
+    ensures { λ r. ⌜ r < left ⌝ }
+{
+    if answer == 0 { left - 1 } else { 0 }
+}
+
 // Words folded into a checksum.
 pub fn fold_words(before: u64, s: &[u64]) -> u64 {
     let mut sum = before;

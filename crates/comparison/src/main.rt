@@ -2,7 +2,6 @@
 // that must be printed. Each case is stepped from its start, and then run from the same start. A line has the case's number; answer,
 // count of steps, and checksums over the steps and over all that they leave (state, storage, output); the run's answer, count and
 // checksum over all that it leaves; and the case's label. At the end there is a line for each count of what the cases reached.
-ghost use Prim.Native.Nat.{_<_};
 use engine::answers::refusal_number;
 use layout::reading::read_state;
 use layout::writing::write_state;
@@ -179,14 +178,6 @@ fn counted_step(
     }
 }
 
-// How many steps are left after one more: none if its answer is not that it is running.
-fn left_after(left: u64, answer: u64) -> u64
-    requires { ⌜ 0 < left ⌝ }
-    ensures { λ r. ⌜ r < left ⌝ }
-{
-    if answer == 0 { left - 1 } else { 0 }
-}
-
 // A case stepped until its limit, a finish or a refusal.
 fn step_all(
     state: &mut [u8; STATE],
@@ -206,7 +197,7 @@ fn step_all(
         answer = last.answer;
         steps = last.steps;
         taken += 1;
-        left = left_after(left, answer);
+        left = cases::left_after(left, answer);
     }
     counts::ended(counts, answer, state);
     Ended {

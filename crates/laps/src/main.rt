@@ -1,16 +1,15 @@
 // laps run LIMIT CALLS, laps step CALLS: the engine on the tour of tour.tab and stops.in, for its speed. It makes so many calls of run (one
 // where CALLS is left out) or of step, fewer up to a finish or refusal. Prints the last answer's number (0 running, 100 finished), the
 // count of steps and a checksum over the reports of the calls of step, the bugs and the storage.
-ghost use Prim.Native.Nat.{_≤_, _<_};
-ghost use Rattle.io.specs.Counts.{Counts};
-use cases::fold;
+ghost use Prim.Native.Nat.{_≤_};
 use cases::fold_words;
+use cases::left_after;
 use engine::answers::refusal_number;
+use files::read_file;
 use libc::STDOUT_FILENO;
 use machine::Answer;
 use machine::Core;
-use machine::Report;
-use machine::Store;
+use states::checksums;
 use std::num;
 use tour::numbers::read_table;
 
@@ -19,19 +18,6 @@ struct Ended {
     answer: u64,
     count: u64,
     sum: u64,
-}
-
-// Reads the first bytes of a file, and says how many: a missing file counts as empty.
-fn read_file(name: &[u8], bytes: &mut [u8]) -> usize
-    ensures { λ r. ⌜ Counts r (now (bytes .exit)) ⌝ }
-{
-    let file = os::open_read(name);
-    if file < 0 {
-        return 0;
-    }
-    let count = io::read_full(file, bytes);
-    libc::close(file);
-    count
 }
 
 // The number of decimal digits, of which the last thirteen count.
@@ -52,23 +38,6 @@ fn at_most_4096(length: usize) -> usize
     if length < 4096 { length } else { 4096 }
 }
 
-// A store folded.
-fn fold_store(before: u64, store: Store) -> u64 {
-    let a = fold(before, store.address);
-    let b = fold(a, store.left as u64);
-    let c = fold(b, store.right as u64);
-    fold(c, store.bits)
-}
-
-// A report folded.
-fn fold_report(before: u64, report: Report) -> u64 {
-    let a = fold(before, report.freed);
-    let b = fold(a, report.delivered);
-    let c = fold(b, report.size);
-    let d = fold(c, report.copied);
-    fold_store(fold_store(d, report.first), report.second)
-}
-
 // What the steps leave folded: bugs and storage.
 fn fold_left(before: u64, core: Core, storage: &[u64]) -> u64 {
     let bugs = core.bugs;
@@ -82,14 +51,6 @@ fn answer_number(answer: Answer) -> u64 {
         Answer::Finished => 100,
         Answer::Refused(refusal) => refusal_number(refusal),
     }
-}
-
-// How many calls are left after one more: none if its answer is not that it is running.
-fn left_after(left: u64, answer: u64) -> u64
-    requires { ⌜ 0 < left ⌝ }
-    ensures { λ r. ⌜ r < left ⌝ }
-{
-    if answer == 0 { left - 1 } else { 0 }
 }
 
 // Calls of run, one after the other.
@@ -140,7 +101,7 @@ fn step_all(
         let report = stepped.report;
         state = stepped.state;
         answer = answer_number(given);
-        sum = fold_report(sum, report);
+        sum = checksums::report(sum, report);
         count = num::wrapping_add_u64(count, 1);
         left = left_after(left, answer);
     }

@@ -71,3 +71,8 @@ pub one-before : (xs : List ℕ) (left : ℕ) → 0 < left → left ≤ length x
 one-before xs left h k =
     let next : suc (left - 1) ≡ left = omega arith in
     drop-cons xs (left - 1) 0 (omega arith) ∙ ap (λ (n : ℕ). getD xs (left - 1) 0 ∷ drop n xs) next
+
+-- what is written of a list is put whole where none of the list is left
+pub all-put : (write : List ℕ → List ℕ) (xs : List ℕ) (left : ℕ) {at place : ℕ} {t now : List ℕ} → left ≡ 0 → Put at (write (drop left xs)) t now place
+    → (place + length (write xs) ≡ at) × (now ≡ putBefore at (write xs) t)
+all-put write xs left none p = let all = rw none at p in (all .starts, all .buffer)

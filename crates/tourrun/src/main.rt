@@ -1,20 +1,7 @@
 // tourrun: reads tour.tab and stops.in, runs the tour, prints two lines. What it prints is proved of what it reads (crate tour).
-ghost use Rattle.io.specs.Counts.{Counts};
+use files::read_file;
 use libc::STDOUT_FILENO;
 use tour::play;
-
-// Reads the first bytes of a file, and says how many: a missing file counts as empty.
-fn read_file(name: &[u8], bytes: &mut [u8]) -> usize
-    ensures { λ r. ⌜ Counts r (now (bytes .exit)) ⌝ }
-{
-    let file = os::open_read(name);
-    if file < 0 {
-        return 0;
-    }
-    let count = io::read_full(file, bytes);
-    libc::close(file);
-    count
-}
 
 // Both buffers hold more than what tourrun takes of a file: 64,000 and 4,096 bytes.
 fn main() {

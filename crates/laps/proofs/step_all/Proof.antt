@@ -23,8 +23,8 @@ step-requires c κs = search needs
 answer-number-requires : tie.Need-answer-number-requires Inv-loop μ-loop
 answer-number-requires c κs = search needs
 
-fold-report-requires : tie.Need-fold-report-requires Inv-loop μ-loop
-fold-report-requires c κs = search needs
+report-requires : tie.Need-report-requires Inv-loop μ-loop
+report-requires c κs = search needs
 
 wrapping-add-u64-requires : tie.Need-wrapping-add-u64-requires Inv-loop μ-loop
 wrapping-add-u64-requires c κs = search needs
@@ -60,7 +60,7 @@ step-all-spec =
     loop-holds
     step-requires
     answer-number-requires
-    fold-report-requires
+    report-requires
     wrapping-add-u64-requires
     left-after-requires
     loop-less

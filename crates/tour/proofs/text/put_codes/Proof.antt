@@ -1,13 +1,13 @@
 -- `tour::text::put_codes` meets its contract. The loop's invariant: the codes from left on are put, and what stands after the next one is
 -- known. Assumes nothing.
 use mathlib.Core.List.{_∷_, []}
-use mathlib.Core.Path.{_≡_, refl, sym, ap}
+use mathlib.Core.Path.{_≡_}
 use native.Mathlib.Omega.{arith}
 use Prim.Native.Nat.{_≤_}
 use lib.ListN.{length, drop, length-drop}
 use lib.Seq.{drop-length}
 use Rattle.tour.specs.Tour.{octals, afterCode}
-use Rattle.tour.proofs.Putting.{Put, start, more, same-length as kept, one-before}
+use Rattle.tour.proofs.Putting.{Put, start, more, same-length as kept, one-before, all-put}
 use Rattle.tour.proofs.Digits.{length-octals}
 use borrow.Author.Needs.{needs}
 use Rattle.tour.proofs.text.put_codes.Statement.{statement}
@@ -51,10 +51,7 @@ same-length : tie.Need-same-length Inv-loop μ-loop
 same-length c = kept (c .before .loop .inv .2)
 
 returns : tie.Need-returns Inv-loop μ-loop
-returns c =
-    let none : c .before .loop .left ≡ 0 = omega arith in
-    let p = rw none at (c .before .loop .inv .2) in
-    (p .starts, p .buffer)
+returns c = all-put octals _ (c .before .loop .left) (omega arith) (c .before .loop .inv .2)
 
 pub put-codes-spec : {M : Type 1} → statement M
 put-codes-spec =

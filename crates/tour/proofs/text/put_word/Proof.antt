@@ -1,11 +1,10 @@
 -- `tour::text::put_word` meets its contract. The loop's invariant: the characters from left on are put. Assumes nothing.
 use mathlib.Core.List.{_∷_, []}
-use mathlib.Core.Path.{_≡_}
 use native.Mathlib.Omega.{arith}
 use Prim.Native.Nat.{_≤_}
 use lib.ListN.{length, drop, length-drop}
 use lib.Seq.{drop-length}
-use Rattle.tour.proofs.Putting.{Put, start, more, same-length as kept, one-before}
+use Rattle.tour.proofs.Putting.{Put, start, more, same-length as kept, one-before, all-put}
 use borrow.Author.Needs.{needs}
 use Rattle.tour.proofs.text.put_word.Statement.{statement}
 use Rattle.tour.proofs.text.put_word.Tie as tie
@@ -47,10 +46,7 @@ same-length : tie.Need-same-length Inv-loop μ-loop
 same-length c = kept (c .before .loop .inv .1)
 
 returns : tie.Need-returns Inv-loop μ-loop
-returns c =
-    let none : c .before .loop .left ≡ 0 = omega arith in
-    let p = rw none at (c .before .loop .inv .1) in
-    (p .starts, p .buffer)
+returns c = all-put (λ xs. xs) _ (c .before .loop .left) (omega arith) (c .before .loop .inv .1)
 
 pub put-word-spec : {M : Type 1} → statement M
 put-word-spec =
