@@ -17,6 +17,7 @@ use Rattle.buddy.specs.Lowest.{firstOf, lowestIn}
 use Rattle.buddy.specs.Tag.{tagSize}
 use Rattle.block.proofs.Size.{size-pos, top-le}
 use Rattle.block.proofs.Map.{keeps-parts, keeps-words, trees-fill}
+use Rattle.buddy.proofs.Halves.{part-length}
 use Rattle.buddy.proofs.LiveSize.{all-tag, tag-below, tag-above}
 use Rattle.buddy.proofs.First.{first-run}
 use Rattle.buddy.proofs.Placed.{Placed, placed}
@@ -71,6 +72,10 @@ module _ (u : SetUp) (m : List ℕ) where
           where
             mul-le : {x y : ℕ} → x < y → suc x * n ≤ y * n
             mul-le {x} {y} s = mul-le-mul-right n s
+
+        -- what is asked of a call on it
+        pub tree-asks : (k ≤ 7) × (length (take (start + n - start) (drop start m)) ≡ size k) × ((a - u .s1) % n < size k)
+        tree-asks = (omega (arith, ek, top-le (u .d)), part-length start n m tree-fits ∙ en, rw (← en) (mod-lt (a - u .s1) n-pos))
 
         there : Placed k ((a - u .s1) / n) (trees u m) m (replicate (length m - words u) 0)
         unfolding mapOf

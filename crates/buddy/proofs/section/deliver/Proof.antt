@@ -1,11 +1,9 @@
 -- `deliver` delivers in the tree around the lowest run. Assumes nothing.
-use mathlib.Core.Path.{_∙_}
-use Prim.Native.Nat.{_-_, _*_, _/_}
-use native.Mathlib.Nat.{div-add-mod', mod-lt}
+use Prim.Native.Nat.{_-_}
+use native.Mathlib.Nat.{div-add-mod'}
 use native.Mathlib.Omega.{arith}
-use Rattle.buddy.proofs.Halves.{part-length}
 use Rattle.block.proofs.Size.{size-pos, top-le}
-use Rattle.buddy.proofs.Address.{tree-fits, delivers-map}
+use Rattle.buddy.proofs.Address.{tree-fits, tree-asks, delivers-map}
 use borrow.Author.Needs.{needs}
 use Rattle.buddy.proofs.section.deliver.Statement.{statement}
 use Rattle.buddy.proofs.section.deliver.Tie as tie
@@ -48,14 +46,13 @@ part-deliver-at-end c =
     tree-fits (start .args .setup) (start .args .map .now) (start .pre .0) (start .pre .1) (c .before .before .top-of .result) (c .before .size-of .result) (start .args .address) (c .before .before .top-of .ensures) (c .before .size-of .ensures) (start .pre .2) (start .pre .3)
 
 deliver-at-requires : tie.Need-deliver-at-requires
-deliver-at-requires c κs = let e = c .before .before .before .before .before in
-    let n = c .before .before .size-of .result in
-    let fits = tree-fits (e .args .setup) (e .args .map .now) (e .pre .0) (e .pre .1) (c .before .before .before .top-of .result) n (e .args .address) (c .before .before .before .top-of .ensures) (c .before .before .size-of .ensures) (e .pre .2) (e .pre .3) in (
-      omega (arith, c .before .before .before .top-of .ensures),
-      omega (arith, c .before .before .before .top-of .ensures, top-le (e .args .setup .d)),
-      part-length ((e .args .address - e .args .setup .s1) / n * n) n (e .args .map .now) fits ∙ c .before .before .size-of .ensures,
-      rw (← (c .before .before .size-of .ensures)) (mod-lt _ {m = n} (omega (arith, c .before .before .size-of .ensures, size-pos (c .before .before .before .top-of .result)))),
-    )
+deliver-at-requires c κs =
+    let at-size = c .before .before in
+    let at-top = at-size .before in
+    let e = at-top .before .before in
+    let asks = tree-asks (e .args .setup) (e .args .map .now) (e .pre .0) (e .pre .1) (at-top .top-of .result) (at-size .size-of .result)
+    (e .args .address) (at-top .top-of .ensures) (at-size .size-of .ensures) (e .pre .2) (e .pre .3) in
+    (omega (arith, at-top .top-of .ensures), asks .0, asks .1, asks .2)
 
 same-length : tie.Need-same-length
 same-length c = search needs
