@@ -8,6 +8,7 @@ pub mod Lowest
 pub mod LiveSize
 pub mod First
 pub mod Fits
+pub mod Rest
 pub mod Scan
 pub mod Keeping
 pub mod Placed
