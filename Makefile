@@ -49,7 +49,7 @@ bench:
 expected:
 	mkdir -p target
 	rustc -O --edition 2021 -o target/leaves-reference reference/leaves.rs
-	for name in leaves allocations triples openings cards; do target/leaves-reference $$name > crates/$$name/stdout; done
+	for name in leaves allocations triples openings corrections cards; do target/leaves-reference $$name > crates/$$name/stdout; done
 	rustc -O --edition 2021 -o target/reference reference/main.rs
 	for file in stdin stdout; do target/reference comparison 7094 480 $$file > crates/comparison/$$file; done
 	tours/play --files tours/example.tour crates/tourrun/data

@@ -46,12 +46,15 @@ pub enum Refusal {
     StackEmpty,
     OutputFull,
     SubtrahendGreater,
-    Hours = 29,
+    Corrections = 26,
+    CorrectionsLoop,
+    CorrectionsShort,
+    Hours,
 }
 use Refusal::*;
 
 /// Every refusal, and what it means.
-pub const REFUSALS: [(Refusal, &str); 23] = [
+pub const REFUSALS: [(Refusal, &str); 26] = [
     (TableLength, "the table has fewer than 20 numbers, more than 8,000, or no multiple of ten"),
     (BadRow, "the row, or a test of it, is missing, ill-formed or of another kind than is needed here"),
     (SetUpNumbers, "the set-up's numbers are not allowed, or ask for more words than there are"),
@@ -74,6 +77,9 @@ pub const REFUSALS: [(Refusal, &str); 23] = [
     (StackEmpty, "a stack has no entry to restore or to return to"),
     (OutputFull, "there is no room for more output"),
     (SubtrahendGreater, "a subtraction below zero"),
+    (Corrections, "the list of corrections has a wrong length, a wrong row 0 or a next index outside"),
+    (CorrectionsLoop, "the chain of corrections reaches a row a second time"),
+    (CorrectionsShort, "there is no room for the corrected stops"),
     (Hours, "the opening hours break their rules, or the minute is above 1,439"),
 ];
 
@@ -304,8 +310,16 @@ pub fn hours(windows: &[u64], exceptions: &[u64], day: u64, minute: u64) -> Open
     }
 }
 
-/// The numbers of a file, of eight bytes each, the low one first. No multiple of eight bytes counts as one number, which no table and no
-/// list of hours has.
+/// Re-recorded stops: stop and recording of each row of a list of corrections that stands (l6.h), at the start of the output, and how many
+/// rows they are. The other numbers stay; all do where it is refused. Two numbers for each row of the list are room enough.
+pub fn recordings(list: &[u64], output: &mut [u64]) -> Result<usize, Refusal> {
+    let mut count = 0;
+    done(unsafe { raw::l6_recordings(list.as_ptr(), list.len(), output.as_mut_ptr(), output.len(), &mut count) })?;
+    Ok(count as usize)
+}
+
+/// The numbers of a file, of eight bytes each, the low one first. No multiple of eight bytes counts as one number, which no table, no list
+/// of hours and no list of corrections has.
 pub fn numbers(bytes: &[u8]) -> Vec<u64> {
     if bytes.len() % 8 != 0 {
         return vec![0];
@@ -399,6 +413,7 @@ pub mod raw {
             windows: *const u64, windows_length: usize, exceptions: *const u64, exceptions_length: usize, day: u64, minute: u64,
             row: *mut u64,
         ) -> u64;
+        pub fn l6_recordings(list: *const u64, list_length: usize, output: *mut u64, output_length: usize, count: *mut u64) -> u64;
         pub fn l6_save(width: u64, words: *const u64, words_length: usize, bytes: *mut u8, bytes_length: usize, count: *mut u64) -> u64;
         pub fn l6_load(width: u64, bytes: *const u8, bytes_length: usize, n: usize, words: *mut u64, words_length: usize) -> u64;
     }

@@ -1,7 +1,8 @@
 /* An example host: plays the tour of a folder.   player FOLDER [--stop-after STEPS]
  * It reads the table tour.tab and the stop list stops.in, and prints what the guide says; progress goes to standard error. Where there
- * are opening hours, windows.tab and exceptions.tab, the tour starts at the entry line for the time (of UTC), or not at all. With
- * --stop-after it stops after so many steps and saves the tour as tour.saved; the next call goes on from there. */
+ * are opening hours, windows.tab and exceptions.tab, the tour starts at the entry line for the time (of UTC), or not at all. Where there
+ * are corrections, corrections.tab, the recordings that stand are put into the stop list (that of tours/museum.tour). With --stop-after
+ * it stops after so many steps and saves the tour as tour.saved; the next call goes on from there. */
 #include <inttypes.h>
 #include <stdio.h>
 #include <stdlib.h>
@@ -12,6 +13,7 @@
 
 enum { WORDS = 4096, ENTRY = 16 }; /* the go-to of row 1, where a tour starts */
 static uint64_t table[8001], windows[4097], exceptions[4097]; /* one number more than is taken, so that a longer file is refused */
+static uint64_t list[4097], standing[2048];
 static uint8_t input[4096];
 /* What the tour goes on with: these three are saved together, with the entry. */
 static uint8_t state[L6_STATE_LENGTH], output[4096];
@@ -33,6 +35,17 @@ static size_t numbers(const char *name, uint64_t *list, size_t room) {
 #define EACH(call) (call(state, sizeof state, 1, file) && call(storage, sizeof storage, 1, file) \
                     && call(output, sizeof output, 1, file) && call(&table[ENTRY], sizeof table[ENTRY], 1, file))
 
+/* Puts the recordings that stand into a stop list: records of ten codes, a room's letter and three digits each for the stop, its recording
+ * and the stop to branch to. */
+static uint64_t correct(size_t given) {
+    size_t n = numbers("corrections.tab", list, sizeof list);
+    uint64_t count = 0, answer = n == 0 ? 0 : l6_recordings(list, n, standing, sizeof standing / sizeof *standing, &count);
+    for (size_t i = 0; i + 10 <= given; i += 10)
+        for (uint64_t k = 0; k < count; k++)
+            if (input[i + 1] * 100u + input[i + 2] * 10u + input[i + 3] == standing[2 * k])
+                for (uint64_t j = 0, rest = standing[2 * k + 1]; j < 3; j++, rest /= 10) input[i + 6 - j] = rest % 10;
+    return answer;
+}
 /* Starts a tour, where hours are kept at the entry line for the time. */
 static uint64_t begin(void) {
     size_t w = numbers("windows.tab", windows, sizeof windows), x = numbers("exceptions.tab", exceptions, sizeof exceptions);
@@ -51,7 +64,9 @@ int main(int count, char **arguments) {
     size_t length = numbers("tour.tab", table, sizeof table), given = load("stops.in", input, sizeof input);
     FILE *file = fopen("tour.saved", "rb");
     if (file && !EACH(fread)) return end(1, "tour.saved is no saved tour");
-    uint64_t row, answer = file ? fclose(file), L6_RUNNING : begin();
+    uint64_t row, answer = correct(given);
+    if (answer != 0) return end(1, l6_words(answer));
+    answer = file ? fclose(file), L6_RUNNING : begin();
     if (answer != L6_RUNNING || (answer = l6_check(table, length, &row)) != 0) return end(1, l6_words(answer));
     if (row != 0) return fprintf(stderr, "row %" PRIu64 " is ill-formed\n", row), 1;
 

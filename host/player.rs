@@ -1,7 +1,8 @@
 //! An example host: plays the tour of a folder.   player FOLDER [--stop-after STEPS]
 //! It reads the table tour.tab and the stop list stops.in, and prints what the guide says; progress goes to standard error. Where there
-//! are opening hours, windows.tab and exceptions.tab, the tour starts at the entry line for the time (of UTC), or not at all. With
-//! --stop-after it stops after so many steps and saves the tour as tour.saved; the next call goes on from there.
+//! are opening hours, windows.tab and exceptions.tab, the tour starts at the entry line for the time (of UTC), or not at all. Where there
+//! are corrections, corrections.tab, the recordings that stand are put into the stop list (that of tours/museum.tour). With --stop-after
+//! it stops after so many steps and saves the tour as tour.saved; the next call goes on from there.
 mod l6;
 
 use l6::{numbers, Answer, Lent, State, STATE_LENGTH};
@@ -32,12 +33,27 @@ fn enter(windows: &[u64], exceptions: &[u64], own: u64) -> Result<u64, String> {
     l6::hours(windows, exceptions, (now / 86400).wrapping_sub(10957), now % 86400 / 60).row()
 }
 
+/// Puts the recordings that stand into a stop list: records of ten codes, a room's letter and three digits each for the stop, its recording
+/// and the stop to branch to.
+fn correct(list: &[u64], input: &mut [u8]) -> Result<(), String> {
+    let mut standing = vec![0; list.len() / 2];
+    let count = if list.is_empty() { 0 } else { l6::recordings(list, &mut standing).map_err(|refusal| refusal.to_string())? };
+    for record in input.chunks_exact_mut(10) {
+        let stop = record[1..4].iter().fold(0, |number, &digit| 10 * number + digit as u64);
+        if let Some(pair) = standing.chunks(2).take(count).find(|pair| pair[0] == stop) {
+            for (digit, tens) in record[4..7].iter_mut().zip([100, 10, 1]) { *digit = (pair[1] / tens % 10) as u8 }
+        }
+    }
+    Ok(())
+}
+
 /// Plays the tour of a folder: how it ended, or why it did not.
 fn play(folder: &str, mut left: u64) -> Result<&str, String> {
     std::env::set_current_dir(folder).map_err(|_| "there is no such folder")?;
     let load = |name| std::fs::read(name).unwrap_or_default(); // a missing file counts as empty
     let (mut table, windows, exceptions) = (numbers(&load("tour.tab")), numbers(&load("windows.tab")), numbers(&load("exceptions.tab")));
-    let input: Vec<u8> = load("stops.in").into_iter().take(4096).collect();
+    let mut input: Vec<u8> = load("stops.in").into_iter().take(4096).collect();
+    correct(&numbers(&load("corrections.tab")), &mut input)?;
     let own = table.get(ENTRY).copied().unwrap_or(0);
     let Tour(mut state, mut storage, mut output, entry) = match std::fs::read("tour.saved") {
         Ok(bytes) => Tour::of_bytes(&bytes).ok_or("tour.saved is no saved tour")?,

@@ -55,6 +55,12 @@ enum {
     L6_STACK_EMPTY = 20,      /* a stack has no entry to restore or to return to */
     L6_OUTPUT_FULL = 21,      /* the output has no room for the characters */
     L6_SUBTRAHEND_GREATER = 22, /* a subtraction below zero */
+
+    /* l6_recordings */
+    L6_CORRECTIONS = 26,      /* a list of corrections of a wrong length, whose row 0 breaks its form, or with a next index outside */
+    L6_CORRECTIONS_LOOP = 27, /* the chain of corrections reaches a row a second time */
+    L6_CORRECTIONS_SHORT = 28, /* the stops and recordings to write have no room */
+
     L6_HOURS = 29,            /* opening hours of a wrong length, with an entry that breaks the rules, or a minute above 1,439 */
 
     /* l6_save and l6_load */
@@ -173,6 +179,17 @@ uint64_t l6_list_blocks(const uint8_t *state, size_t state_length, uint64_t live
 uint64_t l6_hours(const uint64_t *windows, size_t windows_length, const uint64_t *exceptions, size_t exceptions_length, uint64_t day,
                   uint64_t minute, uint64_t *row);
 
+/* Re-recorded stops: of a museum's corrections to its list, the recording that stands for each stop.
+ * The list is rows of four numbers: the index of the next row, a stop, an issue day and a recording. Row 0 has the index of the first
+ * row and then zeros; the next index 0 ends the chain. Of the rows of a stop in the chain the one with the greatest issue day stands,
+ * of several such the last. Rows that the chain does not reach have no bearing.
+ * Reads list, any numbers of any length. Writes stop and recording of each row that stands at the start of output, in the order in which
+ * the stops first occur in the chain, and into count how many rows they are; numbers past them stay. An output of two numbers for each
+ * row has room in any case; a shorter one, where it is needed, costs a pass over the chain for each stop.
+ * Answers 0, L6_CORRECTIONS, L6_CORRECTIONS_LOOP, or L6_CORRECTIONS_SHORT; output and count are unchanged then. The order of these is the
+ * order of the tests, each over the whole list. */
+uint64_t l6_recordings(const uint64_t *list, size_t list_length, uint64_t *output, size_t output_length, uint64_t *count);
+
 /* Words kept by bit columns, for a card. They are taken in groups of eight, the last filled up with zero words; for each bit place,
  * leftmost first, one byte holds that bit of the eight words, the first word highest. The width is 36, that of the storage, or 48; a
  * group has so many bytes, and no words have none. */
@@ -220,6 +237,9 @@ static inline const char *l6_words(uint64_t answer) {
     case L6_STACK_EMPTY: return "a stack has no entry to restore or to return to";
     case L6_OUTPUT_FULL: return "there is no room for more output";
     case L6_SUBTRAHEND_GREATER: return "a subtraction below zero";
+    case L6_CORRECTIONS: return "the list of corrections has a wrong length, a wrong row 0 or a next index outside";
+    case L6_CORRECTIONS_LOOP: return "the chain of corrections reaches a row a second time";
+    case L6_CORRECTIONS_SHORT: return "there is no room for the corrected stops";
     case L6_HOURS: return "the opening hours break their rules, or the minute is above 1,439";
     case L6_WORD_TOO_WIDE: return "a word to save does not fit the width";
     case L6_NOT_SAVED: return "the bytes to load are not those of so many saved words";

@@ -11,6 +11,7 @@ type Run = unsafe extern "C" fn(
     *const u64, usize, *mut u64, usize, *const u8, usize, *mut u8, usize, *mut u8, usize, u64, *mut u64,
 ) -> u64;
 type Hours = unsafe extern "C" fn(*const u64, usize, *const u64, usize, u64, u64, *mut u64) -> u64;
+type Recordings = unsafe extern "C" fn(*const u64, usize, *mut u64, usize, *mut u64) -> u64;
 type Save = unsafe extern "C" fn(u64, *const u64, usize, *mut u8, usize, *mut u64) -> u64;
 type Load = unsafe extern "C" fn(u64, *const u8, usize, usize, *mut u64, usize) -> u64;
 
@@ -22,6 +23,7 @@ pub struct Calls {
     count_blocks: unsafe extern "C" fn(*const u8, usize, *mut u64, usize) -> u64,
     list_blocks: unsafe extern "C" fn(*const u8, usize, u64, *mut u64, usize) -> u64,
     hours: Hours,
+    recordings: Recordings,
     save: Save,
     load: Load,
 }
@@ -42,26 +44,27 @@ extern "C" {
     fn header_hours(
         windows: *const u64, n: usize, exceptions: *const u64, m: usize, day: u64, minute: u64, row: *mut u64,
     ) -> u64;
+    fn header_recordings(list: *const u64, given: usize, output: *mut u64, room: usize, count: *mut u64) -> u64;
     fn header_save(width: u64, words: *const u64, given: usize, bytes: *mut u8, room: usize, count: *mut u64) -> u64;
     fn header_load(width: u64, bytes: *const u8, given: usize, n: usize, words: *mut u64, room: usize) -> u64;
     // what else the header has
     pub fn header_reads(state: *const u8, numbers: *mut u64);
     pub fn header_words(answer: u64) -> *const c_char;
     pub fn header_character(code: u8) -> u8;
-    pub static header_constants: [u64; 31];
+    pub static header_constants: [u64; 34];
     pub fn header_saved_length(width: u64, words: usize) -> usize;
     pub static header_kept: [u64; 4];
 }
 
 pub static HEADER: Calls = Calls {
     fresh: header_fresh, step: header_step, run: header_run, check: header_check, count_blocks: header_count_blocks,
-    list_blocks: header_list_blocks, hours: header_hours,
+    list_blocks: header_list_blocks, hours: header_hours, recordings: header_recordings,
     save: header_save, load: header_load,
 };
 pub static MODULE: Calls = Calls {
     fresh: module::l6_fresh, step: module::l6_step, run: module::l6_run, check: module::l6_check,
     count_blocks: module::l6_count_blocks, list_blocks: module::l6_list_blocks, hours: module::l6_hours,
-    save: module::l6_save, load: module::l6_load,
+    recordings: module::l6_recordings, save: module::l6_save, load: module::l6_load,
 };
 
 /// What is lent and only read.
@@ -94,8 +97,12 @@ impl Calls {
     }
     pub fn list_blocks(&self, state: &[u8], live: u64, list: &mut [u64]) -> u64 {
         unsafe { (self.list_blocks)(state.as_ptr(), state.len(), live, list.as_mut_ptr(), list.len()) }
-    }    pub fn hours(&self, Lists { windows, exceptions, day, minute }: &Lists, row: &mut u64) -> u64 {
+    }
+    pub fn hours(&self, Lists { windows, exceptions, day, minute }: &Lists, row: &mut u64) -> u64 {
         unsafe { (self.hours)(windows.as_ptr(), windows.len(), exceptions.as_ptr(), exceptions.len(), *day, *minute, row) }
+    }
+    pub fn recordings(&self, list: &[u64], output: &mut [u64], count: &mut u64) -> u64 {
+        unsafe { (self.recordings)(list.as_ptr(), list.len(), output.as_mut_ptr(), output.len(), count) }
     }
     pub fn save(&self, width: u64, words: &[u64], bytes: &mut [u8], count: &mut u64) -> u64 {
         unsafe { (self.save)(width, words.as_ptr(), words.len(), bytes.as_mut_ptr(), bytes.len(), count) }

@@ -3,8 +3,8 @@
 //! compared: each is stepped and run from its start, and again from places on its way after damages of its state's bytes, storage,
 //! table, input or lengths. Calls go through the header and through the Rust module in turn; wrong lengths are tried with both.
 //! With each tour go drawn opening hours.
-//! Before the generated tours, 20,000 lists of words and bytes are saved and loaded by bit columns, damaged ones among them, with both
-//! and with the safe calls.
+//! Before the generated tours, 20,000 lists of words and bytes are saved and loaded by bit columns, and as many lists of corrections
+//! answered, damaged ones among them, with both and with the safe calls.
 //! Prints how many steps and answers of each number there were, and how many differences.
 #![allow(dead_code)]
 mod bytes;
@@ -19,6 +19,7 @@ mod hours;
 mod l6;
 mod lists;
 mod raw;
+mod recordings;
 
 use bytes::*;
 use calls::*;
@@ -27,8 +28,8 @@ use generator::*;
 use l6::{BadTable, State};
 use std::ffi::CStr;
 
-/// How many lists are saved and loaded by bit columns.
-const COLUMNS: u64 = 20_000;
+/// How many lists are saved and loaded by bit columns, and how many lists of corrections are answered.
+const LISTS: u64 = 20_000;
 
 /// What was compared so far; `label` says of what the present case is.
 #[derive(Default)]
@@ -214,7 +215,7 @@ impl Compared {
     }
     /// Numbers and words of the header against the Rust module's.
     fn constants(&mut self) {
-        let numbers: Vec<u64> = [6675, 12].into_iter().chain(0..=22).chain([29]).chain(100..=104).collect();
+        let numbers: Vec<u64> = [6675, 12].into_iter().chain(0..=22).chain(26..=29).chain(100..=104).collect();
         self.same("the header's numbers", unsafe { header_constants }, numbers[..].try_into().unwrap());
         self.same("the module's length", l6::STATE_LENGTH, STATE);
         let words = |answer| unsafe { CStr::from_ptr(header_words(answer)) }.to_str().unwrap();
@@ -228,6 +229,24 @@ impl Compared {
             self.same("a fresh state", (answer, state), (0, Tour::fresh(vec![], vec![]).state));
         }
         self.same("a safe fresh state", &State::fresh().bytes()[..], &Tour::fresh(vec![], vec![]).state);
+    }
+
+    /// Re-recorded stops of drawn corrections.
+    fn corrected(&mut self, rng: &mut Rng) {
+        let list = lists::corrections(rng);
+        let enough = list.len() / 2;
+        let room = rng.pick(&[enough, enough, enough / 2, enough / 4, 0, 1, 2, 3]);
+        let mut wanted = vec![77; room];
+        let expected = recordings::written(&list, &mut wanted);
+        for calls in [&HEADER, &MODULE] {
+            let (mut output, mut count) = (vec![77; room], 77);
+            let answer = calls.recordings(&list, &mut output, &mut count);
+            self.answered(answer, 0);
+            self.same("corrections", (answer, count, &output), (expected.err().unwrap_or(0), expected.unwrap_or(77), &wanted));
+        }
+        let mut output = vec![77; room];
+        let safe = l6::recordings(&list, &mut output).map_or_else(|refusal| Err(refusal.number()), |count| Ok(count as u64));
+        self.same("safe corrections", (safe, output), (expected, wanted));
     }
 
     // ------------------------------------------------------------ storage kept by bit columns
@@ -357,9 +376,10 @@ fn main() {
     }
     compared.kept_constants();
     let mut rng = Rng(seed ^ 3648);
-    for i in 0..COLUMNS {
-        compared.label = format!("columns {i} of seed {seed}");
+    for i in 0..LISTS {
+        compared.label = format!("lists {i} of seed {seed}");
         compared.columns(&mut rng);
+        compared.corrected(&mut rng);
     }
     let mut i = 0;
     while compared.steps < steps {
@@ -368,7 +388,7 @@ fn main() {
         i += 1;
     }
     println!("{} steps in {} calls, {i} generated tours of seed {seed}", compared.steps, compared.calls);
-    println!("{COLUMNS} lists saved, and as many loaded, each by three calls");
+    println!("{LISTS} lists saved, as many loaded, and as many of corrections, each by three calls");
     for (answer, count) in compared.answers.iter().enumerate() {
         match answer {
             0 => println!("running, or done: {count} calls"),
@@ -376,7 +396,7 @@ fn main() {
             101..=103 => println!("wrong length, {answer}: {count}"),
             104 => println!("closed: {count}"),
             105 => println!("no width, 105: {count}"),
-            1..=22 | 29 | 33..=35 => println!("refusal {answer}: {count}"),
+            1..=22 | 26..=29 | 33..=35 => println!("refusal {answer}: {count}"),
             _ if *count > 0 => println!("an unknown answer, {answer}: {count}"),
             _ => {}
         }

@@ -26,6 +26,9 @@ uint64_t header_hours(const uint64_t *windows, size_t windows_length, const uint
                       uint64_t minute, uint64_t *row) {
     return l6_hours(LENT(windows), LENT(exceptions), day, minute, row);
 }
+uint64_t header_recordings(const uint64_t *list, size_t list_length, uint64_t *output, size_t output_length, uint64_t *count) {
+    return l6_recordings(LENT(list), LENT(output), count);
+}
 uint64_t header_save(uint64_t width, const uint64_t *words, size_t words_length, uint8_t *bytes, size_t bytes_length, uint64_t *count) {
     return l6_save(width, LENT(words), LENT(bytes), count);
 }
@@ -46,11 +49,12 @@ const char *header_words(uint64_t answer) { return l6_words(answer); }
 char header_character(uint8_t code) { return l6_character(code); }
 
 /* The lengths, and the answers by their names: 0 and the refusals in their order, and then the others. */
-const uint64_t header_constants[31] = {
+const uint64_t header_constants[34] = {
     L6_STATE_LENGTH, L6_REPORT_LENGTH, L6_RUNNING, L6_TABLE_LENGTH, L6_BAD_ROW, L6_SET_UP_NUMBERS, L6_INPUT_BYTE, L6_INPUT_SHORT,
     L6_NOT_A_DIGIT, L6_DEFINITION_NUMBER, L6_BLOCK_SIZE, L6_ZERO_DIVISOR, L6_CHARACTER_COUNT, L6_UNSOUND, L6_BEFORE_SET_UP,
     L6_SECOND_SET_UP, L6_UNDEFINED_FIELD, L6_NOT_A_BLOCK, L6_OUTSIDE_BLOCK, L6_NO_RUN, L6_FIELD_FREED, L6_STACK_FULL, L6_STACK_EMPTY,
-    L6_OUTPUT_FULL, L6_SUBTRAHEND_GREATER, L6_HOURS, L6_FINISHED, L6_BAD_STATE_LENGTH, L6_BAD_REPORT_LENGTH, L6_BAD_LIST_LENGTH, L6_CLOSED,
+    L6_OUTPUT_FULL, L6_SUBTRAHEND_GREATER, L6_CORRECTIONS, L6_CORRECTIONS_LOOP, L6_CORRECTIONS_SHORT, L6_HOURS, L6_FINISHED,
+    L6_BAD_STATE_LENGTH, L6_BAD_REPORT_LENGTH, L6_BAD_LIST_LENGTH, L6_CLOSED,
 };
 
 /* The answers of l6_save and l6_load. */

@@ -1,12 +1,14 @@
-// The lines that the programs `leaves`, `allocations`, `triples`, `openings` and `cards` must write (the argument names the program), computed from documents
-// 01 and 02 by other means: words are lists of single bits, products and differences are 128 bits wide, numbers become characters by way of
+// The lines that the programs `leaves`, `allocations`, `triples`, `openings`, `corrections` and `cards` must write (the argument names the program), computed from
+// documents 01 and 02 by other means: words are lists of single bits, products and differences are 128 bits wide, numbers become characters by way of
 // text, a table's rules are read row by row, and the allocator is a list of live blocks, from which its map is drawn and through
 // which references lead. Only the generator of cases and the checksum are the programs'. `make expected` writes their files stdout
 // with it.
 
 mod columns;
+mod corrections;
 mod hours;
 mod openings;
+mod recordings;
 
 // ---- The generator ----
 
@@ -775,7 +777,8 @@ fn main() {
         }
         Some("triples") => triples(),
         Some("openings") => openings::lines(),
+        Some("corrections") => corrections::lines(),
         Some("cards") => cards(),
-        _ => println!("leaves, allocations, triples, openings or cards"),
+        _ => println!("leaves, allocations, triples, openings, corrections or cards"),
     }
 }

@@ -1,4 +1,5 @@
-//! Drawn windows and exceptions for compare.rs, with a day and a minute; some with a number or a length that breaks the rules.
+//! Drawn lists for compare.rs: windows and exceptions with a day and a minute, and corrections; some with a number or a length that breaks
+//! the rules.
 use crate::generator::Rng;
 
 pub struct Lists { pub windows: Vec<u64>, pub exceptions: Vec<u64>, pub day: u64, pub minute: u64 }
@@ -37,4 +38,32 @@ pub fn lists(rng: &mut Rng) -> Lists {
     let drawn = rng.below(1440);
     let minute = rng.pick(&[0, 1439, 1440, any, first, first.wrapping_sub(1), last, last.wrapping_sub(1), drawn, drawn, drawn, drawn]);
     Lists { windows, exceptions, day, minute }
+}
+
+/// A list of corrections: its chain goes through some of its rows in a drawn order, a few come back to a row of it, and there are few stops
+/// or many. Some are spoilt.
+pub fn corrections(rng: &mut Rng) -> Vec<u64> {
+    let rows = rng.below(40) as usize;
+    let mut order: Vec<usize> = (1..=rows).collect();
+    for i in 1..rows { order.swap(i, rng.below(i as u64 + 1) as usize) }
+    order.truncate(rng.below(rows as u64 + 1) as usize);
+    let (stops, days) = (rng.pick(&[1, 3, 10, u64::MAX]), rng.pick(&[1, 3, u64::MAX]));
+    let mut list: Vec<u64> = vec![0; 4];
+    for _ in 0..rows { list.extend([rng.below(rows as u64 + 1), rng.below(stops), rng.below(days), rng.next()]) }
+    let back = if rng.below(6) == 0 { rng.below(rows as u64 + 1) } else { 0 };
+    let mut at = 0;
+    for &row in &order {
+        list[4 * at] = row as u64;
+        at = row;
+    }
+    list[4 * at] = back;
+    let (i, any) = (rng.below(list.len() as u64) as usize, rng.next());
+    match rng.below(20) {
+        0 => list.push(any),
+        1 => list.truncate(i),
+        2 | 3 => list[i] = rng.pick(&[0, 1, rows as u64, rows as u64 + 1, u64::MAX, 1 << 62, any]),
+        4 => list[rng.below(4) as usize] = rng.pick(&[0, 1, any]),
+        _ => {}
+    }
+    list
 }

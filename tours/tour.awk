@@ -10,6 +10,10 @@
 #            appended makes it octal, decimal or characters.
 #   stops    characters of the stop list: letters, digits, '.', '_' for a blank, '/' for octal 77, \ooo for any byte
 #   prints   the two lines that tourrun must print: '-' for an empty one, codes and '* N' for those codes N times
+#
+# A list of corrections has two parts: part=corrections for corrections.tab, part=stands for what the library must make of it.
+#   corrections  a row a line, from row 0: its number, the next row, the stop, the issue day, the recording
+#   stands       a stop and its recording a line
 BEGIN { CONVFMT = "%.0f" }   # some awks write large whole numbers as fractions otherwise
 
 function fail(why) { print FILENAME ": " FNR ": " why > "/dev/stderr"; failed = 1; exit 1 }
@@ -86,16 +90,18 @@ function bytes(n,    i, text) {
     return text
 }
 
-function row(numbers,    i, n, word, text) {
+function row(numbers, long,    i, n, word, text) {
     n = split(numbers, word, " ")
-    if (n != 10) fail(n " numbers in a row")
-    for (i = 1; i <= 10; i++) text = text bytes(word[i])
+    if (n != long) fail(n " numbers in a row")
+    for (i = 1; i <= n; i++) text = text bytes(word[i])
     print text
 }
 
 { sub(/#.*/, ""); sub(/[ \t]+$/, "") }
 NF == 0 { next }
-$1 == "table" || $1 == "stops" || $1 == "prints" { at = $1; if (at == "table" && part == "table") row("0 0 0 0 0 0 0 0 0 0"); next }
+/^(table|stops|prints|corrections|stands)$/ { at = $1; if (at == "table" && part == "table") row("0 0 0 0 0 0 0 0 0 0", 10); next }
+at == "stands" && part == "stands"
+at == "corrections" && part == "corrections" { if ($1 != rows++) fail("row " rows - 1 " is missing"); $1 = ""; row($0, 4) }
 at == "prints" && part == "prints" {
     if (match($0, / \* [0-9]+$/)) { text = substr($0, 1, RSTART - 1); n = substr($0, RSTART + 3); for ($0 = text; n > 1; n--) $0 = $0 " " text }
     print $0 == "-" ? "" : $0
@@ -104,10 +110,10 @@ at == "table" && part == "table" {
     if ($1 != ++rows) fail("row " rows " is missing")
     modes = index("THEN  IFALL IFANY IFNONEIFNALL", $3)
     text = $4; for (i = 5; i <= NF; i++) text = text $i; gsub(/[()]/, "", text)
-    if ($3 == "raw") { sub(/^[ \t]*[0-9]+[ \t]+[0-9]+[ \t]+raw[ \t]+/, ""); row($0) }
-    else if ($3 == "test") { split(text, a, ","); row("2 " $2 " " find(a[2], "E1 N2 G3 L4 P5 O6 Z7", "O Z") " 0 " operand(a[1], 10) " " operand(a[3], base) " 0 0") }
-    else if ($3 == "op") row("3 " $2 " " operation(text))
-    else if (modes % 6 == 1) row("1 " $2 " " int(modes / 6) " 0 " wanted("tests") " " wanted("ops") " " wanted("goto") " 0 0 0")
+    if ($3 == "raw") { sub(/^[ \t]*[0-9]+[ \t]+[0-9]+[ \t]+raw[ \t]+/, ""); row($0, 10) }
+    else if ($3 == "test") { split(text, a, ","); row("2 " $2 " " find(a[2], "E1 N2 G3 L4 P5 O6 Z7", "O Z") " 0 " operand(a[1], 10) " " operand(a[3], base) " 0 0", 10) }
+    else if ($3 == "op") row("3 " $2 " " operation(text), 10)
+    else if (modes % 6 == 1) row("1 " $2 " " int(modes / 6) " 0 " wanted("tests") " " wanted("ops") " " wanted("goto") " 0 0 0", 10)
     else fail("no row: " $0)
 }
 at == "stops" && part == "stops" {

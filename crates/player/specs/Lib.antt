@@ -2,3 +2,4 @@
 pub mod Calls
 pub mod Hours
 pub mod Keeping
+pub mod Recordings

@@ -1,4 +1,5 @@
 // The engine as a library for players in C and Rust: numbers and slices alone.
+pub mod correcting;
 pub mod keeping;
 pub mod opening;
 

@@ -1,0 +1,60 @@
+-- The call by its checks. Assumes nothing.
+use Prim.Native.Nat.{ℕ, _*_, _/_, _<_, _≤_}
+use native.Mathlib.Omega.{arith}
+use mathlib.Core.Bool.{true, false}
+use mathlib.Core.List.{List, _++_}
+use mathlib.Core.Path.{_≡_, sym, _∙_}
+use borrow.Author.Tests.{le-leb, lt-leb, leb-true, leb-false}
+use lib.Dec.{leb}
+use lib.ListN.{length, drop}
+use Rattle.recordings.specs.declared.Written.{Written}
+use Rattle.recordings.specs.declared.Written.the-variants.{Count, BadList, RowTwice, OutputShort}
+use Rattle.recordings.specs.Recordings.{Left, rowCount, stopOf, recordingOf, isList, chain, hasTwice, allStanding, pairs, written, correcting, writtenNumber, writtenCount, refusalOf, Numbered}
+use Rattle.recordings.proofs.Chain.{chain-once, chain-twice, chain-most}
+
+abbrev left : Written → List ℕ → Left
+left answer output = record { answer = answer; output = output }
+
+-- room for so many pairs
+half-room : (n m : ℕ) → leb n (m / 2) ≡ true → 2 * n ≤ m
+half-room n m h = let most = leb-true n (m / 2) h in omega arith
+
+half-short : (n m : ℕ) → leb n (m / 2) ≡ false → m < 2 * n
+half-short n m h = let short = leb-false n (m / 2) h in omega arith
+
+module _ (xs output : List ℕ) where
+  -- an answer and what it leaves, also in the ticket's numbers
+  abbrev pub Answered : Written → List ℕ → Type 0
+  Answered answer after = (left answer after ≡ correcting xs output) × Numbered xs output answer
+
+  pub bad-list : isList xs ≡ false → Answered BadList output
+  unfolding correcting refusalOf writtenNumber writtenCount
+  bad-list b = (rw b, record { number = rw b; count = rw b })
+
+  module _ (is : isList xs ≡ true) {steps : ℕ} (all : steps ≡ length (chain xs)) where
+    pub row-twice : steps ≡ rowCount xs → Answered RowTwice output
+    unfolding correcting refusalOf writtenNumber writtenCount
+    row-twice full =
+        let twice = chain-twice xs is (sym all ∙ full) in
+        (rw (is, twice), record { number = rw (is, twice); count = rw (is, twice) })
+
+    module _ (ends : steps ≡ rowCount xs → ⊥) where
+      once : hasTwice (chain xs) ≡ false
+      once = chain-once xs is (omega (arith, chain-most xs is))
+
+      pub output-short : leb (length (allStanding xs)) (length output / 2) ≡ false → Answered OutputShort output
+      unfolding correcting written refusalOf writtenNumber writtenCount
+      output-short h =
+          let short = lt-leb (2 * length (allStanding xs)) (length output) (half-short _ _ h) in
+          (rw (is, once, short), record { number = rw (is, once, short); count = rw (is, once, short) })
+
+      module _ (fits : leb (length (allStanding xs)) (length output / 2) ≡ true) where
+        pub pairs-fit : 2 * length (allStanding xs) ≤ length output
+        pairs-fit = half-room (length (allStanding xs)) (length output) fits
+
+        pub all-written : {count : ℕ} {after : List ℕ} → count ≡ length (allStanding xs)
+            → after ≡ pairs (stopOf xs) (recordingOf xs) (allStanding xs) ++ drop (2 * count) output → Answered (Count count) after
+        unfolding correcting written refusalOf writtenNumber writtenCount
+        all-written count-is e =
+            let room = le-leb (2 * length (allStanding xs)) (length output) pairs-fit in
+            (rw (is, once, room, e, count-is), record { number = rw (is, once, room); count = rw (is, once, room, count-is) })

@@ -1,0 +1,48 @@
+-- `recordings::lesser_of` meets its contract, case by case. Assumes nothing.
+use mathlib.Core.Path.{sym, _∙_}
+use borrow.Author.Tests.{not-true, not-false}
+use Rattle.recordings.proofs.Stops.{lesser-below, lesser-only, lesser-new, lesser-old}
+use borrow.Author.Needs.{needs}
+use Rattle.recordings.proofs.lesser_of.Statement.{statement}
+use Rattle.recordings.proofs.lesser_of.Tie as tie
+
+is-after-requires : tie.Need-is-after-requires
+is-after-requires c κs = search needs
+
+returns : tie.Need-returns
+returns c = lesser-below _ _ _ (sym (c .before .is-after .ensures) ∙ not-true _ (c .if1 .taken))
+
+enum-told : tie.Need-enum-told
+enum-told c = search needs
+
+enum-known-found : tie.Need-enum-known-found
+enum-known-found c = search needs
+
+returns-2 : tie.Need-returns-2
+returns-2 c = rw (c .enum-told .given .1) (lesser-only _ _ (sym (c .before .before .before .is-after .ensures) ∙ not-false _ (c .before .before .if1 .left)))
+
+returns-3 : tie.Need-returns-3
+returns-3 c =
+    let at-found = c .before .before in
+    let at-if1 = at-found .before .before in
+    let at-is-after = at-if1 .before in
+    rw (at-found .found .given .1) (lesser-new _ _ (sym (at-is-after .is-after .ensures) ∙ not-false _ (at-if1 .if1 .left)) _ (c .if2 .taken))
+
+returns-4 : tie.Need-returns-4
+returns-4 c =
+    let at-found = c .before .before in
+    let at-if1 = at-found .before .before in
+    let at-is-after = at-if1 .before in
+    rw (at-found .found .given .1) (lesser-old _ _ (sym (at-is-after .is-after .ensures) ∙ not-false _ (at-if1 .if1 .left)) _ (c .if2 .left))
+
+pub lesser-of-spec : {M : Type 1} → statement M
+lesser-of-spec =
+    tie.close
+    (tie.spec
+    is-after-requires
+    returns
+    enum-told
+    enum-known-found
+    returns-2
+    returns-3
+    returns-4)

@@ -1,0 +1,3 @@
+-- Re-recorded stops.
+pub mod Recordings
+pub mod Walking

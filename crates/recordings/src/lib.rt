@@ -1,0 +1,259 @@
+// Re-recorded stops: of a museum's corrections to its list, the recording that stands for each stop. Document 02, ticket 6.
+ghost use mathlib.Core.Path.{_≡_};
+ghost use mathlib.Core.Bool.{true};
+ghost use mathlib.Core.List.{_++_};
+ghost use Prim.Native.Nat.{_+_, _*_, _≤_, _<_};
+ghost use lib.Dec.{leb};
+ghost use lib.ListN.{length, getD, set, drop};
+ghost use Rattle.recordings.specs.Recordings.{rowCount, numberOf, stopOf, recordingOf, zerosAfter, nextsInside, isList, chain, allStanding, pairs, correcting, Numbered};
+ghost use Rattle.recordings.specs.Walking.{Walked, Place, Entering, Noted, entered, heldRows, stops, from, lesser, LeastOf};
+
+// What the call answers: how many stops it wrote, or why it wrote none: 26, 27, 28.
+pub enum Written {
+    Count(usize),
+    BadList,
+    RowTwice,
+    OutputShort,
+}
+
+// The least stop found so far, if there is any.
+enum Least {
+    Stop(u64),
+    Nothing,
+}
+
+// Number k of a row.
+fn number_of(list: &[u64], row: usize, k: usize) -> u64
+    requires { ⌜ 4 * row + k < length (now list) ⌝ }
+    ensures { λ r. ⌜ r ≡ numberOf (now (list .entry)) row k ⌝ }
+{
+    list[4 * row + k]
+}
+
+// Whether the next index of every row lies inside.
+fn nexts_inside(list: &[u64]) -> bool
+    ensures { λ r. ⌜ r ≡ nextsInside (now (list .entry)) (rowCount (now (list .entry))) ⌝ }
+{
+    let rows = list.len() / 4;
+    let mut row = rows;
+    while 0 < row {
+        row -= 1;
+        if rows as u64 <= number_of(list, row, 0) {
+            return false;
+        }
+    }
+    true
+}
+
+// Whether the other numbers of row 0 are zero.
+fn zeros_after(list: &[u64]) -> bool
+    requires { ⌜ 4 ≤ length (now list) ⌝ }
+    ensures { λ r. ⌜ r ≡ zerosAfter (now (list .entry)) ⌝ }
+{
+    (list[1] == 0) & ((list[2] == 0) & (list[3] == 0))
+}
+
+// Whether it is a list: 26.
+fn is_list(list: &[u64]) -> bool
+    ensures { λ r. ⌜ r ≡ isList (now (list .entry)) ⌝ }
+{
+    if list.len() == 0 {
+        return false;
+    }
+    if list.len() % 4 != 0 {
+        return false;
+    }
+    if !zeros_after(list) {
+        return false;
+    }
+    nexts_inside(list)
+}
+
+// How many rows the chain reaches, counted up to as many as the list has.
+fn chain_length(list: &[u64]) -> usize
+    requires { ⌜ isList (now list) ≡ true ⌝ }
+    ensures { λ r. ⌜ r ≡ length (chain (now (list .entry))) ⌝ }
+{
+    let rows = list.len() / 4;
+    let mut row = number_of(list, 0, 0);
+    let mut count = 0;
+    while count < rows {
+        if row == 0 {
+            return count;
+        }
+        row = number_of(list, row as usize, 0);
+        count += 1;
+    }
+    count
+}
+
+// Whether a stop is greater than the last one.
+fn is_after(last: Least, stop: u64) -> bool
+    ensures { λ r. ⌜ r ≡ leb (from last) stop ⌝ }
+{
+    match last {
+        Least::Nothing => true,
+        Least::Stop(before) => before < stop,
+    }
+}
+
+// The lesser of what was found and a stop, unless the stop is no greater than the last one.
+fn lesser_of(last: Least, found: Least, stop: u64) -> Least
+    ensures { λ r. ⌜ r ≡ lesser (from last) found stop ⌝ }
+{
+    if !is_after(last, stop) {
+        return found;
+    }
+    match found {
+        Least::Nothing => Least::Stop(stop),
+        Least::Stop(least) => Least::Stop(if stop < least { stop } else { least }),
+    }
+}
+
+// The least stop of the chain that is greater than the last one.
+fn next_stop(list: &[u64], steps: usize, last: Least) -> Least
+    requires { ⌜ Walked (now list) steps ⌝ }
+    ensures { λ r. ⌜ LeastOf (from last) (stops (now (list .entry)) (chain (now (list .entry)))) r ⌝ }
+{
+    let mut found = Least::Nothing;
+    let mut row = number_of(list, 0, 0);
+    let mut i = 0;
+    while i < steps {
+        found = lesser_of(last, found, number_of(list, row as usize, 1));
+        row = number_of(list, row as usize, 0);
+        i += 1;
+    }
+    found
+}
+
+// Whether there is room for the stops of the chain. They are counted in the order of their numbers, by a pass for each, and only where
+// the chain has more rows than there is room for.
+fn has_room(list: &[u64], steps: usize, room: usize) -> bool
+    requires { ⌜ Walked (now list) steps ⌝ }
+    ensures { λ r. ⌜ r ≡ leb (length (allStanding (now (list .entry)))) room ⌝ }
+{
+    if steps <= room {
+        return true;
+    }
+    let mut last = Least::Nothing;
+    let mut left = room;
+    loop {
+        let Least::Stop(stop) = next_stop(list, steps, last) else {
+            return true;
+        };
+        if left == 0 {
+            return false;
+        }
+        last = Least::Stop(stop);
+        left -= 1;
+    }
+}
+
+// The place of a stop among the first so many pairs, or their count where it is not there.
+fn place_of(output: &[u64], count: usize, stop: u64) -> usize
+    requires { ⌜ 2 * count ≤ length (now output) ⌝ }
+    ensures { λ r. ⌜ Place (now (output .entry)) count stop r ⌝ }
+{
+    let mut k = 0;
+    while k < count {
+        if output[2 * k] == stop {
+            return k;
+        }
+        k += 1;
+    }
+    k
+}
+
+// The second number of pair k.
+fn second_of(output: &[u64], k: usize) -> u64
+    requires { ⌜ 2 * k + 2 ≤ length (now output) ⌝ }
+    ensures { λ r. ⌜ r ≡ getD (now (output .entry)) (2 * k + 1) 0 ⌝ }
+{
+    output[2 * k + 1]
+}
+
+// Writes the second number of pair k.
+fn put_second(output: &mut [u64], k: usize, second: u64)
+    requires { ⌜ 2 * k + 2 ≤ length (now output) ⌝ }
+    ensures { λ _. ⌜ now (output .exit) ≡ set (now (output .entry)) (2 * k + 1) second ⌝ }
+{
+    output[2 * k + 1] = second;
+}
+
+// Writes both numbers of pair k.
+fn put_pair(output: &mut [u64], k: usize, first: u64, second: u64)
+    requires { ⌜ 2 * k + 2 ≤ length (now output) ⌝ }
+    ensures { λ _. ⌜ now (output .exit) ≡ set (set (now (output .entry)) (2 * k) first) (2 * k + 1) second ⌝ }
+{
+    output[2 * k] = first;
+    put_second(output, k, second);
+}
+
+// Enters a row into the pairs of stop and row: over the one of its stop, unless its issue day is smaller, or after them. Their count then.
+fn enter(list: &[u64], row: usize, count: usize, output: &mut [u64]) -> usize
+    requires { ⌜ Entering (now list) row count (now output) ⌝ }
+    ensures { λ r. ⌜ Noted (now (list .entry)) (entered (now (list .entry)) row (heldRows count (now (output .entry)))) r (now (output .entry)) (now (output .exit)) ⌝ }
+{
+    let stop = number_of(list, row, 1);
+    let k = place_of(&*output, count, stop);
+    if k == count {
+        put_pair(output, k, stop, row as u64);
+        return count + 1;
+    }
+    let held = second_of(&*output, k) as usize;
+    if number_of(list, row, 2) < number_of(list, held, 2) {
+        return count;
+    }
+    put_second(output, k, row as u64);
+    count
+}
+
+// Notes stop and row of each standing row at the start of the output, and counts them.
+fn note_standing(list: &[u64], steps: usize, output: &mut [u64]) -> usize
+    requires { ⌜ Walked (now list) steps × (2 * length (allStanding (now list)) ≤ length (now output)) ⌝ }
+    ensures { λ r. ⌜ Noted (now (list .entry)) (allStanding (now (list .entry))) r (now (output .entry)) (now (output .exit)) ⌝ }
+{
+    let mut count = 0;
+    let mut row = number_of(list, 0, 0);
+    let mut i = 0;
+    while i < steps {
+        count = enter(list, row as usize, count, output);
+        row = number_of(list, row as usize, 0);
+        i += 1;
+    }
+    count
+}
+
+// Puts each noted row's recording in its place.
+fn put_recordings(list: &[u64], count: usize, output: &mut [u64])
+    requires { ⌜ isList (now list) ≡ true × Noted (now list) (allStanding (now list)) count (now output) (now output) ⌝ }
+    ensures { λ _. ⌜ now (output .exit) ≡ pairs (stopOf (now (list .entry))) (recordingOf (now (list .entry))) (allStanding (now (list .entry))) ++ drop (2 * count) (now (output .entry)) ⌝ }
+{
+    let mut k = 0;
+    while k < count {
+        let row = second_of(&*output, k) as usize;
+        put_second(output, k, number_of(list, row, 3));
+        k += 1;
+    }
+}
+
+// Writes stop and recording of each standing record, in the order in which the stops first occur in the chain, and counts them: 26, 27, 28.
+// Numbers past those written stay.
+pub fn write_standing(list: &[u64], output: &mut [u64]) -> Written
+    ensures { λ r. ⌜ record { answer = r; output = now (output .exit) } ≡ correcting (now (list .entry)) (now (output .entry)) ⌝ }
+    ensures numbered { λ r. ⌜ Numbered (now (list .entry)) (now (output .entry)) r ⌝ }
+{
+    if !is_list(list) {
+        return Written::BadList;
+    }
+    let steps = chain_length(list);
+    if steps == list.len() / 4 {
+        return Written::RowTwice;
+    }
+    if !has_room(list, steps, output.len() / 2) {
+        return Written::OutputShort;
+    }
+    let count = note_standing(list, steps, output);
+    put_recordings(list, count, output);
+    Written::Count(count)
+}
