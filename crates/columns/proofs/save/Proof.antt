@@ -30,15 +30,25 @@ div-if3 c = let range = width-range (c .before .before .before .before .before .
 
 returns-3 : tie.Need-returns-3
 returns-3 c =
-    let wide = sym (c .before .before .before .before .before .is-width .ensures) ∙ not-false _ (c .before .before .before .before .if1 .left) in
-    let some : 0 < c .before .before .before .before .before .before .before .before .args .b = omega (arith, width-range (c .before .before .before .before .before .before .before .before .args .b) wide .0) in
-    let short = div-lt-iff-lt-mul {x = length (c .before .before .before .before .before .before .before .before .args .bytes .now)} {y = c .before .groups-of .result} some .0 (c .if3 .taken) in
-    saving-short _ _ _ wide (sym (c .before .before .before .fit .ensures) ∙ not-false _ (c .before .before .if2 .left)) (ap (λ (n : ℕ). c .before .before .before .before .before .before .before .before .args .b * n) (c .before .groups-of .ensures)) (omega arith)
+    let at-groups-of = c .before in
+    let at-if2 = at-groups-of .before in
+    let at-fit = at-if2 .before in
+    let at-if1 = at-fit .before in
+    let at-is-width = at-if1 .before in
+    let entry = at-is-width .before .before .before in
+    let wide = sym (at-is-width .is-width .ensures) ∙ not-false _ (at-if1 .if1 .left) in
+    let some : 0 < entry .args .b = omega (arith, width-range (entry .args .b) wide .0) in
+    let short = div-lt-iff-lt-mul {x = length (entry .args .bytes .now)} {y = at-groups-of .groups-of .result} some .0 (c .if3 .taken) in
+    saving-short _ _ _ wide (sym (at-fit .fit .ensures) ∙ not-false _ (at-if2 .if2 .left)) (ap (λ (n : ℕ). entry .args .b * n) (at-groups-of .groups-of .ensures)) (omega arith)
 
 mul-count : tie.Need-mul-count
 mul-count c =
-    let some : 0 < c .before .before .before .before .before .before .before .before .args .b = omega (arith, width-range (c .before .before .before .before .before .before .before .before .args .b) (sym (c .before .before .before .before .before .is-width .ensures) ∙ not-false _ (c .before .before .before .before .if1 .left)) .0) in
-    let room = le-div-iff-mul-le {x = c .before .groups-of .result} {y = length (c .before .before .before .before .before .before .before .before .args .bytes .now)} some .0 (c .if3 .left) in
+    let at-groups-of = c .before in
+    let at-if1 = at-groups-of .before .before .before in
+    let at-is-width = at-if1 .before in
+    let entry = at-is-width .before .before .before in
+    let some : 0 < entry .args .b = omega (arith, width-range (entry .args .b) (sym (at-is-width .is-width .ensures) ∙ not-false _ (at-if1 .if1 .left)) .0) in
+    let room = le-div-iff-mul-le {x = at-groups-of .groups-of .result} {y = length (entry .args .bytes .now)} some .0 (c .if3 .left) in
     omega arith
 
 save-all-requires : tie.Need-save-all-requires
@@ -54,11 +64,19 @@ same-length c = search needs
 
 returns-4 : tie.Need-returns-4
 returns-4 c =
-    let wide = sym (c .before .before .before .before .before .before .before .before .before .is-width .ensures) ∙ not-false _ (c .before .before .before .before .before .before .before .before .if1 .left) in
-    let some : 0 < c .before .before .before .before .before .before .before .before .before .before .before .before .args .b = omega (arith, width-range (c .before .before .before .before .before .before .before .before .before .before .before .before .args .b) wide .0) in
-    let room = le-div-iff-mul-le {x = c .before .before .before .before .before .groups-of .result} {y = length (c .before .before .before .before .before .before .before .before .before .before .before .before .args .bytes .now)} some .0 (c .before .before .before .before .if3 .left) in
-    saving-done _ _ _ wide (sym (c .before .before .before .before .before .before .before .fit .ensures) ∙ not-false _ (c .before .before .before .before .before .before .if2 .left))
-    (ap (λ (n : ℕ). c .before .before .before .before .before .before .before .before .before .before .before .before .args .b * n) (c .before .before .before .before .before .groups-of .ensures)) (omega arith) (c .before .before .save-all .ensures)
+    let at-save-all = c .before .before in
+    let at-if3 = at-save-all .before .before in
+    let at-groups-of = at-if3 .before in
+    let at-if2 = at-groups-of .before in
+    let at-fit = at-if2 .before in
+    let at-if1 = at-fit .before in
+    let at-is-width = at-if1 .before in
+    let entry = at-is-width .before .before .before in
+    let wide = sym (at-is-width .is-width .ensures) ∙ not-false _ (at-if1 .if1 .left) in
+    let some : 0 < entry .args .b = omega (arith, width-range (entry .args .b) wide .0) in
+    let room = le-div-iff-mul-le {x = at-groups-of .groups-of .result} {y = length (entry .args .bytes .now)} some .0 (at-if3 .if3 .left) in
+    saving-done _ _ _ wide (sym (at-fit .fit .ensures) ∙ not-false _ (at-if2 .if2 .left))
+    (ap (λ (n : ℕ). entry .args .b * n) (at-groups-of .groups-of .ensures)) (omega arith) (at-save-all .save-all .ensures)
 
 pub save-spec : {M : Type 1} → statement M
 save-spec =

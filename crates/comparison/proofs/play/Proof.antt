@@ -20,10 +20,20 @@ write-case-requires : tie.Need-write-case-requires
 write-case-requires c κs = search needs
 
 same-length : tie.Need-same-length
-same-length c = c .before .before .before .before .storage4 .given ∙ (c .before .before .before .before .before .before .before .before .before .before .before .before .storage3 .given ∙ (c .before .before .before .before .before .before .before .before .before .before .before .before .before .before .before .before .before .before .before .before .storage2 .given ∙ c .before .before .before .before .before .before .before .before .before .before .before .before .before .before .before .before .before .before .before .before .before .before .before .before .before .before .before .before .before .storage .given))
+same-length c =
+    let at-storage4 = c .before .before .before .before in
+    let at-storage3 = at-storage4 .before .before .before .before .before .before .before .before in
+    let at-storage2 = at-storage3 .before .before .before .before .before .before .before .before in
+    let at-storage = at-storage2 .before .before .before .before .before .before .before .before .before in
+    at-storage4 .storage4 .given ∙ (at-storage3 .storage3 .given ∙ (at-storage2 .storage2 .given ∙ at-storage .storage .given))
 
 same-length-2 : tie.Need-same-length-2
-same-length-2 c = c .before .before .output4 .given ∙ (c .before .before .before .before .before .before .before .before .before .before .output3 .given ∙ (c .before .before .before .before .before .before .before .before .before .before .before .before .before .before .before .before .before .before .output2 .given ∙ c .before .before .before .before .before .before .before .before .before .before .before .before .before .before .before .before .before .before .before .before .before .before .before .before .before .before .before .output .given))
+same-length-2 c =
+    let at-output4 = c .before .before in
+    let at-output3 = at-output4 .before .before .before .before .before .before .before .before in
+    let at-output2 = at-output3 .before .before .before .before .before .before .before .before in
+    let at-output = at-output2 .before .before .before .before .before .before .before .before .before in
+    at-output4 .output4 .given ∙ (at-output3 .output3 .given ∙ (at-output2 .output2 .given ∙ at-output .output .given))
 
 returns : tie.Need-returns
 returns c = search needs

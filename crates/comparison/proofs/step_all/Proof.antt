@@ -29,7 +29,11 @@ loop-less : tie.Need-loop-less Inv-loop μ-loop
 loop-less c = search needs
 
 loop-again : tie.Need-loop-again Inv-loop μ-loop
-loop-again c = (omega arith, c .before .before .before .before .storage .given ∙ c .before .before .before .before .before .before .before .before .before .before .before .loop .inv .1, c .before .before .output .given ∙ c .before .before .before .before .before .before .before .before .before .before .before .loop .inv .2)
+loop-again c =
+    let at-output = c .before .before in
+    let at-storage = at-output .before .before in
+    let at-loop = at-storage .before .before .before .before .before .before .before in
+    (omega arith, at-storage .storage .given ∙ at-loop .loop .inv .1, at-output .output .given ∙ at-loop .loop .inv .2)
 
 ended-requires : tie.Need-ended-requires Inv-loop μ-loop
 ended-requires c κs = search needs

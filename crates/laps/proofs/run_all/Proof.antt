@@ -33,7 +33,11 @@ loop-less : tie.Need-loop-less Inv-loop μ-loop
 loop-less c = search needs
 
 loop-again : tie.Need-loop-again Inv-loop μ-loop
-loop-again c = (c .before .before .before .before .before .before .before .storage .given ∙ c .before .before .before .before .before .before .before .before .before .before .before .before .loop .inv .0, c .before .before .before .before .before .output .given ∙ c .before .before .before .before .before .before .before .before .before .before .before .before .loop .inv .1)
+loop-again c =
+    let at-output = c .before .before .before .before .before in
+    let at-storage = at-output .before .before in
+    let at-loop = at-storage .before .before .before .before .before in
+    (at-storage .storage .given ∙ at-loop .loop .inv .0, at-output .output .given ∙ at-loop .loop .inv .1)
 
 fold-left-requires : tie.Need-fold-left-requires Inv-loop μ-loop
 fold-left-requires c κs = search needs

@@ -46,14 +46,16 @@ returns-4 c = search needs
 
 locate-requires : tie.Need-locate-requires
 locate-requires c κs =
-    let at-are-words = c .before .before .before in
+    let at-is-reference = c .before in
+    let at-before = at-is-reference .before in
+    let at-are-words = at-before .before in
     let at-if2 = at-are-words .before .before in
     let at-keeps-section = at-if2 .before in
     let at-if1 = at-keeps-section .before in
     let at-fits2 = at-if1 .before in
     let start = at-fits2 .before .before .before .before .before .before in
-    let readable = tested-readable _ _ _ _ _ (sym (at-fits2 .fits2 .ensures) ∙ not-false _ (at-if1 .if1 .left)) (sym (at-keeps-section .keeps-section .ensures) ∙ not-false _ (at-if2 .if2 .left)) (start .pre) (sym (at-are-words .are-words .ensures) ∙ not-false _ (c .before .before .if3 .left)) in
-    (readable, sym (c .before .is-reference .ensures) ∙ not-false _ (c .if4 .left))
+    let readable = tested-readable _ _ _ _ _ (sym (at-fits2 .fits2 .ensures) ∙ not-false _ (at-if1 .if1 .left)) (sym (at-keeps-section .keeps-section .ensures) ∙ not-false _ (at-if2 .if2 .left)) (start .pre) (sym (at-are-words .are-words .ensures) ∙ not-false _ (at-before .if3 .left)) in
+    (readable, sym (at-is-reference .is-reference .ensures) ∙ not-false _ (c .if4 .left))
 
 enum-known-why : tie.Need-enum-known-why
 enum-known-why c = search needs
@@ -69,7 +71,9 @@ folded-requires c κs = search needs
 
 contents-requires : tie.Need-contents-requires
 contents-requires c κs =
-    let at-locate = c .before .before .before .before in
+    let at-at = c .before .before in
+    let at-before = at-at .before in
+    let at-locate = at-before .before in
     let at-if4 = at-locate .before in
     let at-is-reference = at-if4 .before in
     let at-if3 = at-is-reference .before in
@@ -80,7 +84,7 @@ contents-requires c κs =
     let at-fits2 = at-if1 .before in
     let start = at-fits2 .before .before .before .before .before .before in
     let readable = tested-readable _ _ _ _ _ (sym (at-fits2 .fits2 .ensures) ∙ not-false _ (at-if1 .if1 .left)) (sym (at-keeps-section .keeps-section .ensures) ∙ not-false _ (at-if2 .if2 .left)) (start .pre) (sym (at-are-words .are-words .ensures) ∙ not-false _ (at-if3 .if3 .left)) in
-    (omega arith, locate-reached _ _ readable _ (sym (at-is-reference .is-reference .ensures) ∙ not-false _ (at-if4 .if4 .left)) _ (at-is _ (at-locate .locate .ensures) (c .before .before .at .given .1)))
+    (omega arith, locate-reached _ _ readable _ (sym (at-is-reference .is-reference .ensures) ∙ not-false _ (at-if4 .if4 .left)) _ (at-is _ (at-locate .locate .ensures) (at-at .at .given .1)))
 
 fold-requires : tie.Need-fold-requires
 fold-requires c κs = search needs

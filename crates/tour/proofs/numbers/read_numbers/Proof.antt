@@ -41,11 +41,12 @@ loop-less c = search needs
 
 loop-again : tie.Need-loop-again Inv-loop μ-loop
 loop-again c =
-    let at-loop = c .before .before in
+    let at-before = c .before in
+    let at-loop = at-before .before in
     let entry = at-loop .before .before .before in
     let p = at-loop .loop .inv .1 in
-    let one = put-one (at-loop .loop .left) (c .number-at .result) (at-loop .loop .table) (c .before .loop-test .taken) (omega (arith, kept p)) in
-    (omega arith, rw (from-next (entry .args .bytes .now) (entry .args .n) (at-loop .loop .left) (c .before .loop-test .taken) (at-loop .loop .inv .0)) (more p (_ ∷ []) (omega arith) (one ∙ ap (λ (v : ℕ). putBefore (at-loop .loop .left) (v ∷ []) (at-loop .loop .table)) (c .number-at .ensures))))
+    let one = put-one (at-loop .loop .left) (c .number-at .result) (at-loop .loop .table) (at-before .loop-test .taken) (omega (arith, kept p)) in
+    (omega arith, rw (from-next (entry .args .bytes .now) (entry .args .n) (at-loop .loop .left) (at-before .loop-test .taken) (at-loop .loop .inv .0)) (more p (_ ∷ []) (omega arith) (one ∙ ap (λ (v : ℕ). putBefore (at-loop .loop .left) (v ∷ []) (at-loop .loop .table)) (c .number-at .ensures))))
 
 same-length : tie.Need-same-length Inv-loop μ-loop
 same-length c = kept (c .before .loop .inv .1)
