@@ -8,6 +8,7 @@ use native.Mathlib.Omega.{arith}
 use lib.Dec.{ltb}
 use lib.ListN.{length, getD, take, drop}
 use borrow.Author.Tests.{lt-ltb, le-ltb}
+use Rattle.word.proofs.Pred.{one-less}
 use Rattle.buddy.specs.declared.Found.{Found}
 use Rattle.buddy.specs.declared.Found.the-variants.{At, Nothing}
 use Rattle.block.specs.Blocks.{size, Tree, Free, Live, Halves, delivered}
@@ -15,7 +16,7 @@ use Rattle.block.specs.Map.{freeTag, liveTag, written, canonical}
 use Rattle.buddy.specs.Lowest.{orElse, lowestIn}
 use Rattle.word.proofs.Tests.{by-leb}
 use Rattle.block.proofs.Size.{size-pos, size-suc}
-use Rattle.buddy.proofs.Halves.{one-less, low-part, low-changed, high-part, high-changed}
+use Rattle.buddy.proofs.Halves.{low-part, low-changed, high-part, high-changed}
 use Rattle.buddy.proofs.Tags.{first-free, written-halves, Halved, halved-tree}
 use Rattle.buddy.proofs.Lowest.{lowestOf, not-found, lowest-live, lowest-small, lowest-large}
 

@@ -1,25 +1,16 @@
 -- Blocks and their halves as the code meets them: the size before, half of a length, and a list as its two halves. Assumes nothing.
-use mathlib.Core.Path.{_≡_, sym, ap, subst, _∙_}
+use mathlib.Core.Path.{_≡_, ap, _∙_}
 use mathlib.Core.Bool.{cond}
 use mathlib.Core.List.{List, [], _++_, append-nil}
-use Prim.Native.Nat.{ℕ, zero, suc, _+_, _-_, _*_, _/_, _≤_, _<_}
-use native.Mathlib.Numerals.{sub-one}
+use Prim.Native.Nat.{ℕ, suc, _+_, _-_, _/_, _≤_, _<_}
 use native.Mathlib.Omega.{arith}
 use lib.Dec.{ltb}
 use lib.ListN.{length, take, drop, length-drop, drop-of-length-le}
 use lib.Seq.{take-all, length-take-le}
+use Rattle.word.proofs.Pred.{one-less}
 use Rattle.block.specs.Blocks.{size}
 use Rattle.word.proofs.Tests.{by-leb}
 use Rattle.block.proofs.Size.{size-suc}
-
--- what holds of each number and the one before it holds of a positive number and one less
-pub one-less : (P : ℕ → ℕ → Type 0) → ((j : ℕ) → P (suc j) j) → (k : ℕ) → 0 < k → P k (k - 1)
-one-less P f zero h = absurd (omega arith)
-one-less P f (suc j) h = subst (λ (i : ℕ). P (suc j) i) (sym (sub-one (suc j))) (f j)
-
--- so many times n is n more than one time less
-pub times-pred : (n left : ℕ) → 0 < left → left * n ≡ (left - 1) * n + n
-times-pred n = one-less (λ left less. left * n ≡ less * n + n) (λ less. omega arith)
 
 -- a block is two of the size before
 pub size-pred : (k : ℕ) → 0 < k → size k ≡ size (k - 1) + size (k - 1)

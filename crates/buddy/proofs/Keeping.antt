@@ -7,6 +7,7 @@ use Prim.Native.Nat.{ℕ, zero, suc, _+_, _-_, _*_, _/_, _<_}
 use native.Mathlib.Omega.{arith}
 use lib.ListN.{length, take, drop, replicate}
 use lib.Seq.{drop-drop}
+use Rattle.word.proofs.Pred.{one-less}
 use Rattle.block.specs.declared.SetUp.{SetUp}
 use Rattle.buddy.specs.declared.Part.the-variants as tells
 use Rattle.block.specs.Blocks.{size}
@@ -15,7 +16,6 @@ use Rattle.block.specs.Map.{written, told, isFree, canonical, same, allWritten,
 use Rattle.buddy.specs.Part.{part, whole, allWhole}
 use Rattle.block.proofs.Map.{length-written}
 use Rattle.buddy.proofs.Parts.{same-append, and-assoc}
-use Rattle.buddy.proofs.Halves.{one-less}
 
 whole-cond : (b c : Bool) → whole (cond b (cond c tells.Free tells.Taken) tells.Broken) ≡ b
 unfolding whole

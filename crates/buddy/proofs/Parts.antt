@@ -7,13 +7,14 @@ use native.Mathlib.Omega.{arith}
 use lib.Dec.{eqb}
 use lib.ListN.{length, getD, take, drop, replicate}
 use borrow.Author.Tests.{eq-eqb, ne-eqb}
+use Rattle.word.proofs.Pred.{one-less}
 use Rattle.buddy.specs.declared.Part.the-variants as tells
 use Rattle.block.specs.Blocks.{size, Tree, Free, Live}
 use Rattle.block.specs.Map.{freeTag, liveTag, written, told, isFree, canonical, same}
 use Rattle.buddy.specs.Part.{part, both, leaf}
 use Rattle.block.proofs.Size.{size-pos}
 use Rattle.block.proofs.Map.{told-step, halved, length-written}
-use Rattle.buddy.proofs.Halves.{one-less, half-size, upper}
+use Rattle.buddy.proofs.Halves.{half-size, upper}
 
 -- the part of a tree that the bytes tell
 part-told : (k : ℕ) (m : List ℕ) {t : Tree} → told k m ≡ t

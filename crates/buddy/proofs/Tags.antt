@@ -8,12 +8,13 @@ use lib.Dec.{ltb}
 use lib.ListN.{length, getD, take, drop, set, replicate, length-replicate, replicate-append-replicate}
 use lib.Seq.{take-at, drop-at, set-at, getD-append-add}
 use borrow.Author.Tests.{lt-ltb, le-ltb, le-leb, lt-leb}
+use Rattle.word.proofs.Pred.{one-less}
 use Rattle.block.specs.Blocks.{size, Tree, Free, Live, Halves, joined, freed, delivered}
 use Rattle.block.specs.Map.{freeTag, liveTag, written, canonical}
 use Rattle.block.proofs.Size.{size-pos, size-suc}
 use Rattle.block.proofs.Map.{length-written, first-append, first-le, canonical-halves}
 use Rattle.word.proofs.Tests.{by-leb}
-use Rattle.buddy.proofs.Halves.{one-less, low-part, low-changed, high-part, high-changed}
+use Rattle.buddy.proofs.Halves.{low-part, low-changed, high-part, high-changed}
 
 -- halves begin with a smaller byte than the tags
 pub halves-first : (k : ℕ) (l r : Tree) → getD (written k (Halves l r)) 0 0 < freeTag k

@@ -1,7 +1,7 @@
 -- Laws of digits and characters: a number from its digits and back, that a conversion from binary and back gives the value, also by way of
 -- leading blanks, and how large each result is. Assumes nothing.
 use mathlib.Core.Path.{_≡_, refl, sym, ap, ap₂, _∙_}
-use mathlib.Core.Bool.{Bool, true, false, _&&_, cond}
+use mathlib.Core.Bool.{Bool, true, false, cond}
 use mathlib.Core.List.{List, [], _∷_}
 use mathlib.Core.Option.{none, some}
 use Prim.Native.Nat.{ℕ, zero, suc, _+_, _*_, _/_, _%_, _^_, _≤_, _<_, min}
@@ -11,12 +11,8 @@ use lib.Arith.{digits-div, digits-mod, mod-mul}
 use lib.Dec.{eqb, ltb}
 use lib.ListN.{length}
 use borrow.Author.Tests.{ltb-true, lt-ltb, eqb-true, eq-eqb, ne-eqb}
+use Rattle.word.proofs.Tests.{and-true}
 use Rattle.character.specs.Character.{digits, number, characters, packed, holds, blank, leading, allBelow, printed, blanksToZeros, toBinary, fromBinary, zerosToBlanks}
-
--- both tests of a conjunction that holds
-and-true : (s t : Bool) → (s && t) ≡ true → (s ≡ true) × (t ≡ true)
-and-true true t e = (refl, e)
-and-true false t e = (e, cc)
 
 module _ (base : ℕ) where
   -- the first of digits is below the base, and so are the others

@@ -1,14 +1,15 @@
 -- An action that was planned for a sound engine can be carried out, and none of its stores goes to a field at address zero.
 -- Assumes nothing.
-use Prim.Native.Nat.{ℕ, _+_, _-_, _%_, _≤_, _<_}
+use Prim.Native.Nat.{ℕ, _+_, _-_, _≤_, _<_}
 use native.Mathlib.Omega.{arith}
 use mathlib.Core.Bool.{true, not, cond}
 use mathlib.Core.List.{List, List·Memᴰ, List·Memᴰ·head}
 use mathlib.Core.Logic.{_⊎_}
 use mathlib.Core.Path.{_≡_, refl, sym, subst}
 use borrow.Author.Tests.{ltb-true, leb-true}
-use lib.Dec.{eqb, ltb, leb}
+use lib.Dec.{eqb, ltb}
 use lib.ListN.{length, getD}
+use Rattle.machine.proofs.Places.{rows-few}
 use Rattle.word.proofs.Tests.{by-leb, by-eqb}
 use Rattle.block.specs.declared.SetUp.{SetUp}
 use Rattle.block.specs.Blocks.{size, level, sizeAt}
@@ -19,7 +20,7 @@ use Rattle.block.proofs.Runs.{runs-sound, outside-mem}
 use Rattle.table.specs.declared.Pair.{Pair}
 use Rattle.table.specs.declared.Row.{Row}
 use Rattle.table.specs.Reference.{isReference}
-use Rattle.table.specs.Row.{lengthFits, rows, rowAt, goTo, done}
+use Rattle.table.specs.Row.{lengthFits, rowAt, goTo, done}
 use Rattle.table.specs.Table.{usable}
 use Rattle.machine.specs.declared.Location.{Location}
 use Rattle.machine.specs.declared.Location.the-variants.{Bug, Field}
@@ -30,7 +31,7 @@ use Rattle.machine.specs.Sound.{Lent, Engine, sound}
 use Rattle.machine.specs.Locate.{World, Value, world, liveBlocks, contents, read, locate}
 use Rattle.machine.specs.Operations.{asked, lowestRun}
 use Rattle.machine.specs.Step.{nextLine}
-use Rattle.machine.proofs.Checks.{and-parts, nonzero, need-passed, bind-passed, passed-same}
+use Rattle.machine.proofs.Checks.{nonzero, need-passed, bind-passed, passed-same}
 use Rattle.machine.proofs.Facts.{Facts}
 use Rattle.machine.proofs.Located.{located}
 use Rattle.machine.proofs.Live.{live-lies, live-size}
@@ -75,13 +76,6 @@ ground l e =
 pub record Able (b : ℕ) (l : Lent) (e : Engine) (x : Action) : Type 0 where
   pub feasible : Feasible b (ground l e) x
   pub sure : Sure x
-
--- a table has 800 rows at most
-rows-few : (table : List ℕ) → lengthFits table ≡ true → rows table ≤ 800
-unfolding lengthFits rows
-rows-few table k =
-    let short = leb-true (length table) 8000 (and-parts (leb 20 (length table)) _ (and-parts _ (eqb (length table % 10) 0) k .0) .1) in
-    omega arith
 
 module _ (b : ℕ) (l : Lent) (e : Engine) (h : Facts b e) (ready : Ready b (sight l e)) where
   abbrev u : SetUp

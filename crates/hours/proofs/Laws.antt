@@ -7,6 +7,7 @@ use mathlib.Core.Path.{_≡_, refl, sym, ap, _∙_}
 use borrow.Author.Tests.{eqb-true, le-leb, lt-ltb, le-ltb}
 use lib.Dec.{eqb, leb}
 use lib.ListN.{length}
+use Rattle.word.proofs.Tests.{and-true, and-false}
 use Rattle.hours.specs.declared.Entry.{Entry}
 use Rattle.hours.specs.declared.Opening.the-variants.{Closed}
 use Rattle.hours.specs.Hours.{weekday, window, exception, entries, hasHours, hasZeros, hasName, keeps, allKeep, holds}
@@ -19,15 +20,6 @@ first-days = (refl, refl)
 
 pub week-later : (day : ℕ) → weekday (day + 7) ≡ weekday day
 week-later day = omega arith
-
--- both tests of a conjunction that holds
-pub and-true : (s t : Bool) → (s && t) ≡ true → (s ≡ true) × (t ≡ true)
-and-true true t e = (refl, e)
-and-true false t e = (e, cc)
-
-and-false : (s : Bool) → (s && false) ≡ false
-and-false true = refl
-and-false false = refl
 
 module _ (e : Entry) where
   -- the opening minute is open, the closing minute is closed

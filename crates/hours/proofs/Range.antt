@@ -7,11 +7,12 @@ use mathlib.Core.Path.{_≡_, refl}
 use borrow.Author.Tests.{eqb-true, leb-true}
 use lib.Dec.{eqb, leb, ltb}
 use lib.ListN.{length}
+use Rattle.word.proofs.Tests.{and-true}
 use Rattle.hours.specs.declared.Entry.{Entry}
 use Rattle.hours.specs.declared.Opening.the-variants.{Row, Refused}
 use Rattle.hours.specs.Hours.{weekday, window, exception, entries, hasHours, hasZeros, keeps, allKeep, holds}
 use Rattle.hours.specs.Hours.{anyNames, naming, counting, firstHolding, listKeeps, accepts, openAt}
-use Rattle.hours.proofs.Laws.{and-true, kept, closed-never-holds}
+use Rattle.hours.proofs.Laws.{kept, closed-never-holds}
 
 module _ (n : ℕ) (e : Entry) (so : keeps n e ≡ true) where
   -- an entry that holds a minute is not closed

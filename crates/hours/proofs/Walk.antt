@@ -7,6 +7,7 @@ use mathlib.Core.List.{List, [], _∷_}
 use mathlib.Core.Path.{_≡_, refl, sym, ap, _∙_}
 use lib.ListN.{length, take, drop}
 use lib.Seq.{drop-drop}
+use Rattle.word.proofs.Pred.{times-pred}
 use Rattle.hours.specs.declared.Entry.{Entry}
 use Rattle.hours.specs.Hours.{entryOf, entriesOf, entries}
 
@@ -14,11 +15,6 @@ use Rattle.hours.specs.Hours.{entryOf, entriesOf, entries}
 pub record Walk {A : Type 0} (f : List Entry → A) (n : ℕ) (list : List ℕ) (at left : ℕ) : Type 0 where
   pub fits : at + left * n ≤ length list
   pub same : f (entries n list) ≡ f (entriesOf n left (drop at list))
-
--- so many times n is n more than one time less
-times-pred : (n left : ℕ) → 0 < left → left * n ≡ (left - 1) * n + n
-times-pred n zero h = absurd (omega arith)
-times-pred n (suc left) h = omega (arith, ap (λ (m : ℕ). m * n) (sub-one (suc left)))
 
 entries-pred : (n left : ℕ) (xs : List ℕ) → 0 < left → entriesOf n left xs ≡ entryOf (take n xs) ∷ entriesOf n (left - 1) (drop n xs)
 unfolding entriesOf

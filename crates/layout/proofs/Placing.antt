@@ -3,8 +3,8 @@ use Prim.Native.Nat.{ℕ, _+_, _*_, _%_, _≤_, _<_}
 use native.Mathlib.Nat.{zero-add}
 use native.Mathlib.Numerals.{add-one}
 use native.Mathlib.Omega.{arith}
-use mathlib.Core.List.{List, [], _∷_, _++_, append-assoc}
-use mathlib.Core.Path.{_≡_, refl, sym, ap, _∙_}
+use mathlib.Core.List.{List, [], _∷_, _++_, append-assoc, append-nil}
+use mathlib.Core.Path.{_≡_, sym, ap, _∙_}
 use lib.ListN.{length, take, drop, set, length-append}
 use lib.Seq.{length-take-le, take-at, drop-append-add, drop-drop, drop-length, set-split}
 use Rattle.octets.specs.Octets.{bytesOf}
@@ -61,11 +61,7 @@ module _ {at : ℕ} {xs t now : List ℕ} (so-far : Put at xs t now) where
 -- a buffer that is placed whole
 pub whole : (xs t : List ℕ) → length xs ≡ length t → placed 0 xs t ≡ xs
 unfolding placed
-whole xs t h = ap (λ (n : ℕ). xs ++ drop n t) (zero-add (length xs) ∙ h) ∙ ap (λ (b : List ℕ). xs ++ b) (drop-length t) ∙ nothing-after xs
-  where
-    nothing-after : (l : List ℕ) → l ++ [] ≡ l
-    nothing-after [] = refl
-    nothing-after (x ∷ l) = ap (λ (b : List ℕ). x ∷ b) (nothing-after l)
+whole xs t h = ap (λ (n : ℕ). xs ++ drop n t) (zero-add (length xs) ∙ h) ∙ ap (λ (b : List ℕ). xs ++ b) (drop-length t) ∙ append-nil xs
 
 -- one number
 pub one : (at x : ℕ) (t : List ℕ) → at < length t → set t at x ≡ placed at (x ∷ []) t

@@ -4,7 +4,7 @@ use Prim.Native.Nat.{ℕ, zero, suc, _+_, _*_, _≤_, _<_}
 use native.Mathlib.Nat.{mul-zero, mul-suc, mul-le-mul-left}
 use native.Mathlib.Numerals.{add-one}
 use native.Mathlib.Omega.{arith}
-use mathlib.Core.List.{List, [], _∷_, _++_, append-assoc}
+use mathlib.Core.List.{List, [], _∷_, _++_, append-assoc, append-nil}
 use mathlib.Core.Path.{_≡_, refl, sym, ap, _∙_}
 use borrow.Author.Count.{below-more}
 use lib.ListN.{length, take, drop, set, getD, length-append, length-set}
@@ -67,11 +67,7 @@ module _ {A : Type 0} (put : A → List ℕ) (none : A) where
       → bytesOfAll put (take (suc i) xs) ≡ bytesOfAll put (take i xs) ++ put (getD xs i none)
   unfolding bytesOfAll
   all-next [] i h = absurd (omega arith)
-  all-next (x ∷ xs) zero h = nothing-after (put x)
-    where
-      nothing-after : (l : List ℕ) → l ++ [] ≡ l
-      nothing-after [] = refl
-      nothing-after (y ∷ l) = ap (λ (b : List ℕ). y ∷ b) (nothing-after l)
+  all-next (x ∷ xs) zero h = append-nil (put x)
   all-next (x ∷ xs) (suc i) h =
       ap (λ (b : List ℕ). put x ++ b) (all-next xs i (omega arith)) ∙ sym (append-assoc (put x) (bytesOfAll put (take i xs)) (put (getD xs i none)))
 

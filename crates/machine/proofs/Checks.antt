@@ -15,10 +15,6 @@ pub clash : {P : Type 0} → _≡_ {A = Bool} false true → P
 clash e = let never : _≡_ {A = ℕ} 0 1 = cc in absurd (omega arith)
 
 -- both tests of && pass
-pub and-parts : (x y : Bool) → (x && y) ≡ true → (x ≡ true) × (y ≡ true)
-and-parts true y h = (refl, h)
-and-parts false y h = clash h
-
 pub and-true : {x y : Bool} → x ≡ true → y ≡ true → (x && y) ≡ true
 and-true {x} {y} h k = rw (h, k)
 

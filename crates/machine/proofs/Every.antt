@@ -11,9 +11,10 @@ use borrow.Author.Tests.{le-leb, lt-leb}
 use lib.Dec.{ltb}
 use lib.ListN.{length, getD, set, take, drop, replicate, drop-of-length-le}
 use lib.Seq.{drop-nil, drop-cons, getD-take, length-take-le}
+use Rattle.word.proofs.Tests.{and-true as and-parts}
 use Rattle.machine.specs.Sound.{every, soundStack}
 use Rattle.machine.specs.Storage.{placed}
-use Rattle.machine.proofs.Checks.{and-parts, and-true}
+use Rattle.machine.proofs.Checks.{and-true}
 
 -- being a word below a bound, as a test
 abbrev pub below : ℕ → ℕ → Bool

@@ -9,6 +9,7 @@ use mathlib.Core.Path.{_≡_}
 use borrow.Author.Tests.{lt-ltb, le-leb, leb-true}
 use lib.ListN.{length, getD, set, take}
 use lib.Pow.{pow-pos}
+use Rattle.word.proofs.Tests.{and-true as and-parts}
 use Rattle.block.specs.declared.SetUp.{SetUp}
 use Rattle.block.specs.SetUp.{words, fitting, absent}
 use Rattle.block.specs.Map.{keeps}
@@ -25,7 +26,7 @@ use Rattle.machine.specs.declared.Location.the-variants.{Bug, Field}
 use Rattle.machine.specs.State.{movedTo, withBug, withDefinition, withContents, withSaved, withCalls, withSetUp, withTaken, withWritten}
 use Rattle.machine.specs.Sound.{Engine, every, isPlace, isDefinition, soundPlace, soundStack, soundStacks, soundCore, soundStorage, soundEngine}
 use Rattle.machine.specs.Effects.{assigned}
-use Rattle.machine.proofs.Checks.{and-parts, and-true}
+use Rattle.machine.proofs.Checks.{and-true}
 use Rattle.machine.proofs.Every.{below, every-set, every-push, every-fewer, every-at}
 
 -- a stack has at most 128 entries, and each used one passes a test

@@ -8,6 +8,7 @@ use mathlib.Core.Path.{_≡_, refl, subst, sym}
 use borrow.Author.Tests.{lt-ltb, ltb-true}
 use lib.Dec.{eqb, ltb, leb}
 use lib.Pow.{pow-pos}
+use Rattle.word.proofs.Tests.{and-true as and-parts}
 use Rattle.word.specs.Field.{kept, width}
 use Rattle.word.proofs.Field.{field-word, kept-kept}
 use Rattle.block.specs.Blocks.{Block, sizeAt}
@@ -25,7 +26,7 @@ use Rattle.machine.specs.Storage.{noStore}
 use Rattle.machine.specs.Sound.{Engine, every, isDefinition, inRange}
 use Rattle.machine.specs.Locate.{World, world, liveBlocks, definitionOf, contentsOf, contents, linkBy, link, follow, locate}
 use Rattle.machine.specs.Effects.{storeTo}
-use Rattle.machine.proofs.Checks.{and-parts, nonzero, need-passed, bind-passed, passed-same}
+use Rattle.machine.proofs.Checks.{nonzero, need-passed, bind-passed, passed-same}
 use Rattle.machine.proofs.Every.{below, every-getD}
 use Rattle.machine.proofs.Facts.{CoreFacts}
 

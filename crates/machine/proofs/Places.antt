@@ -9,6 +9,7 @@ use mathlib.Core.Path.{_≡_, refl, sym, _∙_}
 use borrow.Author.Tests.{ltb-true, leb-true, le-leb, eqb-true, eqb-false, eq-eqb}
 use lib.Dec.{eqb, leb, ltb}
 use lib.ListN.{length, take}
+use Rattle.word.proofs.Tests.{and-true as and-parts}
 use Rattle.table.specs.declared.Row.{Row}
 use Rattle.table.specs.Row.{lengthFits, rows, rowAt, firstTest, firstOperation, goTo, done}
 use Rattle.table.specs.Operands.{shapes, takes, isLiteral}
@@ -17,7 +18,7 @@ use Rattle.machine.specs.declared.Place.{Place}
 use Rattle.machine.specs.State.{testsOf, operationAt, exitOf, theEnd, isFinished}
 use Rattle.machine.specs.Sound.{every, isRow, isPlace, soundPlace}
 use Rattle.machine.specs.Step.{nextLine, operationOrExit}
-use Rattle.machine.proofs.Checks.{and-parts, and-true, or-parts, clash}
+use Rattle.machine.proofs.Checks.{and-true, or-parts, clash}
 use Rattle.machine.proofs.Every.{every-none, every-cons, every-parts}
 use Rattle.machine.proofs.Facts.{StackFacts}
 
@@ -91,7 +92,7 @@ stack-sound count entries h = record { few = h .few; used = weaken (take count e
         every-cons soundPlace p ps (place-sound p (every-parts isPlace p ps k .0)) (weaken ps (every-parts isPlace p ps k .1))
 
 -- a table has at most 800 rows
-rows-few : (table : List ℕ) → lengthFits table ≡ true → rows table ≤ 800
+pub rows-few : (table : List ℕ) → lengthFits table ≡ true → rows table ≤ 800
 unfolding lengthFits rows
 rows-few table h =
     let few = leb-true (length table) 8000 (and-parts (leb 20 (length table)) (leb (length table) 8000) (and-parts _ (eqb (length table % 10) 0) h .0) .1) in

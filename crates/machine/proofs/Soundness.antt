@@ -7,12 +7,13 @@ use mathlib.Core.Path.{_≡_, subst, sym}
 use borrow.Author.Tests.{leb-true, le-leb}
 use lib.Dec.{leb}
 use lib.ListN.{length}
+use Rattle.word.proofs.Tests.{and-true as and-parts}
 use Rattle.machine.specs.Answer.{isRunning}
 use Rattle.machine.specs.Storage.{placed}
 use Rattle.machine.specs.Sound.{Lent, Engine, sound, soundEngine}
 use Rattle.machine.specs.Effects.{engineAfter}
 use Rattle.machine.specs.Step.{Outcome, RunOutcome, unchanged, carriedOut, step, engineOf, ending, runFrom, engineRan}
-use Rattle.machine.proofs.Checks.{and-parts, and-true}
+use Rattle.machine.proofs.Checks.{and-true}
 use Rattle.machine.proofs.Placed.{length-placed}
 use Rattle.machine.proofs.Facts.{facts-sound}
 use Rattle.machine.proofs.Plan.{planned}

@@ -8,6 +8,7 @@ use lib.Dec.{leb}
 use lib.ListN.{length}
 use mathlib.Core.List.{List·Memᴰ}
 use mathlib.Core.Path.{_≡_, refl, subst, sym, ap, _∙_}
+use Rattle.word.proofs.Tests.{and-true as and-parts}
 use Rattle.block.specs.SetUp.{runs}
 use Rattle.machine.specs.declared.Answer.{Answer}
 use Rattle.machine.specs.declared.Answer.the-variants.{Running, Finished, Refused}
@@ -21,7 +22,6 @@ use Rattle.machine.specs.Sound.{Lent, Engine, sound, soundEngine}
 use Rattle.machine.specs.Locate.{liveBlocks}
 use Rattle.machine.specs.Effects.{Effects}
 use Rattle.machine.specs.Step.{Outcome, plan, unchanged, carriedOut, outcome, step}
-use Rattle.machine.proofs.Checks.{and-parts}
 use Rattle.machine.proofs.Facts.{Facts, sound-facts}
 use Rattle.machine.proofs.Moves.{Moves, still, frees, delivers}
 use Rattle.machine.proofs.Plan.{Planned, settingUp, moving, planned}

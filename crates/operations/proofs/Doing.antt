@@ -7,6 +7,7 @@ use mathlib.Core.Path.{_≡_, refl, sym, ap, ap₂, subst, _∙_}
 use borrow.Author.Tests.{eq-eqb, ne-eqb, lt-leb, le-leb, lt-ltb, le-ltb, leb-true, ltb-true, ltb-false}
 use lib.Dec.{eqb, leb, ltb}
 use lib.ListN.{length, getD, take, drop, replicate}
+use Rattle.word.proofs.Tests.{and-true as and-parts}
 use Rattle.character.specs.Character.{packed, allBelow}
 use Rattle.character.specs.declared.Packed.{Packed}
 use Rattle.character.specs.declared.Packed.the-variants as packs
@@ -33,7 +34,7 @@ use Rattle.machine.specs.Answer.{Checked, refused, passed, _>>=_, _>>_, need}
 use Rattle.machine.specs.Locate.{World, Value, contents, widthOf, read, locate}
 use Rattle.machine.specs.Operations.{firstRun, lowestRun, liesIn, foundCharacters, bytesTaken}
 use Rattle.machine.proofs.Blocks.{one-of-runs}
-use Rattle.machine.proofs.Checks.{and-parts, need-yes, need-no, bind-yes, bind-no, cond-yes, cond-no}
+use Rattle.machine.proofs.Checks.{need-yes, need-no, bind-yes, bind-no, cond-yes, cond-no}
 use Rattle.machine.proofs.Keeps.{run-fits}
 use Rattle.operands.specs.declared.Linked.{Linked}
 use Rattle.operands.specs.declared.Linked.the-variants as links

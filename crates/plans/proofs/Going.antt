@@ -8,6 +8,7 @@ use mathlib.Core.Path.{_≡_, refl}
 use borrow.Author.Tests.{eq-eqb, ne-eqb, leb-true}
 use lib.Dec.{eqb, leb}
 use lib.ListN.{length}
+use Rattle.word.proofs.Tests.{and-true as and-parts}
 use Rattle.table.specs.declared.Row.{Row}
 use Rattle.table.specs.Row.{lengthFits, rows, rowAt}
 use Rattle.table.specs.Table.{usable}
@@ -15,7 +16,6 @@ use Rattle.machine.specs.declared.Place.{Place}
 use Rattle.machine.specs.State.{testsOf, operationAt, exitOf, theEnd}
 use Rattle.machine.specs.Sound.{isRow}
 use Rattle.machine.specs.Step.{nextLine, operationOrExit}
-use Rattle.machine.proofs.Checks.{and-parts}
 use Rattle.machine.proofs.Places.{RowOrNone, next-row, line-operation, line-goes}
 
 module _ (n : ℕ) where

@@ -8,12 +8,13 @@ use mathlib.Core.Path.{_≡_, refl, sym, ap, subst, _∙_}
 use borrow.Author.Tests.{eqb-true, eqb-false, eq-eqb, ne-eqb, lt-ltb, le-ltb}
 use lib.Dec.{eqb, ltb}
 use lib.ListN.{length}
+use Rattle.word.proofs.Tests.{and-true as and-parts}
 use Rattle.table.specs.declared.Row.{Row}
 use Rattle.table.specs.declared.TableCheck.{TableCheck}
 use Rattle.table.specs.declared.TableCheck.the-variants.{Lowest, BadLength}
 use Rattle.table.specs.Row.{lengthFits, rows, rowAt}
 use Rattle.table.specs.Table.{wellFormedAs, wellFormed, chained, shaped, usable, lowestFrom, checked}
-use Rattle.machine.proofs.Checks.{and-parts, or-parts}
+use Rattle.machine.proofs.Checks.{or-parts}
 
 -- a table that is checked, with no ill-formed row
 abbrev Fine : ℕ → List ℕ → ℕ → Type 0

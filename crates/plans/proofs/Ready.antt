@@ -5,8 +5,8 @@ use mathlib.Core.Path.{_≡_}
 use borrow.Author.Tests.{leb-true}
 use lib.Dec.{leb}
 use lib.ListN.{length}
+use Rattle.word.proofs.Tests.{and-true as and-parts}
 use Rattle.machine.specs.Sound.{Lent, Engine, soundEngine, sound}
-use Rattle.machine.proofs.Checks.{and-parts}
 use Rattle.machine.proofs.Facts.{sound-facts}
 use Rattle.operands.proofs.Readable.{sound-readable}
 use Rattle.operations.specs.Seen.{sight, Ready}

@@ -8,13 +8,14 @@ use mathlib.Core.Path.{_≡_, refl, sym, subst, _∙_}
 use borrow.Author.Tests.{eqb-true, eqb-false, ltb-true, leb-true, eq-eqb, ne-eqb}
 use lib.Dec.{eqb, ltb, leb}
 use lib.ListN.{length}
+use Rattle.word.proofs.Tests.{and-true as and-parts}
 use Rattle.table.specs.declared.Pair.{Pair}
 use Rattle.table.specs.declared.Row.{Row}
 use Rattle.table.specs.Reference.{isReference}
 use Rattle.table.specs.Operands.{takes, isLiteral, isRef, isZero, testShape}
 use Rattle.table.specs.Row.{rows, rowAt}
 use Rattle.table.specs.Table.{usable, wellFormedAs, chained, shaped, isTest, fits, fitPairs}
-use Rattle.machine.proofs.Checks.{and-parts, or-parts}
+use Rattle.machine.proofs.Checks.{or-parts}
 use Rattle.operands.specs.Reading.{Taken}
 
 -- a usable row is there, is chained, and its numbers are those of its kind

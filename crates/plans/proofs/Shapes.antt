@@ -8,6 +8,7 @@ use mathlib.Core.Path.{_≡_, refl, sym, subst}
 use borrow.Author.Tests.{eqb-true, eqb-false, leb-true, ltb-true, lt-ltb, le-ltb, eq-eqb, ne-eqb}
 use lib.Dec.{eqb, ltb, leb}
 use lib.Pow.{pow-pos}
+use Rattle.word.proofs.Tests.{and-true as and-parts}
 use Rattle.table.specs.declared.Operand.{Operand}
 use Rattle.table.specs.declared.Operand.the-variants.{Absent, Literal, Reference, Either, ReferenceOrAbsent, ReferenceOrZero, Line}
 use Rattle.table.specs.declared.Shape.{Shape}
@@ -17,7 +18,7 @@ use Rattle.table.specs.Reference.{isReference}
 use Rattle.table.specs.Operands.{takes, isAbsent, isRef, isZero, isLiteral, shapes}
 use Rattle.table.specs.Row.{rows, rowAt}
 use Rattle.table.specs.Table.{usable, shaped, isOperation, shapeOf, fits, fitPairs, largestName}
-use Rattle.machine.proofs.Checks.{and-parts, or-parts, clash}
+use Rattle.machine.proofs.Checks.{or-parts, clash}
 use Rattle.operands.specs.Reading.{Taken}
 use Rattle.operations.specs.Plans.{Acts}
 use Rattle.plans.specs.Rows.{Stacked, Two, Three, Operates}

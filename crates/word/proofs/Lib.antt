@@ -1,5 +1,6 @@
 -- The laws of words and fields that the crates above cite.
 pub mod Tests
+pub mod Pred
 pub mod Field
 pub mod Modulo
 pub mod Bitwise

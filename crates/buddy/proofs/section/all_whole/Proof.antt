@@ -4,8 +4,9 @@ use mathlib.Core.Bool.{Bool, _&&_}
 use Prim.Native.Nat.{ℕ, _+_, _-_, _*_, _≤_}
 use native.Mathlib.Omega.{arith}
 use lib.ListN.{length, drop}
+use Rattle.word.proofs.Pred.{times-pred}
 use Rattle.buddy.specs.Part.{whole, allWhole}
-use Rattle.buddy.proofs.Halves.{times-pred, part-length}
+use Rattle.buddy.proofs.Halves.{part-length}
 use Rattle.buddy.proofs.Keeping.{whole-next, whole-end}
 use Rattle.buddy.proofs.section.all_whole.Statement.{statement}
 use Rattle.buddy.proofs.section.all_whole.Tie as tie
