@@ -1,6 +1,6 @@
 -- The calls by their checks. Assumes nothing.
 use Prim.Native.Nat.{ℕ, _+_, _*_, _/_, _%_, _≤_, _<_}
-use native.Mathlib.Nat.{div-add-mod', mul-div-cancel-left, mul-mod-right}
+use native.Mathlib.Nat.{div-add-mod', mul-div-cancel-left, mul-mod-right, div-lt-iff-lt-mul, le-div-iff-mul-le}
 use native.Mathlib.Omega.{arith}
 use mathlib.Core.Bool.{Bool, true, false, _&&_, _||_, cond}
 use mathlib.Core.List.{List, _++_}
@@ -31,6 +31,17 @@ width-range b is =
     by-eqb (λ t. (t || eqb b 48) ≡ true → (8 ≤ b) × (b ≤ 48)) b 36
     (λ e _. (omega arith, omega arith))
     (λ _ later. let e = eqb-true b 48 later in (omega arith, omega arith)) is
+
+-- so many groups have room, or not, by the quotient of the room
+module _ (b groups room : ℕ) (w : isWidth b ≡ true) where
+  some : 0 < b
+  some = omega (arith, width-range b w .0)
+
+  pub groups-short : room / b < groups → room < b * groups
+  groups-short h = let less = div-lt-iff-lt-mul {x = room} {y = groups} some .0 h in omega arith
+
+  pub groups-fit : groups ≤ room / b → b * groups ≤ room
+  groups-fit h = let most = le-div-iff-mul-le {x = groups} {y = room} some .0 h in omega arith
 
 abbrev left : Kept → List ℕ → Left
 left answer output = record { answer = answer; output = output }

@@ -1,11 +1,9 @@
 -- `columns::save` meets its contract, check by check. Assumes nothing.
-use Prim.Native.Nat.{ℕ, _*_, _/_, _≤_, _<_}
-use mathlib.Core.Path.{_≡_, sym, ap, _∙_}
-use native.Mathlib.Nat.{div-lt-iff-lt-mul, le-div-iff-mul-le}
+use Prim.Native.Nat.{ℕ, _*_}
+use mathlib.Core.Path.{sym, ap, _∙_}
 use native.Mathlib.Omega.{arith}
 use borrow.Author.Tests.{not-true, not-false}
-use lib.ListN.{length}
-use Rattle.columns.proofs.Calls.{width-range, saving-no-width, saving-wide, saving-short, saving-done}
+use Rattle.columns.proofs.Calls.{width-range, groups-short, groups-fit, saving-no-width, saving-wide, saving-short, saving-done}
 use borrow.Author.Needs.{needs}
 use Rattle.columns.proofs.save.Statement.{statement}
 use Rattle.columns.proofs.save.Tie as tie
@@ -26,38 +24,33 @@ groups-of-requires : tie.Need-groups-of-requires
 groups-of-requires c κs = search needs
 
 div-if3 : tie.Need-div-if3
-div-if3 c = let range = width-range (c .before .before .before .before .before .before .before .args .b) (sym (c .before .before .before .before .is-width .ensures) ∙ not-false _ (c .before .before .before .if1 .left)) in omega (arith, range .0)
+div-if3 c =
+    let at-is-width = c .before .before .before .before in
+    let range = width-range (at-is-width .before .before .before .args .b) (sym (at-is-width .is-width .ensures) ∙ not-false _ (c .before .before .before .if1 .left)) in
+    omega (arith, range .0)
 
 returns-3 : tie.Need-returns-3
 returns-3 c =
-    let at-groups-of = c .before in
-    let at-if2 = at-groups-of .before in
-    let at-fit = at-if2 .before in
-    let at-if1 = at-fit .before in
-    let at-is-width = at-if1 .before in
-    let entry = at-is-width .before .before .before in
-    let wide = sym (at-is-width .is-width .ensures) ∙ not-false _ (at-if1 .if1 .left) in
-    let some : 0 < entry .args .b = omega (arith, width-range (entry .args .b) wide .0) in
-    let short = div-lt-iff-lt-mul {x = length (entry .args .bytes .now)} {y = at-groups-of .groups-of .result} some .0 (c .if3 .taken) in
-    saving-short _ _ _ wide (sym (at-fit .fit .ensures) ∙ not-false _ (at-if2 .if2 .left)) (ap (λ (n : ℕ). entry .args .b * n) (at-groups-of .groups-of .ensures)) (omega arith)
+    let at-fit = c .before .before .before in
+    let at-is-width = at-fit .before .before in
+    let wide = sym (at-is-width .is-width .ensures) ∙ not-false _ (at-fit .before .if1 .left) in
+    saving-short _ _ _ wide (sym (at-fit .fit .ensures) ∙ not-false _ (c .before .before .if2 .left))
+    (ap (λ (n : ℕ). at-is-width .before .before .before .args .b * n) (c .before .groups-of .ensures)) (groups-short _ _ _ wide (c .if3 .taken))
 
 mul-count : tie.Need-mul-count
 mul-count c =
-    let at-groups-of = c .before in
-    let at-if1 = at-groups-of .before .before .before in
-    let at-is-width = at-if1 .before in
-    let entry = at-is-width .before .before .before in
-    let some : 0 < entry .args .b = omega (arith, width-range (entry .args .b) (sym (at-is-width .is-width .ensures) ∙ not-false _ (at-if1 .if1 .left)) .0) in
-    let room = le-div-iff-mul-le {x = at-groups-of .groups-of .result} {y = length (entry .args .bytes .now)} some .0 (c .if3 .left) in
+    let at-if1 = c .before .before .before .before in
+    let room = groups-fit _ _ _ (sym (at-if1 .before .is-width .ensures) ∙ not-false _ (at-if1 .if1 .left)) (c .if3 .left) in
     omega arith
 
 save-all-requires : tie.Need-save-all-requires
 save-all-requires c κs =
-    let wide = sym (c .before .before .before .before .before .before .is-width .ensures) ∙ not-false _ (c .before .before .before .before .before .if1 .left) in
-    let range = width-range (c .before .before .before .before .before .before .before .before .before .args .b) wide in
-    let some : 0 < c .before .before .before .before .before .before .before .before .before .args .b = omega (arith, range .0) in
-    let room = le-div-iff-mul-le {x = c .before .before .groups-of .result} {y = length (c .before .before .before .before .before .before .before .before .before .args .bytes .now)} some .0 (c .before .if3 .left) in
-    (some, range .1, ap (λ (n : ℕ). c .before .before .before .before .before .before .before .before .before .args .b * n) (c .before .before .groups-of .ensures), omega arith)
+    let at-if1 = c .before .before .before .before .before in
+    let b = at-if1 .before .before .before .before .args .b in
+    let wide = sym (at-if1 .before .is-width .ensures) ∙ not-false _ (at-if1 .if1 .left) in
+    let range = width-range b wide in
+    let room = groups-fit _ _ _ wide (c .before .if3 .left) in
+    (omega (arith, range .0), range .1, ap (λ (n : ℕ). b * n) (c .before .before .groups-of .ensures), omega arith)
 
 same-length : tie.Need-same-length
 same-length c = search needs
@@ -66,17 +59,13 @@ returns-4 : tie.Need-returns-4
 returns-4 c =
     let at-save-all = c .before .before in
     let at-if3 = at-save-all .before .before in
-    let at-groups-of = at-if3 .before in
-    let at-if2 = at-groups-of .before in
-    let at-fit = at-if2 .before in
-    let at-if1 = at-fit .before in
-    let at-is-width = at-if1 .before in
-    let entry = at-is-width .before .before .before in
-    let wide = sym (at-is-width .is-width .ensures) ∙ not-false _ (at-if1 .if1 .left) in
-    let some : 0 < entry .args .b = omega (arith, width-range (entry .args .b) wide .0) in
-    let room = le-div-iff-mul-le {x = at-groups-of .groups-of .result} {y = length (entry .args .bytes .now)} some .0 (at-if3 .if3 .left) in
-    saving-done _ _ _ wide (sym (at-fit .fit .ensures) ∙ not-false _ (at-if2 .if2 .left))
-    (ap (λ (n : ℕ). entry .args .b * n) (at-groups-of .groups-of .ensures)) (omega arith) (at-save-all .save-all .ensures)
+    let at-fit = at-if3 .before .before .before in
+    let at-is-width = at-fit .before .before in
+    let b = at-is-width .before .before .before .args .b in
+    let wide = sym (at-is-width .is-width .ensures) ∙ not-false _ (at-fit .before .if1 .left) in
+    let room = groups-fit _ _ _ wide (at-if3 .if3 .left) in
+    saving-done _ _ _ wide (sym (at-fit .fit .ensures) ∙ not-false _ (at-if3 .before .before .if2 .left))
+    (ap (λ (n : ℕ). b * n) (at-if3 .before .groups-of .ensures)) (omega arith) (at-save-all .save-all .ensures)
 
 pub save-spec : {M : Type 1} → statement M
 save-spec =
