@@ -9,7 +9,7 @@ use Rattle.hours.specs.declared.Entry.{Entry}
 use Rattle.hours.specs.declared.Opening.{Opening}
 use Rattle.hours.specs.declared.Opening.the-variants.{Row, Refused}
 use Rattle.hours.specs.Hours.{weekday, window, exception, entries, allKeep, holds, anyNames, naming, counting, firstHolding}
-use Rattle.hours.specs.Hours.{listKeeps, accepts, openAt, openingRefusal, openingRow}
+use Rattle.hours.specs.Hours.{listKeeps, accepts, openAt, openingRefusal, openingRow, Numbered}
 
 -- a list by its length
 module _ (n : ℕ) (xs : List ℕ) where
@@ -40,18 +40,16 @@ module _ (windows exceptions : List ℕ) (day minute : ℕ) where
   -- what a call promises: the answer, and its numbers
   abbrev pub Answers : Opening → Type 0
   Answers r =
-      (r ≡ openAt windows exceptions day minute)
-      × ((openingRefusal r ≡ cond (accepts windows exceptions minute) 0 29)
-      × (openingRow r ≡ cond (accepts windows exceptions minute) (openingRow (firstHolding minute countingHere)) 0))
+      (r ≡ openAt windows exceptions day minute) × Numbered windows exceptions day minute r
 
   refused : accepts windows exceptions minute ≡ false → Answers Refused
   unfolding openAt openingRefusal openingRow
-  refused other = (rw other, (rw other, rw other))
+  refused other = (rw other, record { refusal = rw other; row = rw other })
 
   searched : accepts windows exceptions minute ≡ true → (es : List Entry) → countingHere ≡ es
       → (r : Opening) → r ≡ firstHolding minute es → Answers r
   unfolding openAt
-  searched so es is r same = (rw (so, is) same, (rw (so, same) (search-number minute es), rw (so, is, same)))
+  searched so es is r same = (rw (so, is) same, record { refusal = rw (so, same) (search-number minute es); row = rw (so, is, same) })
 
   pub windows-broken : listKeeps window windows ≡ false → Answers Refused
   unfolding accepts

@@ -2,6 +2,7 @@
 use Prim.Native.Nat.{ℕ, zero, suc, _+_, _/_, _%_}
 use mathlib.Core.Bool.{Bool, true, false, _&&_, _||_, cond}
 use mathlib.Core.List.{List, [], _∷_}
+use mathlib.Core.Path.{_≡_}
 use lib.Dec.{eqb, leb, ltb}
 use lib.ListN.{length, take, drop, getD}
 use Rattle.hours.specs.declared.Entry.{Entry}
@@ -103,3 +104,9 @@ unfoldable pub openingRow : Opening → ℕ
 openingRow (Row r) = r
 openingRow Closed = 0
 openingRow Refused = 0
+
+-- the answer in the ticket's numbers
+pub record Numbered (windows exceptions : List ℕ) (day minute : ℕ) (answer : Opening) : Type 0 where
+  pub refusal : openingRefusal answer ≡ cond (accepts windows exceptions minute) 0 29
+  pub row : openingRow answer
+      ≡ cond (accepts windows exceptions minute) (openingRow (firstHolding minute (counting day (entries window windows) (entries exception exceptions)))) 0

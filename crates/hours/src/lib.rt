@@ -1,11 +1,11 @@
 // Opening hours: the row of the entry line at which a tour starts, by the day and the minute. Document 02: ticket 7.
-ghost use mathlib.Core.Bool.{_&&_, cond};
+ghost use mathlib.Core.Bool.{_&&_};
 ghost use lib.Dec.{eqb};
 ghost use mathlib.Core.Path.{_≡_};
 ghost use Prim.Native.Nat.{_+_, _≤_};
 ghost use lib.ListN.{length, take, drop};
-ghost use Rattle.hours.specs.Hours.{weekday, window, exception, entryOf, entries, hasHours, hasZeros, hasName, keeps, allKeep, holds};
-ghost use Rattle.hours.specs.Hours.{anyNames, naming, counting, firstHolding, listKeeps, accepts, openAt, openingRefusal, openingRow};
+ghost use Rattle.hours.specs.Hours.{weekday, entryOf, entries, hasHours, hasZeros, hasName, keeps, allKeep, holds};
+ghost use Rattle.hours.specs.Hours.{anyNames, naming, firstHolding, listKeeps, openAt, Numbered};
 
 // What a window or an exception says: its weekday or day, the opening and the closing minute, the row, and 1 if it is closed.
 pub struct Entry {
@@ -162,7 +162,7 @@ fn list_keeps(list: &[u64], n: usize) -> bool
 // The row of the entry line on a day at a minute, closed, or refused. In the ticket's numbers: refusal and row.
 pub fn open_at(windows: &[u64], exceptions: &[u64], day: u64, minute: u64) -> Opening
     ensures { λ r. ⌜ r ≡ openAt (now (windows .entry)) (now (exceptions .entry)) day minute ⌝ }
-    ensures numbered { λ r. ⌜ (openingRefusal r ≡ cond (accepts (now (windows .entry)) (now (exceptions .entry)) minute) 0 29) × (openingRow r ≡ cond (accepts (now (windows .entry)) (now (exceptions .entry)) minute) (openingRow (firstHolding minute (counting day (entries window (now (windows .entry))) (entries exception (now (exceptions .entry)))))) 0) ⌝ }
+    ensures numbered { λ r. ⌜ Numbered (now (windows .entry)) (now (exceptions .entry)) day minute r ⌝ }
 {
     if !list_keeps(windows, 4) {
         return Opening::Refused;
