@@ -1,5 +1,5 @@
 -- `laps::step_all` meets its contract. Each call leaves storage and output as long as they were; the measure is the calls left. Assumes nothing.
-use mathlib.Core.Path.{_≡_, _∙_}
+use mathlib.Core.Path.{_≡_}
 use lib.ListN.{length}
 use borrow.Author.Needs.{needs}
 use Rattle.laps.proofs.step_all.Statement.{statement}
@@ -36,20 +36,16 @@ loop-less : tie.Need-loop-less Inv-loop μ-loop
 loop-less c = search needs
 
 loop-again : tie.Need-loop-again Inv-loop μ-loop
-loop-again c =
-    let at-output = c .before .before .before .before .before .before .before in
-    let at-storage = at-output .before .before in
-    let at-loop = at-storage .before .before .before .before .before in
-    (at-storage .storage .given ∙ at-loop .loop .inv .0, at-output .output .given ∙ at-loop .loop .inv .1)
+loop-again c = search needs
 
 fold-left-requires : tie.Need-fold-left-requires Inv-loop μ-loop
 fold-left-requires c κs = search needs
 
 same-length : tie.Need-same-length Inv-loop μ-loop
-same-length c = c .before .before .before .before .loop .inv .0
+same-length c = search needs
 
 same-length-2 : tie.Need-same-length-2 Inv-loop μ-loop
-same-length-2 c = c .before .before .before .before .loop .inv .1
+same-length-2 c = search needs
 
 returns : tie.Need-returns Inv-loop μ-loop
 returns c = search needs
