@@ -471,12 +471,11 @@ impl Blocks {
         Ok(at)
     }
 
-    // Whether the word is one of the set-up words; the live block around it is one no more.
+    // Whether a live block starts at the word rounded down to 1, 2, 4 .. or 128 words; the first that does is one no more.
     fn free(&mut self, word: u64) -> bool {
-        if let Some(i) = self.around(word) {
-            self.live.remove(i);
-        }
-        (self.s1..=self.s2).contains(&word)
+        let starts = (0..8).map(|k| word >> k << k);
+        let found = starts.into_iter().find_map(|start| self.live.iter().position(|block| block.0 == start));
+        found.map(|i| self.live.remove(i)).is_some()
     }
 
     fn size_at(&self, a: u64) -> u64 {

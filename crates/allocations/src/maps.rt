@@ -92,18 +92,30 @@ fn get(setup: SetUp, map: &mut [u8], n: u64) -> u64
     a as u64
 }
 
-// Free: the block around an address, if that is one of the set-up words', for 1; otherwise 0.
+// An address rounded down to 1, 2, 4 .. 128 words: the first at which a live block starts, or that of 128.
+fn near(setup: SetUp, map: &[u8], address: usize) -> usize
+    requires { ⌜ (words setup % size (top (setup .d)) ≡ 0) × (keeps setup (now map) ≡ true) ⌝ }
+{
+    let mut n: usize = 1;
+    while n < 128 {
+        let rounded = address / n * n;
+        if section::live_size(setup, map, rounded as u64) != 0 {
+            return rounded;
+        }
+        n += n;
+    }
+    address / 128 * 128
+}
+
+// Free: the block that starts at an address rounded down, for 1; 0 if none does.
 fn free(setup: SetUp, map: &mut [u8], address: usize) -> u64
     requires { ⌜ (words setup % size (top (setup .d)) ≡ 0) × (keeps setup (now map) ≡ true) ⌝ }
 {
-    let first = setup.s1 as usize;
-    if address < first {
+    let rounded = near(setup, &*map, address);
+    if section::live_size(setup, map, rounded as u64) == 0 {
         return 0;
     }
-    if section::words_of(setup) <= address - first {
-        return 0;
-    }
-    section::free_block(setup, map, address);
+    section::free_block(setup, map, rounded);
     1
 }
 

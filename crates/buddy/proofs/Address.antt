@@ -1,27 +1,43 @@
 -- What the map says at an address of the set-up words: the size of a live block there, and the map when the tree around it is changed.
 -- Assumes nothing.
-use mathlib.Core.Path.{_≡_, sym, ap, ap₂, subst, _∙_}
+use mathlib.Core.Path.{_≡_, refl, sym, ap, ap₂, subst, _∙_}
 use mathlib.Core.Bool.{true}
 use mathlib.Core.List.{List, _++_}
 use Prim.Native.Nat.{ℕ, suc, _+_, _-_, _*_, _/_, _%_, _≤_, _<_}
 use native.Mathlib.Nat.{div-add-mod', mod-lt, div-lt-iff-lt-mul, mul-le-mul-right}
 use native.Mathlib.Omega.{arith}
 use lib.ListN.{length, getD, take, drop, replicate}
+use lib.Seq.{getD-take, getD-drop}
+use Rattle.word.proofs.Tests.{by-leb}
+use Rattle.buddy.specs.Upward.{Rises, Rising}
 use Rattle.block.specs.declared.SetUp.{SetUp}
 use Rattle.buddy.specs.declared.Found.the-variants.{At}
-use Rattle.block.specs.Blocks.{size, Tree, changed, freed, delivered, sizeAt}
+use Rattle.block.specs.Blocks.{size, Tree, changed, freed, sizeAt}
 use Rattle.block.specs.SetUp.{top, words}
-use Rattle.block.specs.Map.{written, canonical, allWritten, trees, mapOf, keeps, live, freedMap, deliveredMap}
+use Rattle.block.specs.Map.{liveTag, written, canonical, allWritten, trees, mapOf, keeps, live, freedMap, deliveredMap}
 use Rattle.block.specs.SetUp.{runs}
-use Rattle.buddy.specs.Lowest.{firstOf, lowestIn}
+use Rattle.buddy.specs.Lowest.{firstOf}
 use Rattle.buddy.specs.Tag.{tagSize}
 use Rattle.block.proofs.Size.{size-pos, top-le}
 use Rattle.block.proofs.Map.{keeps-parts, keeps-words, trees-fill}
 use Rattle.buddy.proofs.Halves.{part-length}
-use Rattle.buddy.proofs.LiveSize.{all-tag, tag-below, tag-above}
+use Rattle.buddy.proofs.LiveSize.{all-tag, tag-below, tag-above, live-size}
 use Rattle.buddy.proofs.First.{first-run}
 use Rattle.buddy.proofs.Placed.{Placed, placed}
-use Rattle.buddy.proofs.Lowest.{lowestOf}
+use Rattle.buddy.proofs.Upward.{rises}
+use Rattle.buddy.proofs.Delivered.{Spot, spot-same, spot-trees, Ready, ready}
+
+-- what a free in the tree of n words around address a asks and gives
+pub record Freeing (u : SetUp) (m : List ℕ) (a k n : ℕ) : Type 0 where
+  pub low : u .s1 ≤ a
+  pub inside : a - u .s1 < length m
+  pub live : 2 ≤ getD m (a - u .s1) 0
+  pub fits : (a - u .s1) / n * n + n ≤ length m
+  pub asks : let start = (a - u .s1) / n * n in let part = take (start + n - start) (drop start m) in
+      (k ≤ 7) × (length part ≡ size k) × Rising k (getD m (a - u .s1) 0 / 2 - 1) ((a - u .s1) % n) part
+  pub puts : let start = (a - u .s1) / n * n in let part = take (start + n - start) (drop start m) in (ys : List ℕ)
+      → ((new : List ℕ) → Rises k (getD m (a - u .s1) 0 / 2 - 1) ((a - u .s1) % n) part new → ys ≡ new)
+      → take start m ++ (ys ++ drop (start + n - start) (drop start m)) ≡ freedMap a u m
 
 module _ (u : SetUp) (m : List ℕ) where
   -- below the set-up words no live block starts
@@ -46,6 +62,23 @@ module _ (u : SetUp) (m : List ℕ) where
           ∙ all-tag (top (u .d)) (u .s1) (a - u .s1) (trees u m) rest (top-le (u .d)) (omega (arith, trees-fill u m whole))
           ∙ ap (λ (xs : List ℕ). tagSize (getD xs (a - u .s1) 0)) (keeps-parts u m kept .1)
 
+      -- a live block starts in them, and its byte is its tag
+      live-here : (a : ℕ) → (sizeAt a (live u m) ≡ 0 → ⊥) → (u .s1 ≤ a) × (a < u .s1 + words u) × (getD m (a - u .s1) 0 ≡ liveTag (getD m (a - u .s1) 0 / 2 - 1))
+      live-here a some =
+          let low : u .s1 ≤ a = by-leb (λ _. u .s1 ≤ a) (u .s1) a (λ h. h) (λ l. absurd (some (live-below a l))) in
+          let high : a < u .s1 + words u = by-leb (λ _. a < u .s1 + words u) (u .s1 + words u) a (λ l. absurd (some (live-above a l))) (λ h. h) in
+          (low, high, live-size (getD m (a - u .s1) 0) (λ e. some (live-tag a low high ∙ e)))
+
+      -- the lowest run, and the map when it is delivered
+      pub delivers : (j a : ℕ) → u .s1 ≤ a → j ≤ top (u .d) → firstOf (runs (size j) u (live u m)) ≡ At a
+          → Ready j (top (u .d)) (a - u .s1) m (deliveredMap j a u m) (getD m (a - u .s1) 0 / 2)
+      unfolding deliveredMap mapOf
+      delivers j a h low run =
+          let far : u .s1 + (a - u .s1) ≡ a = omega arith in
+          let found = first-run u m j whole kept low ∙ run ∙ ap At (sym far) in
+          let s = spot-trees j (top (u .d)) (u .s1) (a - u .s1) (trees u m) (replicate (length m - words u) 0) low found in
+          ready (subst (λ (b : ℕ). Spot j (top (u .d)) (a - u .s1) b m (deliveredMap j b u m)) far (spot-same (keeps-parts u m kept .1) refl s))
+
       module _ (k n a : ℕ) (ek : k ≡ top (u .d)) (en : n ≡ size k) (h : u .s1 ≤ a) (l : a < u .s1 + words u) where
         -- the tree around an address
         abbrev start : ℕ
@@ -64,7 +97,7 @@ module _ (u : SetUp) (m : List ℕ) where
         place = div-lt-iff-lt-mul n-pos .1 (omega (arith, fill))
 
         -- it lies in the map
-        pub tree-fits : start + n ≤ length m
+        tree-fits : start + n ≤ length m
         tree-fits =
             let long = keeps-words u m whole kept in
             let top-place : suc ((a - u .s1) / n) * n ≤ length (trees u m) * n = mul-le place in
@@ -72,10 +105,6 @@ module _ (u : SetUp) (m : List ℕ) where
           where
             mul-le : {x y : ℕ} → x < y → suc x * n ≤ y * n
             mul-le {x} {y} s = mul-le-mul-right n s
-
-        -- what is asked of a call on it
-        pub tree-asks : (k ≤ 7) × (length (take (start + n - start) (drop start m)) ≡ size k) × ((a - u .s1) % n < size k)
-        tree-asks = (omega (arith, ek, top-le (u .d)), part-length start n m tree-fits ∙ en, rw (← en) (mod-lt (a - u .s1) n-pos))
 
         there : Placed k ((a - u .s1) / n) (trees u m) m (replicate (length m - words u) 0)
         unfolding mapOf
@@ -85,13 +114,16 @@ module _ (u : SetUp) (m : List ℕ) where
             (subst (λ (xs : List ℕ). Placed (top (u .d)) ((a - u .s1) / n) (trees u m) xs (replicate (length m - words u) 0)) (parts .1)
             (placed (top (u .d)) ((a - u .s1) / n) (trees u m) (replicate (length m - words u) 0) place (parts .0)))
 
-        -- where the lowest run is there, it is found in the tree
-        abbrev Found-in : Tree → Type 0
-        Found-in t = (j : ℕ) → lowestOf j (top (u .d)) (u .s1) (trees u m) ≡ At a → lowestIn j k (u .s1 + start) t ≡ At a
+        -- its bytes
+        bytes-there : take (start + n - start) (drop start m) ≡ written k (there .tree)
+        bytes-there =
+            let same : start + n - start ≡ size k = let e : start + n - start ≡ n = omega arith in e ∙ en in
+            let at : start ≡ (a - u .s1) / n * size k = ap (λ (i : ℕ). (a - u .s1) / n * i) en in
+            ap₂ (λ (i j : ℕ). take i (drop j m)) same at ∙ there .bytes
 
         -- the map when it is changed
-        pub changes : (f : ℕ → Tree → Tree) (ys : List ℕ)
-            → ((t : Tree) → canonical k t ≡ true → take (start + n - start) (drop start m) ≡ written k t → Found-in t → ys ≡ written k (f (u .s1 + start) t))
+        changes : (f : ℕ → Tree → Tree) (ys : List ℕ)
+            → ((t : Tree) → canonical k t ≡ true → take (start + n - start) (drop start m) ≡ written k t → ys ≡ written k (f (u .s1 + start) t))
             → take start m ++ (ys ++ drop (start + n - start) (drop start m)) ≡ mapOf u (length m) (changed f a (top (u .d)) (u .s1) (trees u m))
         unfolding mapOf
         changes f ys inner =
@@ -101,37 +133,50 @@ module _ (u : SetUp) (m : List ℕ) where
             let at : start ≡ q * size k = ap (λ (i : ℕ). q * i) en in
             let far = div-add-mod' (a - u .s1) n in
             let small = mod-lt (a - u .s1) n-pos in
-            let bytes : take (start + n - start) (drop start m) ≡ written k (p .tree)
-            = ap₂ (λ (i j : ℕ). take i (drop j m)) same at ∙ p .bytes in
-            let found : Found-in (p .tree) = λ j e.
-            ap (λ (i : ℕ). lowestIn j k (u .s1 + i) (p .tree)) at
-            ∙ p .lowest j a (u .s1) (ap (λ (i : ℕ). lowestOf j i (u .s1) (trees u m)) ek ∙ e) (omega arith) (omega arith) in
             let new : ys ≡ written k (f (u .s1 + q * size k) (p .tree))
-            = inner (p .tree) (p .whole) bytes found ∙ ap (λ (i : ℕ). written k (f (u .s1 + i) (p .tree))) at in
+            = inner (p .tree) (p .whole) bytes-there ∙ ap (λ (i : ℕ). written k (f (u .s1 + i) (p .tree))) at in
             ap₂ _++_ (ap (λ (i : ℕ). take i m) at) (ap₂ _++_ new (ap₂ (λ (i j : ℕ). drop i (drop j m)) same at))
             ∙ p .puts f a (u .s1) (omega arith) (omega arith)
             ∙ ap (λ (i : ℕ). allWritten i (changed f a i (u .s1) (trees u m)) ++ replicate (length m - words u) 0) ek
 
-        -- when a block there is freed
-        pub frees-map : (ys : List ℕ)
-            → ((at : ℕ) (t : Tree) → canonical k t ≡ true → take (start + n - start) (drop start m) ≡ written k t
-            → ys ≡ written k (freed (at + (a - u .s1) % n) k at t))
-            → take start m ++ (ys ++ drop (start + n - start) (drop start m)) ≡ freedMap a u m
-        unfolding freedMap
-        frees-map ys inner =
-            let far : (u .s1 + start) + (a - u .s1) % n ≡ a = omega (arith, div-add-mod' (a - u .s1) n) in
-            changes (freed a (top (u .d))) ys
-            (λ t canon bytes found. inner (u .s1 + start) t canon bytes ∙ ap₂ (λ (b i : ℕ). written k (freed b i (u .s1 + start) t)) far ek)
+        -- the byte of the address in it
+        byte-there : getD (take (start + n - start) (drop start m)) ((a - u .s1) % n) 0 ≡ getD m (a - u .s1) 0
+        byte-there =
+            let small = mod-lt (a - u .s1) n-pos in
+            let far : start + (a - u .s1) % n ≡ a - u .s1 = div-add-mod' (a - u .s1) n in
+            getD-take (start + n - start) (drop start m) ((a - u .s1) % n) 0 (omega arith) ∙ getD-drop start m ((a - u .s1) % n) 0 ∙ ap (λ (i : ℕ). getD m i 0) far
 
-        -- when the lowest run, which is there, is delivered
-        pub delivers-map : (j : ℕ) (ys : List ℕ) → j ≤ top (u .d) → firstOf (runs (size j) u (live u m)) ≡ At a
-            → ((at : ℕ) (t : Tree) → canonical k t ≡ true → take (start + n - start) (drop start m) ≡ written k t
-            → lowestIn j k at t ≡ At (at + (a - u .s1) % n) → ys ≡ written k (delivered j (at + (a - u .s1) % n) k at t))
-            → take start m ++ (ys ++ drop (start + n - start) (drop start m)) ≡ deliveredMap j a u m
-        unfolding deliveredMap
-        delivers-map j ys low run inner =
-            let far : (u .s1 + start) + (a - u .s1) % n ≡ a = omega (arith, div-add-mod' (a - u .s1) n) in
-            changes (delivered j a (top (u .d))) ys
-            (λ t canon bytes found.
-            inner (u .s1 + start) t canon bytes (found j (first-run u m j whole kept low ∙ run) ∙ ap At (sym far))
-            ∙ ap₂ (λ (b i : ℕ). written k (delivered j b i (u .s1 + start) t)) far ek)
+        module _ (i : ℕ) (tag : getD m (a - u .s1) 0 ≡ liveTag i) where
+          abbrev part : List ℕ
+          part = take (start + n - start) (drop start m)
+
+          rises-there : (at : ℕ) (t : Tree) → part ≡ written k t → Rises k i ((a - u .s1) % n) part (written k (freed (at + (a - u .s1) % n) k at t))
+          rises-there at t bytes = rises k i ((a - u .s1) % n) at t part (rw (← en) (mod-lt (a - u .s1) n-pos)) bytes (byte-there ∙ tag)
+
+          -- what is asked of a free there
+          free-asks : (k ≤ 7) × (length part ≡ size k) × Rising k i ((a - u .s1) % n) part
+          free-asks = (omega (arith, ek, top-le (u .d)), part-length start n m tree-fits ∙ en, (_, rises-there 0 (there .tree) bytes-there))
+
+          -- and the map after it
+          frees-map : (ys : List ℕ) → ((new : List ℕ) → Rises k i ((a - u .s1) % n) part new → ys ≡ new)
+              → take start m ++ (ys ++ drop (start + n - start) (drop start m)) ≡ freedMap a u m
+          unfolding freedMap
+          frees-map ys risen =
+              let far : (u .s1 + start) + (a - u .s1) % n ≡ a = omega (arith, div-add-mod' (a - u .s1) n) in
+              changes (freed a (top (u .d))) ys
+              (λ t canon bytes. risen _ (rises-there (u .s1 + start) t bytes) ∙ ap₂ (λ (b j : ℕ). written k (freed b j (u .s1 + start) t)) far ek)
+
+      -- so where a live block starts it can be freed
+      pub freeing : (k n a : ℕ) → k ≡ top (u .d) → n ≡ size k → (sizeAt a (live u m) ≡ 0 → ⊥) → Freeing u m a k n
+      unfolding liveTag
+      freeing k n a ek en some =
+          let (h, l, tag) = live-here a some in
+          let i = getD m (a - u .s1) 0 / 2 - 1 in
+          record {
+            low = h;
+            inside = omega (arith, keeps-words u m whole kept);
+            live = omega arith;
+            fits = tree-fits k n a ek en h l;
+            asks = free-asks k n a ek en h l i tag;
+            puts = frees-map k n a ek en h l i tag;
+          }

@@ -1,37 +1,37 @@
--- What delivering the lowest run writes: the free block that it starts is split, in the tree and in the half around it. Assumes nothing.
-use mathlib.Core.Path.{_≡_, refl, sym, ap, ap₂, _∙_}
-use mathlib.Core.Bool.{true, cond}
-use mathlib.Core.List.{List, [], _∷_, _++_}
+-- What delivering the lowest run writes: the free block that it starts is split, and the bytes around it stay. Assumes nothing.
+use mathlib.Core.Path.{_≡_, refl, sym, ap, ap₂, subst, _∙_}
+use mathlib.Core.Bool.{cond}
+use mathlib.Core.List.{List, [], _∷_, _++_, append-assoc, append-nil}
 use mathlib.Core.Logic.{_⊎_, inl, inr, ⊎-elim}
 use Prim.Native.Nat.{ℕ, zero, suc, _+_, _-_, _/_, _≤_, _<_}
 use native.Mathlib.Omega.{arith}
-use lib.Dec.{ltb}
-use lib.ListN.{length, getD, take, drop}
+use lib.ListN.{length, getD, take, drop, replicate, length-append}
+use lib.Seq.{take-at, drop-at, getD-at}
 use borrow.Author.Tests.{lt-ltb, le-ltb}
-use Rattle.word.proofs.Pred.{one-less}
 use Rattle.buddy.specs.declared.Found.{Found}
 use Rattle.buddy.specs.declared.Found.the-variants.{At, Nothing}
-use Rattle.block.specs.Blocks.{size, Tree, Free, Live, Halves, delivered}
-use Rattle.block.specs.Map.{freeTag, liveTag, written, canonical}
+use Rattle.block.specs.Blocks.{size, Tree, Free, Live, Halves, changed, delivered}
+use Rattle.block.specs.Map.{freeTag, written, allWritten}
 use Rattle.buddy.specs.Lowest.{orElse, lowestIn}
 use Rattle.word.proofs.Tests.{by-leb}
 use Rattle.block.proofs.Size.{size-pos, size-suc}
-use Rattle.buddy.proofs.Halves.{low-part, low-changed, high-part, high-changed}
-use Rattle.buddy.proofs.Tags.{first-free, written-halves, Halved, halved-tree}
-use Rattle.buddy.proofs.Lowest.{lowestOf, not-found, lowest-live, lowest-small, lowest-large}
+use Rattle.block.proofs.Map.{length-written}
+use Rattle.buddy.proofs.Tags.{written-halves}
+use Rattle.buddy.proofs.Placed.{all-cons, changed-first, changed-later}
+use Rattle.buddy.proofs.Lowest.{lowestOf, not-found, lowest-large, lowest-none}
 
 -- an address is one
 same-address : (a b : ℕ) → At a ≡ At b → a ≡ b
 same-address a b e = cc
 
 -- what is found was found first, or second and not first
-pub found-where : (x y : Found) (a : ℕ) → orElse x y ≡ At a → (x ≡ At a) ⊎ ((x ≡ Nothing) × (y ≡ At a))
+found-where : (x y : Found) (a : ℕ) → orElse x y ≡ At a → (x ≡ At a) ⊎ ((x ≡ Nothing) × (y ≡ At a))
 unfolding orElse
 found-where (At b) y a e = inl e
 found-where Nothing y a e = inr (refl, e)
 
 -- the start of a free block lies in its tree
-pub lowest-bound : (j k at a : ℕ) (t : Tree) → lowestIn j k at t ≡ At a → (at ≤ a) × (a < at + size k)
+lowest-bound : (j k at a : ℕ) (t : Tree) → lowestIn j k at t ≡ At a → (at ≤ a) × (a < at + size k)
 unfolding lowestIn
 lowest-bound j k at a Free = λ e. let same = same-address at a e in (omega arith, omega (arith, size-pos k))
 lowest-bound j k at a Live = λ e. absurd (not-found a e)
@@ -45,30 +45,12 @@ lowest-bound j (suc k) at a (Halves x y) =
     (found-where (lowestIn j k at x) (lowestIn j k (at + size k) y) a e))
 
 -- and in the words of one tree after the other
-pub lowestOf-bound : (j k at a : ℕ) (ts : List Tree) → lowestOf j k at ts ≡ At a → at ≤ a
+lowestOf-bound : (j k at a : ℕ) (ts : List Tree) → lowestOf j k at ts ≡ At a → at ≤ a
 unfolding lowestOf
 lowestOf-bound j k at a [] e = absurd (not-found a e)
 lowestOf-bound j k at a (t ∷ ts) e =
     ⊎-elim (λ low. lowest-bound j k at a t low .0) (λ high. omega (arith, lowestOf-bound j k (at + size k) a ts (high .1)))
     (found-where (lowestIn j k at t) (lowestOf j k (at + size k) ts) a e)
-
--- a free block is found at its start
-found-free : (j k at : ℕ) → lowestIn j k at Free ≡ At at
-unfolding lowestIn
-found-free j k at = refl
-
--- the block that the run starts is split
-pub delivers-free : (k j offset at : ℕ) (l ys : List ℕ) (t : Tree) → getD l 0 0 ≡ freeTag k → l ≡ written k t → lowestIn j k at t ≡ At (at + offset)
-    → (l ≡ written k Free → ys ≡ written k (delivered j at k at Free)) → ys ≡ written k (delivered j (at + offset) k at t)
-delivers-free k j offset at l ys t first w e inner =
-    let free = first-free k t (ap (λ (xs : List ℕ). getD xs 0 0) (sym w) ∙ first) in
-    let here : at ≡ at + offset = same-address at (at + offset) (sym (found-free j k at) ∙ ap (lowestIn j k at) (sym free) ∙ e) in
-    inner (w ∙ ap (written k) free) ∙ ap₂ (λ (a : ℕ) (s : Tree). written k (delivered j a k at s)) here (sym free)
-
--- there is no run in a block of its size that is not free
-pub delivers-none : (k j offset at : ℕ) (l : List ℕ) (t : Tree) → k ≡ j → (getD l 0 0 ≡ freeTag k → ⊥) → l ≡ written k t
-    → lowestIn j k at t ≡ At (at + offset) → ⊥
-delivers-none k j offset at l t small f w e = not-found (at + offset) (lowest-small j k at l t w small f ∙ e)
 
 -- delivering in halves goes on in the one around the address
 delivered-first : (j a k at : ℕ) (x y : Tree) → a < at + size k → delivered j a (suc k) at (Halves x y) ≡ Halves (delivered j a k at x) y
@@ -79,91 +61,144 @@ delivered-second : (j a k at : ℕ) (x y : Tree) → at + size k ≤ a → deliv
 unfolding delivered
 delivered-second j a k at x y h = rw (le-ltb a (at + size k) h)
 
-module _ (j offset at : ℕ) (l ys : List ℕ) (t : Tree) where
-  -- the trees of the halves, and where the run is
-  halves-found : (k : ℕ) → j ≤ k → length l / 2 ≡ size k → (getD l 0 0 ≡ freeTag (suc k) → ⊥) → canonical (suc k) t ≡ true → l ≡ written (suc k) t
-      → lowestIn j (suc k) at t ≡ At (at + offset)
-      → (h : Halved k (length l / 2) l t) × (orElse (lowestIn j k at (h .low)) (lowestIn j k (at + size k) (h .high)) ≡ At (at + offset))
-  halves-found k below half free whole w e =
-      let live : getD l 0 0 ≡ liveTag (suc k) → ⊥ = λ q. not-found (at + offset) (lowest-live j (suc k) at l t w q ∙ e) in
-      let h = halved-tree k (length l / 2) l t half live free whole w in
-      (h, sym (lowest-large j k at (h .low) (h .high) below) ∙ ap (lowestIn j (suc k) at) (sym (h .tree)) ∙ e)
+-- the free block that a run at address a starts, o bytes on: what stands around it, and the bytes when the run is delivered
+pub record Spot (j k o a : ℕ) (old new : List ℕ) : Type 0 where
+  pub level : ℕ
+  pub before : List ℕ
+  pub after : List ℕ
+  pub wanted : j ≤ level
+  pub small : level ≤ k
+  pub long : length before ≡ o
+  pub whole : old ≡ before ++ (written level Free ++ after)
+  pub halved : new ≡ before ++ (written level (delivered j a level a Free) ++ after)
 
-  -- delivering goes on in the low half
-  delivers-low : (k : ℕ) → 0 < k → offset < length l / 2 → j < k → length l / 2 ≡ size (k - 1)
-      → (getD l 0 0 ≡ freeTag k → ⊥) → canonical k t ≡ true → l ≡ written k t → lowestIn j k at t ≡ At (at + offset)
-      → ((s : Tree) → canonical (k - 1) s ≡ true → take (length l / 2) l ≡ written (k - 1) s → lowestIn j (k - 1) at s ≡ At (at + offset)
-      → ys ≡ written (k - 1) (delivered j (at + offset) (k - 1) at s))
-      → ys ++ drop (length l / 2) l ≡ written k (delivered j (at + offset) k at t)
-  delivers-low k pos low =
-      one-less
-      (λ k i. j < k → length l / 2 ≡ size i
-      → (getD l 0 0 ≡ freeTag k → ⊥) → canonical k t ≡ true → l ≡ written k t → lowestIn j k at t ≡ At (at + offset)
-      → ((s : Tree) → canonical i s ≡ true → take (length l / 2) l ≡ written i s → lowestIn j i at s ≡ At (at + offset)
-      → ys ≡ written i (delivered j (at + offset) i at s))
-      → ys ++ drop (length l / 2) l ≡ written k (delivered j (at + offset) k at t))
-      (λ i below half free whole w e inner.
-      let (h, found) = halves-found i (omega arith) half free whole w e in
-      let here : lowestIn j i at (h .low) ≡ At (at + offset)
-      = ⊎-elim (λ q. q) (λ q. absurd (let bound = lowest-bound j i (at + size i) (at + offset) (h .high) (q .1) in omega (arith, bound .0)))
-      (found-where (lowestIn j i at (h .low)) (lowestIn j i (at + size i) (h .high)) (at + offset) found) in
-      ap₂ _++_ (inner (h .low) (h .lowWhole) (h .lowBytes) here) (h .highBytes)
-      ∙ sym (written-halves i _ (h .high))
-      ∙ ap (written (suc i)) (sym (ap (delivered j (at + offset) (suc i) at) (h .tree) ∙ delivered-first j (at + offset) i at (h .low) (h .high) (omega arith))))
-      k pos
+more-after : (x y z r : List ℕ) → (x ++ (y ++ z)) ++ r ≡ x ++ (y ++ (z ++ r))
+more-after x y z r = simp append-assoc
 
-  -- or in the high half
-  delivers-high : (k : ℕ) → 0 < k → length l / 2 ≤ offset → j < k → length l / 2 ≡ size (k - 1)
-      → (getD l 0 0 ≡ freeTag k → ⊥) → canonical k t ≡ true → l ≡ written k t → lowestIn j k at t ≡ At (at + offset)
-      → ((s : Tree) → canonical (k - 1) s ≡ true → drop (length l / 2) l ≡ written (k - 1) s
-      → lowestIn j (k - 1) (at + length l / 2) s ≡ At (at + offset)
-      → ys ≡ written (k - 1) (delivered j (at + offset) (k - 1) (at + length l / 2) s))
-      → take (length l / 2) l ++ ys ≡ written k (delivered j (at + offset) k at t)
-  delivers-high k pos high =
-      one-less
-      (λ k i. j < k → length l / 2 ≡ size i
-      → (getD l 0 0 ≡ freeTag k → ⊥) → canonical k t ≡ true → l ≡ written k t → lowestIn j k at t ≡ At (at + offset)
-      → ((s : Tree) → canonical i s ≡ true → drop (length l / 2) l ≡ written i s
-      → lowestIn j i (at + length l / 2) s ≡ At (at + offset)
-      → ys ≡ written i (delivered j (at + offset) i (at + length l / 2) s))
-      → take (length l / 2) l ++ ys ≡ written k (delivered j (at + offset) k at t))
-      (λ i below half free whole w e inner.
-      let (h, found) = halves-found i (omega arith) half free whole w e in
-      let here : lowestIn j i (at + size i) (h .high) ≡ At (at + offset)
-      = ⊎-elim (λ q. absurd (let bound = lowest-bound j i at (at + offset) (h .low) q in omega (arith, bound .1))) (λ q. q .1)
-      (found-where (lowestIn j i at (h .low)) (lowestIn j i (at + size i) (h .high)) (at + offset) found) in
-      let there : lowestIn j i (at + length l / 2) (h .high) ≡ At (at + offset)
-      = ap (λ (n : ℕ). lowestIn j i (at + n) (h .high)) half ∙ here in
-      let new : ys ≡ written i (delivered j (at + offset) i (at + size i) (h .high))
-      = inner (h .high) (h .highWhole) (h .highBytes) there ∙ ap (λ (b : ℕ). written i (delivered j (at + offset) i (at + b) (h .high))) half in
-      ap₂ _++_ (h .lowBytes) new
-      ∙ sym (written-halves i (h .low) _)
-      ∙ ap (written (suc i)) (sym (ap (delivered j (at + offset) (suc i) at) (h .tree) ∙ delivered-second j (at + offset) i at (h .low) (h .high) (omega arith))))
-      k pos
+module _ {j o a : ℕ} where
+  pub spot-same : {k : ℕ} {old old' new new' : List ℕ} → old ≡ old' → new ≡ new' → Spot j k o a old new → Spot j k o a old' new'
+  spot-same e f s = rw (← e, ← f) s
 
-  -- so in the half around the offset
-  pub delivers-half : (k start : ℕ) → 0 < k → start ≡ cond (ltb offset (length l / 2)) 0 (length l / 2)
-      → length l ≡ length l / 2 + length l / 2 → j < k → length l / 2 ≡ size (k - 1)
-      → (getD l 0 0 ≡ freeTag k → ⊥) → canonical k t ≡ true → l ≡ written k t → lowestIn j k at t ≡ At (at + offset)
-      → ((s : Tree) → canonical (k - 1) s ≡ true → take (start + length l / 2 - start) (drop start l) ≡ written (k - 1) s
-      → lowestIn j (k - 1) (at + start) s ≡ At ((at + start) + (offset - start))
-      → ys ≡ written (k - 1) (delivered j ((at + start) + (offset - start)) (k - 1) (at + start) s))
-      → take start l ++ (ys ++ drop (start + length l / 2 - start) (drop start l)) ≡ written k (delivered j (at + offset) k at t)
-  delivers-half k start pos e twice below half free whole w found inner =
-      by-leb (λ b. start ≡ cond b 0 (length l / 2)
-      → take start l ++ (ys ++ drop (start + length l / 2 - start) (drop start l)) ≡ written k (delivered j (at + offset) k at t)) (suc offset) (length l / 2)
-      (λ less z.
-      let here : at + start ≡ at = omega arith in
-      let there : (at + start) + (offset - start) ≡ at + offset = omega arith in
-      low-changed (length l / 2) start l z ys
-      ∙ delivers-low k pos less below half free whole w found
-      (λ s c q f. inner s c (low-part (length l / 2) start l z ∙ q) (ap (λ (a : ℕ). lowestIn j (k - 1) a s) here ∙ f ∙ ap At (sym there))
-      ∙ ap₂ (λ (a b : ℕ). written (k - 1) (delivered j a (k - 1) b s)) there here))
-      (λ more z.
-      let here : at + start ≡ at + length l / 2 = omega arith in
-      let there : (at + start) + (offset - start) ≡ at + offset = omega arith in
-      high-changed (length l / 2) start l z twice ys
-      ∙ delivers-high k pos (omega arith) below half free whole w found
-      (λ s c q f. inner s c (high-part (length l / 2) start l z twice ∙ q) (ap (λ (a : ℕ). lowestIn j (k - 1) a s) here ∙ f ∙ ap At (sym there))
-      ∙ ap₂ (λ (a b : ℕ). written (k - 1) (delivered j a (k - 1) b s)) there here))
-      e
+  -- more bytes after it
+  spot-low : {k i : ℕ} {old new : List ℕ} (r : List ℕ) → k ≤ i → Spot j k o a old new → Spot j i o a (old ++ r) (new ++ r)
+  spot-low r h s = record {
+    level = s .level;
+    before = s .before;
+    after = s .after ++ r;
+    wanted = s .wanted;
+    small = omega (arith, s .small);
+    long = s .long;
+    whole = ap (λ (xs : List ℕ). xs ++ r) (s .whole) ∙ more-after (s .before) (written (s .level) Free) (s .after) r;
+    halved = ap (λ (xs : List ℕ). xs ++ r) (s .halved) ∙ more-after (s .before) (written (s .level) (delivered j a (s .level) a Free)) (s .after) r;
+  }
+
+  -- and before it
+  spot-high : {k i p : ℕ} {old new : List ℕ} (r : List ℕ) → k ≤ i → length r + p ≡ o → Spot j k p a old new → Spot j i o a (r ++ old) (r ++ new)
+  spot-high r h e s = record {
+    level = s .level;
+    before = r ++ s .before;
+    after = s .after;
+    wanted = s .wanted;
+    small = omega (arith, s .small);
+    long = rw length-append (omega (arith, s .long));
+    whole = ap (λ (xs : List ℕ). r ++ xs) (s .whole) ∙ sym (append-assoc r (s .before) _);
+    halved = ap (λ (xs : List ℕ). r ++ xs) (s .halved) ∙ sym (append-assoc r (s .before) _);
+  }
+
+-- in a tree
+spot-tree : (j k at o : ℕ) (t : Tree) → j ≤ k → lowestIn j k at t ≡ At (at + o)
+    → Spot j k o (at + o) (written k t) (written k (delivered j (at + o) k at t))
+spot-tree j k at o Free below e =
+    let here : at ≡ at + o = same-address at (at + o) (unfold lowestIn in e) in
+    record {
+      level = k;
+      before = [];
+      after = [];
+      wanted = below;
+      small = omega arith;
+      long = omega arith;
+      whole = sym (append-nil (written k Free));
+      halved = ap (λ (b : ℕ). written k (delivered j (at + o) k b Free)) here ∙ sym (append-nil _);
+    }
+spot-tree j k at o Live below e = absurd (not-found (at + o) (unfold lowestIn in e))
+spot-tree j zero at o (Halves x y) below e = absurd (not-found (at + o) (unfold lowestIn in e))
+spot-tree j (suc k) at o (Halves x y) below e =
+    by-leb (λ _. Spot j (suc k) o (at + o) (written (suc k) (Halves x y)) (written (suc k) (delivered j (at + o) (suc k) at (Halves x y)))) (suc k) j
+    (λ large. absurd (not-found (at + o) (sym (lowest-none j k at x y large) ∙ e)))
+    (λ less.
+    ⊎-elim
+    (λ low.
+    let bound = lowest-bound j k at (at + o) x low in
+    spot-same (sym (written-halves k x y))
+    (sym (ap (written (suc k)) (delivered-first j (at + o) k at x y (bound .1)) ∙ written-halves k _ y))
+    (spot-low (written k y) (omega arith) (spot-tree j k at o x (omega arith) low)))
+    (λ high.
+    let bound = lowest-bound j k (at + size k) (at + o) y (high .1) in
+    let far : (at + size k) + (o - size k) ≡ at + o = omega (arith, bound .0) in
+    let s = subst (λ (b : ℕ). Spot j k (o - size k) b (written k y) (written k (delivered j b k (at + size k) y))) far
+    (spot-tree j k (at + size k) (o - size k) y (omega arith) (high .1 ∙ ap At (sym far))) in
+    spot-same (sym (written-halves k x y))
+    (sym (ap (written (suc k)) (delivered-second j (at + o) k at x y (bound .0)) ∙ written-halves k x _))
+    (spot-high (written k x) (omega arith) (omega (arith, bound .0, length-written k x)) s))
+    (found-where (lowestIn j k at x) (lowestIn j k (at + size k) y) (at + o) (sym (lowest-large j k at x y (omega arith)) ∙ e)))
+
+-- and in one tree after the other
+pub spot-trees : (j k at o : ℕ) (ts : List Tree) (rest : List ℕ) → j ≤ k → lowestOf j k at ts ≡ At (at + o)
+    → Spot j k o (at + o) (allWritten k ts ++ rest) (allWritten k (changed (delivered j (at + o) k) (at + o) k at ts) ++ rest)
+unfolding lowestOf
+spot-trees j k at o [] rest below e = absurd (not-found (at + o) e)
+spot-trees j k at o (t ∷ ts) rest below e =
+    let f = delivered j (at + o) k in
+    ⊎-elim
+    (λ low.
+    let bound = lowest-bound j k at (at + o) t low in
+    spot-same (sym (all-cons k t ts rest))
+    (sym (ap (λ (new : List Tree). allWritten k new ++ rest) (changed-first f (at + o) k at t ts (bound .1)) ∙ all-cons k (f at t) ts rest))
+    (spot-low (allWritten k ts ++ rest) (omega arith) (spot-tree j k at o t below low)))
+    (λ high.
+    let bound = lowestOf-bound j k (at + size k) (at + o) ts (high .1) in
+    let far : (at + size k) + (o - size k) ≡ at + o = omega arith in
+    let s = subst (λ (b : ℕ). Spot j k (o - size k) b (allWritten k ts ++ rest) (allWritten k (changed (delivered j b k) b k (at + size k) ts) ++ rest)) far
+    (spot-trees j k (at + size k) (o - size k) ts rest below (high .1 ∙ ap At (sym far))) in
+    spot-same (sym (all-cons k t ts rest))
+    (sym (ap (λ (new : List Tree). allWritten k new ++ rest) (changed-later f (at + o) k at t ts bound) ∙ all-cons k t _ rest))
+    (spot-high (written k t) (omega arith) (omega (arith, length-written k t)) s))
+    (found-where (lowestIn j k at t) (lowestOf j k (at + size k) ts) (at + o) e)
+
+-- the tag of a free block tells its size
+half-tag : (i x : ℕ) → x ≡ freeTag i → i ≡ x / 2
+unfolding freeTag
+half-tag i x e = omega arith
+
+tag-there : (i : ℕ) (before after : List ℕ) (o : ℕ) → length before ≡ o → getD (before ++ (written i Free ++ after)) o 0 ≡ freeTag i
+unfolding written
+tag-there i before after o long = getD-at before (freeTag i) (replicate (size i - 1) 0 ++ after) 0 o long
+
+-- what a split there needs and gives, of a block of the i-th size
+pub record Ready (j k o : ℕ) (m new : List ℕ) (i : ℕ) : Type 0 where
+  pub wanted : j ≤ i
+  pub small : i ≤ k
+  pub fits : o + size i ≤ length m
+  pub puts : (n : ℕ) (ys : List ℕ) → n ≡ size i
+      → ((at : ℕ) → take (o + n - o) (drop o m) ≡ written i Free → ys ≡ written i (delivered j at i at Free))
+      → take o m ++ (ys ++ drop (o + n - o) (drop o m)) ≡ new
+
+pub ready : {j k o a : ℕ} {m new : List ℕ} → Spot j k o a m new → Ready j k o m new (getD m o 0 / 2)
+ready {j} {k} {o} {a} {m} {new} s =
+    let i = s .level in
+    let rest : drop o m ≡ written i Free ++ s .after = ap (drop o) (s .whole) ∙ drop-at (s .before) _ o (s .long) in
+    let tag : getD m o 0 ≡ freeTag i = ap (λ (xs : List ℕ). getD xs o 0) (s .whole) ∙ tag-there i (s .before) (s .after) o (s .long) in
+    let level : i ≡ getD m o 0 / 2 = half-tag i (getD m o 0) tag in
+    subst (Ready j k o m new) level
+    (record {
+      wanted = s .wanted;
+      small = s .small;
+      fits = omega (arith, simp length-append at (ap length (s .whole)), s .long, length-written i Free);
+      puts = λ n ys e inner.
+          let same : o + n - o ≡ size i = omega arith in
+          let here : take (o + n - o) (drop o m) ≡ written i Free
+          = ap₂ take same rest ∙ take-at (written i Free) (s .after) (size i) (length-written i Free) in
+          let there : drop (o + n - o) (drop o m) ≡ s .after
+          = ap₂ drop same rest ∙ drop-at (written i Free) (s .after) (size i) (length-written i Free) in
+          ap₂ _++_ (ap (take o) (s .whole) ∙ take-at (s .before) _ o (s .long)) (ap₂ _++_ (inner a here) there) ∙ sym (s .halved);
+    })

@@ -1,77 +1,87 @@
--- A map keeps the section "Blocks" if none of its trees is broken and the rest is zero; and the trees one by one, as a loop meets them.
--- Assumes nothing.
+-- A map keeps the section "Blocks" if the tags of its trees, none of which is broken, sum to its bytes and the rest is zero; and the trees
+-- one by one, as a loop meets them. Assumes nothing.
 use mathlib.Core.Path.{_≡_, refl, sym, ap, ap₂, _∙_}
 use mathlib.Core.Bool.{Bool, true, false, _&&_, cond}
-use mathlib.Core.List.{List, _++_, append-assoc}
-use Prim.Native.Nat.{ℕ, zero, suc, _+_, _-_, _*_, _/_, _<_}
+use mathlib.Core.List.{List, _++_}
+use Prim.Native.Nat.{ℕ, zero, suc, _+_, _-_, _*_, _/_, _≤_, _<_}
 use native.Mathlib.Omega.{arith}
-use lib.ListN.{length, take, drop, replicate}
-use lib.Seq.{drop-drop}
+use lib.Dec.{eqb}
+use lib.ListN.{length, take, drop, replicate, length-drop}
+use lib.Seq.{drop-drop, take-add, length-take-le}
+use borrow.Author.Tests.{eq-eqb, ne-eqb}
 use Rattle.word.proofs.Pred.{one-less}
+use Rattle.word.proofs.Tests.{by-test, by-eqb}
 use Rattle.block.specs.declared.SetUp.{SetUp}
-use Rattle.buddy.specs.declared.Part.the-variants as tells
 use Rattle.block.specs.Blocks.{size}
 use Rattle.block.specs.SetUp.{top, words}
-use Rattle.block.specs.Map.{written, told, isFree, canonical, same, allWritten, allTold, allCanonical, trees, mapOf, keeps}
-use Rattle.buddy.specs.Part.{part, whole, allWhole}
-use Rattle.block.proofs.Map.{length-written}
-use Rattle.buddy.proofs.Parts.{same-append, and-assoc}
+use Rattle.block.specs.Map.{written, told, canonical, same, allWritten, allTold, allCanonical, trees, mapOf, keeps}
+use Rattle.buddy.specs.Sum.{total, tags, allTags}
+use Rattle.block.proofs.Map.{length-allWritten, length-trees}
+use Rattle.buddy.proofs.Sums.{total-append, Below, none, below-append, below-same}
+use Rattle.buddy.proofs.Parts.{same-append, and-assoc, tags-pos, told-below}
 
-whole-cond : (b c : Bool) → whole (cond b (cond c tells.Free tells.Taken) tells.Broken) ≡ b
-unfolding whole
-whole-cond true true = refl
-whole-cond true false = refl
-whole-cond false c = refl
-
--- a part is whole if the bytes are those of the tree that they tell, which is canonical
-pub whole-told : (k : ℕ) (m : List ℕ) → whole (part k m) ≡ (canonical k (told k m) && same (written k (told k m)) m)
-unfolding part
-whole-told k m = whole-cond (canonical k (told k m) && same (written k (told k m)) m) (isFree (told k m))
-
--- tests in another order
-swap : (a b c d : Bool) → ((a && b) && (c && d)) ≡ ((a && c) && (b && d))
-swap false b c d = refl
-swap true false false d = refl
-swap true false true d = refl
-swap true true false d = refl
-swap true true true d = refl
-
--- the trees that the bytes tell, and what stands after them
-kept-parts : (k c : ℕ) (m rest : List ℕ)
-    → (allCanonical k (allTold k c m) && same (allWritten k (allTold k c m) ++ rest) m) ≡ (allWhole k c m && same rest (drop (c * size k) m))
-unfolding allCanonical allTold allWritten allWhole
-kept-parts k zero m rest =
-    let none : 0 * size k ≡ 0 = omega arith in
-    ap (λ (n : ℕ). same rest (drop n m)) (sym none)
-kept-parts k (suc c) m rest =
+-- the tags of the trees that the bytes tell
+all-tags : (k c sum : ℕ) (m : List ℕ)
+    → allTags k c sum m ≡ cond (allCanonical k (allTold k c m)) (sum + total (allWritten k (allTold k c m))) 0
+unfolding allTags allCanonical allTold allWritten total
+all-tags k zero sum m = omega arith
+all-tags k (suc c) sum m =
     let t = told k (take (size k) m) in
     let ts = allTold k c (drop (size k) m) in
-    let more : size k + c * size k ≡ suc c * size k = omega arith in
-    let bytes : same ((written k t ++ allWritten k ts) ++ rest) m
-    ≡ (same (written k t) (take (size k) m) && same (allWritten k ts ++ rest) (drop (size k) m))
-    = ap (λ (xs : List ℕ). same xs m) (append-assoc (written k t) (allWritten k ts) rest)
-    ∙ same-append (written k t) (allWritten k ts ++ rest) m
-    ∙ ap (λ (n : ℕ). same (written k t) (take n m) && same (allWritten k ts ++ rest) (drop n m)) (length-written k t) in
-    ap (λ (b : Bool). (canonical k t && allCanonical k ts) && b) bytes
-    ∙ swap (canonical k t) (allCanonical k ts) _ _
-    ∙ ap₂ _&&_ (sym (whole-told k (take (size k) m))) (kept-parts k c (drop (size k) m) rest)
-    ∙ and-assoc (whole (part k (take (size k) m))) (allWhole k c (drop (size k) m)) (same rest (drop (c * size k) (drop (size k) m)))
-    ∙ ap (λ (xs : List ℕ). (whole (part k (take (size k) m)) && allWhole k c (drop (size k) m)) && same rest xs)
-    (drop-drop (c * size k) (size k) m ∙ ap (λ (n : ℕ). drop n m) more)
+    by-test (λ b. canonical k t ≡ b → cond (eqb (tags k (take (size k) m)) 0) 0 (allTags k c (sum + tags k (take (size k) m)) (drop (size k) m))
+    ≡ cond (b && allCanonical k ts) (sum + total (written k t ++ allWritten k ts)) 0) (canonical k t)
+    (λ e h.
+    let some : tags k (take (size k) m) ≡ total (written k t) = unfold tags in rw h in
+    let more : sum + total (written k t) + total (allWritten k ts) ≡ sum + total (written k t ++ allWritten k ts) = rw total-append (omega arith) in
+    rw (some, ne-eqb (total (written k t)) 0 (λ z. omega (arith, tags-pos k t h)))
+    (all-tags k c (sum + total (written k t)) (drop (size k) m) ∙ ap (λ (n : ℕ). cond (allCanonical k ts) n 0) more))
+    (λ e h.
+    let broken : tags k (take (size k) m) ≡ 0 = unfold tags in rw h in
+    rw (broken))
+    refl
 
--- a map keeps the section if its trees are whole and it is zero after them
-pub keeps-whole : (u : SetUp) (m : List ℕ)
-    → keeps u m ≡ (allWhole (top (u .d)) (words u / size (top (u .d))) m && same (replicate (length m - words u) 0) (drop (words u / size (top (u .d)) * size (top (u .d))) m))
+-- their bytes are nowhere below what is written of them
+all-below : (k c : ℕ) (m : List ℕ) → c * size k ≤ length m → Below (allWritten k (allTold k c m)) (take (c * size k) m)
+unfolding allTold allWritten
+all-below k zero m h = let z : 0 * size k ≡ 0 = omega arith in rw z none
+all-below k (suc c) m h =
+    let more : suc c * size k ≡ size k + c * size k = omega arith in
+    rw (more, take-add)
+    (below-append (told-below k (take (size k) m) (length-take-le (size k) m (omega arith)))
+    (all-below k c (drop (size k) m) (rw length-drop (omega arith))))
+
+-- sums that are compared after a test
+tested : (b : Bool) (x y : ℕ) → (b && eqb x y) ≡ eqb (cond b (1 + x) 0) (1 + y)
+tested true x y = by-eqb (λ t. t ≡ eqb (1 + x) (1 + y)) x y (λ e. sym (eq-eqb (1 + x) (1 + y) (omega arith))) (λ f. sym (ne-eqb (1 + x) (1 + y) (λ e. f (omega arith))))
+tested false x y = sym (ne-eqb 0 (1 + y) (λ e. omega arith))
+
+-- a map keeps the section if its trees' tags are all that is not zero
+pub keeps-sums : (u : SetUp) (m : List ℕ) → let k = top (u .d) in let end = words u / size k * size k in end ≤ length m
+    → keeps u m ≡ (eqb (allTags k (words u / size k) 1 m) (1 + total (take end m)) && same (replicate (length m - words u) 0) (drop end m))
 unfolding keeps trees mapOf
-keeps-whole u m = kept-parts (top (u .d)) (words u / size (top (u .d))) m (replicate (length m - words u) 0)
+keeps-sums u m h =
+    let k = top (u .d) in
+    let c = words u / size k in
+    let zeros = replicate {A = ℕ} (length m - words u) 0 in
+    let ts = allTold k c m in
+    let long : length (allWritten k ts) ≡ c * size k = length-allWritten k ts ∙ ap (λ (n : ℕ). n * size k) (length-trees u m) in
+    let bytes : same (allWritten k ts ++ zeros) m ≡ (eqb (total (allWritten k ts)) (total (take (c * size k) m)) && same zeros (drop (c * size k) m))
+    = same-append (allWritten k ts) zeros m
+    ∙ ap (λ (n : ℕ). same (allWritten k ts) (take n m) && same zeros (drop n m)) long
+    ∙ ap (λ (b : Bool). b && same zeros (drop (c * size k) m)) (below-same (all-below k c m h)) in
+    ap (λ (b : Bool). allCanonical k ts && b) bytes
+    ∙ and-assoc (allCanonical k ts) _ _
+    ∙ ap (λ (b : Bool). b && same zeros (drop (c * size k) m))
+    (tested (allCanonical k ts) (total (allWritten k ts)) (total (take (c * size k) m))
+    ∙ ap (λ (n : ℕ). eqb n (1 + total (take (c * size k) m))) (sym (all-tags k c 1 m)))
 
 -- no tree is left
-pub whole-end : (k left : ℕ) (m : List ℕ) → left ≡ 0 → allWhole k left m ≡ true
-unfolding allWhole
-whole-end k zero m e = refl
-whole-end k (suc left) m e = absurd (omega arith)
+pub tags-end : (k left sum : ℕ) (m : List ℕ) → left ≡ 0 → allTags k left sum m ≡ sum
+unfolding allTags
+tags-end k zero sum m e = refl
+tags-end k (suc left) sum m e = absurd (omega arith)
 
-module _ (k n i : ℕ) (m : List ℕ) (e : n ≡ size k) where
+module _ (k n i sum : ℕ) (m : List ℕ) (e : n ≡ size k) where
   -- the bytes of the next tree as a part of the slice
   next-tree : take (i + n - i) (drop i m) ≡ take (size k) (drop i m)
   next-tree = ap (λ (c : ℕ). take c (drop i m)) (let same : i + n - i ≡ n = omega arith in same ∙ e)
@@ -79,8 +89,18 @@ module _ (k n i : ℕ) (m : List ℕ) (e : n ≡ size k) where
   next-rest : drop (size k) (drop i m) ≡ drop (i + n) m
   next-rest = drop-drop (size k) i m ∙ ap (λ (c : ℕ). drop (i + c) m) (sym e)
 
-  -- one more tree is whole
-  pub whole-next : (left : ℕ) → 0 < left → allWhole k left (drop i m) ≡ (whole (part k (take (i + n - i) (drop i m))) && allWhole k (left - 1) (drop (i + n) m))
-  whole-next =
-      one-less (λ left rest. allWhole k left (drop i m) ≡ (whole (part k (take (i + n - i) (drop i m))) && allWhole k rest (drop (i + n) m)))
-      (λ rest. unfold allWhole in ap₂ (λ (xs ys : List ℕ). whole (part k xs) && allWhole k rest ys) (sym next-tree) next-rest)
+  -- one tree more
+  tags-next : (left : ℕ) → 0 < left → let next = tags k (take (i + n - i) (drop i m)) in
+      allTags k left sum (drop i m) ≡ cond (eqb next 0) 0 (allTags k (left - 1) (sum + next) (drop (i + n) m))
+  tags-next =
+      one-less (λ left rest. let next = tags k (take (i + n - i) (drop i m)) in
+      allTags k left sum (drop i m) ≡ cond (eqb next 0) 0 (allTags k rest (sum + next) (drop (i + n) m)))
+      (λ rest. unfold allTags in
+      ap₂ (λ (xs ys : List ℕ). cond (eqb (tags k xs) 0) 0 (allTags k rest (sum + tags k xs) ys)) (sym next-tree) next-rest)
+
+  module _ (left next : ℕ) (some : 0 < left) (is : next ≡ tags k (take (i + n - i) (drop i m))) where
+    pub tags-on : (next ≡ 0 → ⊥) → allTags k left sum (drop i m) ≡ allTags k (left - 1) (sum + next) (drop (i + n) m)
+    tags-on f = tags-next left some ∙ rw (← is, ne-eqb next 0 f)
+
+    pub tags-off : next ≡ 0 → allTags k left sum (drop i m) ≡ 0
+    tags-off z = tags-next left some ∙ rw (← is, eq-eqb next 0 z)

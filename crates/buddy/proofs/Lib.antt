@@ -1,7 +1,9 @@
 -- The laws that the proofs of the functions cite.
 pub mod Level
 pub mod Halves
+pub mod Sums
 pub mod Parts
+pub mod Adding
 pub mod Tags
 pub mod Zeros
 pub mod Lowest
@@ -9,6 +11,7 @@ pub mod LiveSize
 pub mod First
 pub mod Fits
 pub mod Rest
+pub mod Upward
 pub mod Scan
 pub mod Keeping
 pub mod Placed

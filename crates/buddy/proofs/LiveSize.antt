@@ -11,7 +11,7 @@ use borrow.Author.Tests.{eq-eqb, ne-eqb, le-ltb}
 use Rattle.block.specs.Blocks.{size, Block, Tree, Free, Live, Halves, liveIn, gathered, sizeAt}
 use Rattle.block.specs.Map.{freeTag, liveTag, written, allWritten}
 use Rattle.buddy.specs.Tag.{tagSize}
-use Rattle.word.proofs.Tests.{by-leb}
+use Rattle.word.proofs.Tests.{by-leb, by-eqb}
 use Rattle.block.proofs.Size.{size-suc, size-zero}
 use Rattle.block.proofs.Map.{length-written}
 use Rattle.block.proofs.Each.{Each, each-nil, each-cons, each-map}
@@ -128,3 +128,15 @@ tag-below k at a ts h = size-none a (each-map (past-other h) (all-within k at ts
 
 pub tag-above : (k at a : ℕ) (ts : List Tree) → at + length ts * size k ≤ a → sizeAt a (gathered (liveIn k) k at ts) ≡ 0
 tag-above k at a ts h = size-none a (each-map (before-other h) (all-within k at ts))
+
+-- a byte that tells a size is the tag of a live block
+pub live-size : (x : ℕ) → (tagSize x ≡ 0 → ⊥) → x ≡ liveTag (x / 2 - 1)
+unfolding tagSize liveTag
+live-size x some =
+    by-leb (λ b. (cond b 0 (cond (eqb (x % 2) 1) 0 (cond (ltb x 2) 0 (size (x / 2 - 1)))) ≡ 0 → ⊥) → x ≡ suc (suc ((x / 2 - 1) + (x / 2 - 1)))) 17 x
+    (λ l no-size. absurd (no-size refl))
+    (λ l. by-eqb (λ b. (cond b 0 (cond (ltb x 2) 0 (size (x / 2 - 1))) ≡ 0 → ⊥) → x ≡ suc (suc ((x / 2 - 1) + (x / 2 - 1)))) (x % 2) 1
+    (λ odd no-size. absurd (no-size refl))
+    (λ even. by-leb (λ b. (cond b 0 (size (x / 2 - 1)) ≡ 0 → ⊥) → x ≡ suc (suc ((x / 2 - 1) + (x / 2 - 1)))) (suc x) 2
+    (λ less no-size. absurd (no-size refl)) (λ large _. omega arith)))
+    some

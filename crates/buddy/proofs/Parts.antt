@@ -1,59 +1,21 @@
--- What the bytes of a block tell, by its first byte and its halves. Assumes nothing.
-use mathlib.Core.Path.{_≡_, refl, sym, ap, _∙_}
-use mathlib.Core.Bool.{Bool, true, false, not, _&&_, cond}
+-- What the bytes of a block tell, by its first byte and its halves: the tags of its blocks, which are nowhere above the bytes.
+-- Assumes nothing.
+use mathlib.Core.Path.{_≡_, refl, ap, _∙_}
+use mathlib.Core.Bool.{Bool, true, false, _&&_, _||_, cond}
 use mathlib.Core.List.{List, [], _∷_, _++_}
-use Prim.Native.Nat.{ℕ, zero, suc, _+_, _-_, _/_, _<_}
+use Prim.Native.Nat.{ℕ, zero, suc, _+_, _-_, _≤_, _<_}
 use native.Mathlib.Omega.{arith}
 use lib.Dec.{eqb}
-use lib.ListN.{length, getD, take, drop, replicate}
-use borrow.Author.Tests.{eq-eqb, ne-eqb}
-use Rattle.word.proofs.Pred.{one-less}
-use Rattle.buddy.specs.declared.Part.the-variants as tells
-use Rattle.block.specs.Blocks.{size, Tree, Free, Live}
+use lib.ListN.{length, getD, take, drop, replicate, take-append-drop, length-drop}
+use lib.Seq.{length-take-le}
+use borrow.Author.Tests.{eq-eqb, ne-eqb, eqb-true, eqb-false}
+use Rattle.word.proofs.Tests.{by-test, by-eqb}
+use Rattle.block.specs.Blocks.{size, Tree, Free, Live, Halves}
 use Rattle.block.specs.Map.{freeTag, liveTag, written, told, isFree, canonical, same}
-use Rattle.buddy.specs.Part.{part, both, leaf}
-use Rattle.block.proofs.Size.{size-pos}
-use Rattle.block.proofs.Map.{told-step, halved, length-written}
-use Rattle.buddy.proofs.Halves.{half-size, upper}
-
--- the part of a tree that the bytes tell
-part-told : (k : ℕ) (m : List ℕ) {t : Tree} → told k m ≡ t
-    → part k m ≡ cond (canonical k t && same (written k t) m) (cond (isFree t) tells.Free tells.Taken) tells.Broken
-unfolding part
-part-told k m e = rw e
-
--- the bytes of one block after the first
-block-same : (tag n x : ℕ) (xs : List ℕ) → x ≡ tag → suc (length xs) ≡ n
-    → same (tag ∷ replicate (n - 1) 0) (x ∷ xs) ≡ same (replicate (suc (length xs) - 1) 0) xs
-unfolding same
-block-same tag n x xs e l = rw (eq-eqb tag x (sym e), l)
-
--- a free tag first
-pub part-free : (k : ℕ) (m : List ℕ) → length m ≡ size k → getD m 0 0 ≡ freeTag k → part k m ≡ leaf tells.Free m
-unfolding canonical isFree written leaf
-part-free k [] long first = absurd (omega (arith, size-pos k))
-part-free k (x ∷ xs) long first =
-    part-told k (x ∷ xs) {t = Free} (told-step k (x ∷ xs) ∙ rw (eq-eqb x (freeTag k) first))
-    ∙ ap (λ b. cond b tells.Free tells.Broken) (block-same (freeTag k) (size k) x xs first long)
-
--- a live tag first
-pub part-live : (k : ℕ) (m : List ℕ) → length m ≡ size k → getD m 0 0 ≡ liveTag k → part k m ≡ leaf tells.Taken m
-unfolding canonical isFree written leaf
-part-live k [] long first = absurd (omega (arith, size-pos k))
-part-live k (x ∷ xs) long first =
-    let other : x ≡ freeTag k → ⊥ = λ e. unfold freeTag liveTag in omega arith in
-    part-told k (x ∷ xs) {t = Live} (told-step k (x ∷ xs) ∙ rw (ne-eqb x (freeTag k) other, eq-eqb x (liveTag k) first))
-    ∙ ap (λ b. cond b tells.Taken tells.Broken) (block-same (liveTag k) (size k) x xs first long)
-
--- neither tag first
-told-halved : (k : ℕ) (m : List ℕ) → (getD m 0 0 ≡ freeTag k → ⊥) → (getD m 0 0 ≡ liveTag k → ⊥) → told k m ≡ halved k m
-told-halved k m f l = told-step k m ∙ rw (ne-eqb (getD m 0 0) (freeTag k) f, ne-eqb (getD m 0 0) (liveTag k) l)
-
--- in a block of one word
-pub part-word : (k : ℕ) (m : List ℕ) → k ≡ 0 → (getD m 0 0 ≡ freeTag k → ⊥) → (getD m 0 0 ≡ liveTag k → ⊥) → part k m ≡ tells.Broken
-unfolding halved canonical
-part-word zero m e f l = part-told 0 m (told-halved 0 m f l)
-part-word (suc k) m e f l = absurd (omega arith)
+use Rattle.buddy.specs.Sum.{total, isTag, tags}
+use Rattle.block.proofs.Size.{size-zero, size-suc, size-pos, size-small}
+use Rattle.block.proofs.Map.{told-step, halved, canonical-halves}
+use Rattle.buddy.proofs.Sums.{total-append, total-zeros, Below, none, more, below-append, below-zeros}
 
 pub and-assoc : (s t r : Bool) → (s && (t && r)) ≡ ((s && t) && r)
 and-assoc true t r = refl
@@ -66,50 +28,105 @@ same-append [] ys m = refl
 same-append (x ∷ xs) ys [] = refl
 same-append (x ∷ xs) ys (y ∷ m) = ap (λ b. eqb x y && b) (same-append xs ys m) ∙ and-assoc (eqb x y) _ _
 
--- the tests of two halves and of the whole
-whole-part : (cl cr fl fr sl sr : Bool)
-    → cond (((cl && cr) && not (fl && fr)) && (sl && sr)) tells.Taken tells.Broken
-    ≡ both (cond (cl && sl) (cond fl tells.Free tells.Taken) tells.Broken) (cond (cr && sr) (cond fr tells.Free tells.Taken) tells.Broken)
-unfolding both
-whole-part false cr fl fr sl sr = refl
-whole-part true false false fr false sr = refl
-whole-part true false false fr true sr = refl
-whole-part true false true fr false sr = refl
-whole-part true false true fr true sr = refl
-whole-part true true true true false false = refl
-whole-part true true true true false true = refl
-whole-part true true true true true false = refl
-whole-part true true true true true true = refl
-whole-part true true true false false false = refl
-whole-part true true true false false true = refl
-whole-part true true true false true false = refl
-whole-part true true true false true true = refl
-whole-part true true false true false false = refl
-whole-part true true false true false true = refl
-whole-part true true false true true false = refl
-whole-part true true false true true true = refl
-whole-part true true false false false false = refl
-whole-part true true false false false true = refl
-whole-part true true false false true false = refl
-whole-part true true false false true true = refl
+-- the tags of a canonical tree are no less than 1, and of any tree at most two for each word
+pub tags-pos : (k : ℕ) (t : Tree) → canonical k t ≡ true → 0 < total (written k t)
+unfolding written total freeTag liveTag
+tags-pos k Free h = omega arith
+tags-pos k Live h = omega arith
+tags-pos zero (Halves l r) h = unfold canonical in absurd (let z : _≡_ {A = ℕ} 0 1 = cc in omega arith)
+tags-pos (suc k) (Halves l r) h = rw total-append (omega (arith, tags-pos k l (canonical-halves k l r h .0)))
 
--- in a block of two halves
-halves-part : (k : ℕ) (m : List ℕ) → (getD m 0 0 ≡ freeTag (suc k) → ⊥) → (getD m 0 0 ≡ liveTag (suc k) → ⊥)
-    → part (suc k) m ≡ both (part k (take (size k) m)) (part k (drop (size k) m))
-unfolding halved canonical written isFree part
-halves-part k m f l =
-    let low = told k (take (size k) m) in
-    let high = told k (drop (size k) m) in
-    part-told (suc k) m (told-halved (suc k) m f l)
-    ∙ rw (same-append (written k low) (written k high) m, length-written k low)
-    (whole-part (canonical k low) (canonical k high) (isFree low) (isFree high)
-    (same (written k low) (take (size k) m)) (same (written k high) (drop (size k) m)))
+level-size : (k : ℕ) → k < size k
+level-size zero = rw size-zero (omega arith)
+level-size (suc k) = rw size-suc (omega (arith, level-size k))
 
--- by the halves of the slice
-pub part-halves : (k : ℕ) (m : List ℕ) → 0 < k → length m ≡ size k → (getD m 0 0 ≡ freeTag k → ⊥) → (getD m 0 0 ≡ liveTag k → ⊥)
-    → part k m ≡ both (part (k - 1) (take (length m / 2) m)) (part (k - 1) (take (length m - length m / 2) (drop (length m / 2) m)))
-part-halves k m h long =
-    rw (upper, half-size k (length m) h long)
-    (one-less
-    (λ i j. (getD m 0 0 ≡ freeTag i → ⊥) → (getD m 0 0 ≡ liveTag i → ⊥) → part i m ≡ both (part j (take (size j) m)) (part j (drop (size j) m)))
-    (λ j. halves-part j m) k h)
+tags-most : (k : ℕ) (t : Tree) → total (written k t) ≤ size k + size k
+unfolding written total freeTag liveTag
+tags-most k Free = rw total-zeros (omega (arith, level-size k))
+tags-most k Live = rw total-zeros (omega (arith, level-size k))
+tags-most zero (Halves l r) = omega arith
+tags-most (suc k) (Halves l r) = rw (total-append, size-suc) (omega (arith, tags-most k l, tags-most k r))
+
+pub tags-small : (k : ℕ) (m : List ℕ) → k ≤ 7 → tags k m ≤ 256
+unfolding tags
+tags-small k m h =
+    by-test (λ t. cond t (total (written k (told k m))) 0 ≤ 256) (canonical k (told k m))
+    (λ e. omega (arith, tags-most k (told k m), size-small k h)) (λ e. omega arith)
+
+-- the tags of the tree that the bytes tell
+pub tags-told : (k : ℕ) (m : List ℕ) {t : Tree} → told k m ≡ t → tags k m ≡ cond (canonical k t) (total (written k t)) 0
+unfolding tags
+tags-told k m e = rw e
+
+pub told-free : (k : ℕ) (m : List ℕ) → getD m 0 0 ≡ freeTag k → told k m ≡ Free
+told-free k m e = told-step k m ∙ rw (eq-eqb (getD m 0 0) (freeTag k) e)
+
+pub told-live : (k : ℕ) (m : List ℕ) → getD m 0 0 ≡ liveTag k → told k m ≡ Live
+told-live k m e =
+    let other : getD m 0 0 ≡ freeTag k → ⊥ = λ f. unfold freeTag liveTag in omega arith in
+    told-step k m ∙ rw (ne-eqb (getD m 0 0) (freeTag k) other, eq-eqb (getD m 0 0) (liveTag k) e)
+
+-- the first byte is no tag
+pub no-tag : (k x : ℕ) → isTag k x ≡ false → (x ≡ freeTag k → ⊥) × (x ≡ liveTag k → ⊥)
+unfolding isTag
+no-tag k x =
+    by-eqb (λ t. (t || eqb x (liveTag k)) ≡ false → (x ≡ freeTag k → ⊥) × (x ≡ liveTag k → ⊥)) x (freeTag k)
+    (λ e h. absurd (let z : _≡_ {A = ℕ} 0 1 = cc in omega arith)) (λ f h. (f, eqb-false x (liveTag k) h))
+
+-- one block
+pub tags-block : (k : ℕ) (m : List ℕ) → isTag k (getD m 0 0) ≡ true → tags k m ≡ getD m 0 0
+unfolding isTag canonical written total
+tags-block k m =
+    by-eqb (λ t. (t || eqb (getD m 0 0) (liveTag k)) ≡ true → tags k m ≡ getD m 0 0) (getD m 0 0) (freeTag k)
+    (λ e h. tags-told k m (told-free k m e) ∙ rw total-zeros (omega arith))
+    (λ f h. let e = eqb-true (getD m 0 0) (liveTag k) h in tags-told k m (told-live k m e) ∙ rw total-zeros (omega arith))
+
+pub told-halved : (k : ℕ) (m : List ℕ) → isTag k (getD m 0 0) ≡ false → told k m ≡ halved k m
+told-halved k m h =
+    let (f, l) = no-tag k (getD m 0 0) h in
+    told-step k m ∙ rw (ne-eqb (getD m 0 0) (freeTag k) f, ne-eqb (getD m 0 0) (liveTag k) l)
+
+halves-not-free : (k : ℕ) (m : List ℕ) → isFree (halved k m) ≡ false
+unfolding halved isFree
+halves-not-free zero m = refl
+halves-not-free (suc k) m = refl
+
+-- a free tag first tells a free block
+pub free-told : (k : ℕ) (m : List ℕ) → isFree (told k m) ≡ eqb (getD m 0 0) (freeTag k)
+free-told k m =
+    rw told-step
+    (by-test (λ t. isFree (cond t Free (cond (eqb (getD m 0 0) (liveTag k)) Live (halved k m))) ≡ t) (eqb (getD m 0 0) (freeTag k))
+    (λ e. unfold isFree in refl)
+    (λ e. by-test (λ t. isFree (cond t Live (halved k m)) ≡ false) (eqb (getD m 0 0) (liveTag k)) (λ e. unfold isFree in refl) (λ e. halves-not-free k m)))
+
+-- the bytes of one block are nowhere below its tag and zeros
+block-below : (tag n : ℕ) (m : List ℕ) → length m ≡ n → 0 < n → getD m 0 0 ≡ tag → Below (tag ∷ replicate (n - 1) 0) m
+block-below tag n [] long h e = absurd (omega arith)
+block-below tag n (x ∷ xs) long h e =
+    let rest : n - 1 ≡ length xs = omega arith in
+    let first : tag ≤ x = omega arith in
+    rw rest (more first (below-zeros xs))
+
+word-below : (m : List ℕ) → length m ≡ 1 → Below (0 ∷ []) m
+word-below [] long = absurd (omega arith)
+word-below (x ∷ []) long = let low : 0 ≤ x = omega arith in more low none
+word-below (x ∷ (y ∷ m)) long = absurd (omega arith)
+
+-- what is written of the tree that bytes tell is nowhere above them
+step-below : (k : ℕ) (m : List ℕ) → length m ≡ size k → Below (written k (halved k m)) m → Below (written k (told k m)) m
+step-below k m long rest =
+    rw told-step
+    (by-eqb (λ t. Below (written k (cond t Free (cond (eqb (getD m 0 0) (liveTag k)) Live (halved k m)))) m) (getD m 0 0) (freeTag k)
+    (λ e. unfold written in block-below (freeTag k) (size k) m long (size-pos k) e)
+    (λ f. by-eqb (λ t. Below (written k (cond t Live (halved k m))) m) (getD m 0 0) (liveTag k)
+    (λ e. unfold written in block-below (liveTag k) (size k) m long (size-pos k) e)
+    (λ l. rest)))
+
+pub told-below : (k : ℕ) (m : List ℕ) → length m ≡ size k → Below (written k (told k m)) m
+unfolding halved written
+told-below zero m long = step-below 0 m long (word-below m (long ∙ size-zero))
+told-below (suc k) m long =
+    let twice = size-suc k in
+    let low = told-below k (take (size k) m) (length-take-le (size k) m (omega arith)) in
+    let high = told-below k (drop (size k) m) (rw length-drop (omega arith)) in
+    step-below (suc k) m long (rw take-append-drop at (below-append low high))

@@ -1,21 +1,16 @@
 -- One tree of a map at its place: its bytes are a part of the map, and the map with other bytes there is that of the changed trees. Assumes nothing.
 use mathlib.Core.Path.{_≡_, sym, ap, ap₂, subst, _∙_}
 use mathlib.Core.Bool.{true}
-use mathlib.Core.Logic.{⊎-elim}
 use mathlib.Core.List.{List, [], _∷_, _++_, append-assoc}
 use Prim.Native.Nat.{ℕ, zero, suc, _+_, _*_, _≤_, _<_}
 use native.Mathlib.Omega.{arith}
 use lib.ListN.{length, take, drop}
 use lib.Seq.{take-at, drop-at, drop-drop, take-add}
 use borrow.Author.Tests.{lt-ltb, le-ltb}
-use Rattle.buddy.specs.declared.Found.the-variants.{At}
 use Rattle.block.specs.Blocks.{size, Tree, changed}
 use Rattle.block.specs.Map.{written, canonical, allWritten, allCanonical}
-use Rattle.buddy.specs.Lowest.{lowestIn}
 use Rattle.word.proofs.Tests.{and-true}
-use Rattle.buddy.proofs.Delivered.{found-where, lowest-bound, lowestOf-bound}
 use Rattle.block.proofs.Map.{length-written}
-use Rattle.buddy.proofs.Lowest.{lowestOf}
 
 -- the tree at the q-th place of trees whose map is m
 pub record Placed (k q : ℕ) (ts : List Tree) (m rest : List ℕ) : Type 0 where
@@ -24,33 +19,19 @@ pub record Placed (k q : ℕ) (ts : List Tree) (m rest : List ℕ) : Type 0 wher
   pub bytes : take (size k) (drop (q * size k) m) ≡ written k tree
   pub puts : (f : ℕ → Tree → Tree) (a at : ℕ) → at + q * size k ≤ a → a < (at + q * size k) + size k
       → take (q * size k) m ++ (written k (f (at + q * size k) tree) ++ drop (size k) (drop (q * size k) m)) ≡ allWritten k (changed f a k at ts) ++ rest
-  pub lowest : (j a at : ℕ) → lowestOf j k at ts ≡ At a → at + q * size k ≤ a → a < (at + q * size k) + size k → lowestIn j k (at + q * size k) tree ≡ At a
-
--- the lowest run is found in the tree around it
-lowest-first : (j k a at : ℕ) (t : Tree) (ts : List Tree) → lowestOf j k at (t ∷ ts) ≡ At a → a < at + size k → lowestIn j k at t ≡ At a
-unfolding lowestOf
-lowest-first j k a at t ts e l =
-    ⊎-elim (λ q. q) (λ q. absurd (let bound = lowestOf-bound j k (at + size k) a ts (q .1) in omega arith))
-    (found-where (lowestIn j k at t) (lowestOf j k (at + size k) ts) a e)
-
-lowest-later : (j k a at : ℕ) (t : Tree) (ts : List Tree) → lowestOf j k at (t ∷ ts) ≡ At a → at + size k ≤ a → lowestOf j k (at + size k) ts ≡ At a
-unfolding lowestOf
-lowest-later j k a at t ts e l =
-    ⊎-elim (λ q. absurd (let bound = lowest-bound j k at a t q in omega (arith, bound .1))) (λ q. q .1)
-    (found-where (lowestIn j k at t) (lowestOf j k (at + size k) ts) a e)
 
 -- the bytes of the first tree and the others
-all-cons : (k : ℕ) (t : Tree) (ts : List Tree) (rest : List ℕ) → allWritten k (t ∷ ts) ++ rest ≡ written k t ++ (allWritten k ts ++ rest)
+pub all-cons : (k : ℕ) (t : Tree) (ts : List Tree) (rest : List ℕ) → allWritten k (t ∷ ts) ++ rest ≡ written k t ++ (allWritten k ts ++ rest)
 unfolding allWritten
 all-cons k t ts rest = append-assoc (written k t) (allWritten k ts) rest
 
 module _ (f : ℕ → Tree → Tree) (a k at : ℕ) (t : Tree) (ts : List Tree) where
   -- the first tree is changed, or a later one
-  changed-first : a < at + size k → changed f a k at (t ∷ ts) ≡ f at t ∷ ts
+  pub changed-first : a < at + size k → changed f a k at (t ∷ ts) ≡ f at t ∷ ts
   unfolding changed
   changed-first h = rw (lt-ltb a (at + size k) h)
 
-  changed-later : at + size k ≤ a → changed f a k at (t ∷ ts) ≡ t ∷ changed f a k (at + size k) ts
+  pub changed-later : at + size k ≤ a → changed f a k at (t ∷ ts) ≡ t ∷ changed f a k (at + size k) ts
   unfolding changed
   changed-later h = rw (le-ltb a (at + size k) h)
 
@@ -69,9 +50,6 @@ placed-first k t ts rest h =
           let here : at + 0 * size k ≡ at = omega arith in
           rw (here, none, drop-at (written k t) later (size k) long)
           (sym (all-cons k (f at t) ts rest) ∙ ap (λ (new : List Tree). allWritten k new ++ rest) (sym (changed-first f a k at t ts (omega arith))));
-      lowest = λ j a at e l u.
-          let here : at + 0 * size k ≡ at = omega arith in
-          ap (λ (b : ℕ). lowestIn j k b t) here ∙ lowest-first j k a at t ts e (omega arith);
     }
 
 -- a later one
@@ -96,10 +74,6 @@ placed-later k q t ts m rest p =
           ∙ ap (λ (xs : List ℕ). written k t ++ xs) (p .puts f a (at + size k) (omega arith) (omega arith))
           ∙ sym (all-cons k t (changed f a k (at + size k) ts) rest)
           ∙ ap (λ (new : List Tree). allWritten k new ++ rest) (sym (changed-later f a k at t ts (omega arith)));
-      lowest = λ j a at e l u.
-          let there : at + suc q * size k ≡ (at + size k) + q * size k = omega arith in
-          ap (λ (b : ℕ). lowestIn j k b (p .tree)) there
-          ∙ p .lowest j a (at + size k) (lowest-later j k a at t ts e (omega arith)) (omega arith) (omega arith);
     }
 
 -- each of the trees

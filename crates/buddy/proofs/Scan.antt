@@ -12,7 +12,7 @@ use Rattle.block.specs.SetUp.{top, words, runs}
 use Rattle.block.specs.Map.{freeTag, liveTag, written, canonical, keeps, live}
 use Rattle.buddy.specs.declared.Found.{Found}
 use Rattle.buddy.specs.declared.Found.the-variants.{At, Nothing}
-use Rattle.buddy.specs.Lowest.{firstOf, orElse, lowestIn}
+use Rattle.buddy.specs.Lowest.{firstOf, orElse, lowestIn, Passed, here, more as passes}
 use Rattle.word.proofs.Tests.{by-leb}
 use Rattle.block.proofs.Map.{first-append, canonical-halves}
 use Rattle.buddy.proofs.Tags.{halves-first}
@@ -109,6 +109,17 @@ module _ (s w i : ℕ) (m : List ℕ) {j : ℕ} {r : Found} where
         go p (free k l e found) = absurd (omega arith)
         go p (taken k l h e a) = absurd (omega arith)
         go p (small h a) = goes-on s w i m (omega arith) (subst (λ (x : ℕ). After (lowestMade j) j x (s + i) (w - i) (drop i m) r) (sym is) a)
+
+-- bytes of smaller blocks are passed
+pub passed-scanned : {m : List ℕ} {end least n from i : ℕ} (s w j : ℕ) {r : Found} → end ≡ w → least ≡ freeTag j → n ≡ size j
+    → Scanned j s w m r from → Passed m end least n from i → Scanned j s w m r i
+passed-scanned s w j e tag is scanned here = scanned
+passed-scanned {m} {n = n} s w j e tag is scanned (passes {i} p l less) =
+    meets-small s w i m (passed-scanned s w j e tag is scanned p) (omega arith) n is (omega arith)
+
+pub passed-on : {m : List ℕ} {end least n from i : ℕ} → Passed m end least n from i → from ≤ i
+passed-on here = omega arith
+passed-on (passes p l less) = omega (arith, passed-on p)
 
 -- at the end there is none
 pub scan-ends : (s w i : ℕ) (m : List ℕ) {j : ℕ} {r : Found} → Scanned j s w m r i → w ≤ i → Nothing ≡ r

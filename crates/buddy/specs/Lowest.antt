@@ -1,5 +1,6 @@
 -- The lowest aligned run: the start of the first free block that is large enough. Document 01, "Blocks". Assumes nothing.
-use Prim.Native.Nat.{ℕ, zero, suc, _+_}
+use Prim.Native.Nat.{ℕ, zero, suc, _+_, _<_}
+use lib.ListN.{getD}
 use mathlib.Core.Bool.{cond}
 use mathlib.Core.List.{List, [], _∷_}
 use lib.Dec.{leb}
@@ -23,3 +24,8 @@ lowestIn j k at Free = At at
 lowestIn j k at Live = Nothing
 lowestIn j zero at (Halves l r) = Nothing
 lowestIn j (suc k) at (Halves l r) = cond (leb (suc k) j) Nothing (orElse (lowestIn j k at l) (lowestIn j k (at + size k) r))
+
+-- a scan from a place on, n bytes at a time, has passed bytes before the end that are below a tag, and come to another place
+pub data Passed (m : List ℕ) (end least n from : ℕ) : ℕ → Type 0 where
+  here : Passed m end least n from from
+  more : {i : ℕ} → Passed m end least n from i → i < end → getD m i 0 < least → Passed m end least n from (i + n)

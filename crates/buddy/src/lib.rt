@@ -10,10 +10,3 @@ pub enum Found {
     At(usize),
     Nothing,
 }
-
-// What the bytes of one block tell: no tree that keeps the section, one free block, or a tree with a live block in it.
-pub enum Part {
-    Broken,
-    Free,
-    Taken,
-}

@@ -2,22 +2,21 @@
 ghost use mathlib.Core.Path.{_≡_};
 ghost use mathlib.Core.Bool.{true};
 ghost use Prim.Native.Nat.{_+_, _-_, _*_, _/_, _%_, _≤_, _<_};
-ghost use lib.ListN.{length};
+ghost use lib.ListN.{length, getD};
 ghost use Rattle.buddy.specs.declared.Found.the-variants.{At};
 ghost use Rattle.block.specs.Blocks.{size, sizeAt};
 ghost use Rattle.block.specs.SetUp.{top, words, runs};
 ghost use Rattle.block.specs.Map.{keeps, live, freedMap, deliveredMap};
-ghost use Rattle.buddy.specs.Part.{whole, allWhole};
-ghost use Rattle.buddy.specs.Lowest.{firstOf};
+ghost use Rattle.buddy.specs.Sum.{total, allTags};
+ghost use Rattle.buddy.specs.Lowest.{firstOf, Passed};
 ghost use Rattle.buddy.specs.Tag.{tagSize};
 use super::Found;
-use super::Part;
 use super::sizes::size_of;
 use super::sizes::top_of;
-use super::tree::check;
-use super::tree::deliver_at;
-use super::tree::free_at;
 use super::tree::free_tag;
+use super::tree::free_up;
+use super::tree::split;
+use super::tree::tree_tags;
 use super::tree::zero_from;
 use block::SetUp;
 
@@ -34,36 +33,63 @@ pub fn words_of(setup: SetUp) -> usize
     (setup.s2 - setup.s1) as usize + 1
 }
 
-// Whether a part is not broken.
-fn is_whole(part: Part) -> bool
-    ensures { λ r. ⌜ r ≡ whole part ⌝ }
+// The sum of at most 256 bytes.
+fn part_sum(part: &[u8]) -> u16
+    requires { ⌜ length (now part) ≤ 256 ⌝ }
+    ensures { λ r. ⌜ r ≡ total (now (part .entry)) ⌝ }
 {
-    match part {
-        Part::Broken => false,
-        Part::Free => true,
-        Part::Taken => true,
+    let mut sum: u16 = 0;
+    let mut i = 0;
+    while i < part.len() {
+        sum += part[i] as u16;
+        i += 1;
     }
+    sum
 }
 
-// Whether none of so many trees of the k-th size is broken.
-fn all_whole(k: u8, count: usize, map: &[u8]) -> bool
-    requires { ⌜ (k ≤ 7) × (count * size k ≤ length (now map)) ⌝ }
-    ensures { λ r. ⌜ r ≡ allWhole k count (now (map .entry)) ⌝ }
+// Where a part that starts at a place ends: 256 bytes on, or at the end of all.
+fn part_end(i: usize, length: usize) -> usize
+    requires { ⌜ (i < length) × (length ≤ 65536) ⌝ }
+    ensures { λ r. ⌜ (i < r) × (r ≤ length) × (r ≤ i + 256) ⌝ }
+{
+    if i + 256 < length { i + 256 } else { length }
+}
+
+// The sum of bytes.
+fn sum_of(bytes: &[u8]) -> u64
+    requires { ⌜ length (now bytes) ≤ 65536 ⌝ }
+    ensures { λ r. ⌜ (r ≡ total (now (bytes .entry))) × (r ≤ 65536 * length (now (bytes .entry))) ⌝ }
+{
+    let mut sum: u64 = 0;
+    let mut i = 0;
+    while i < bytes.len() {
+        let end = part_end(i, bytes.len());
+        sum += part_sum(&bytes[i..end]) as u64;
+        i = end;
+    }
+    sum
+}
+
+// One more than the sum of the tags of so many trees of the k-th size, 0 if one is broken.
+fn all_tags(k: u8, count: usize, map: &[u8]) -> u64
+    requires { ⌜ (k ≤ 7) × (count ≤ 65536) × (count * size k ≤ length (now map)) ⌝ }
+    ensures { λ r. ⌜ r ≡ allTags k count 1 (now (map .entry)) ⌝ }
 {
     let n = size_of(k);
+    let mut sum: u64 = 1;
     let mut i = 0;
     let mut left = count;
     while 0 < left {
         let end = i + n;
-        let part = check(k, &map[i..end]);
-        if is_whole(part) {
-            i = end;
-            left -= 1;
-        } else {
-            return false;
+        let next = tree_tags(k, &map[i..end]);
+        if next == 0 {
+            return 0;
         }
+        sum += next;
+        i = end;
+        left -= 1;
     }
-    true
+    sum
 }
 
 // How many bytes of a map lie past the set-up words.
@@ -73,7 +99,8 @@ fn bytes_past(words: usize, length: usize) -> usize
     if words <= length { length - words } else { 0 }
 }
 
-// Whether a map keeps the section "Blocks": it is as long as its trees and the bytes past them, no tree is broken, the rest is zero.
+// Whether a map keeps the section "Blocks": it is as long as its trees and the bytes past them, no tree is broken, and the tags of their
+// blocks are all that is not zero, which is so if they sum to the trees' bytes.
 pub fn keeps_section(setup: SetUp, map: &[u8]) -> bool
     ensures { λ r. ⌜ r ≡ keeps setup (now (map .entry)) ⌝ }
 {
@@ -85,11 +112,8 @@ pub fn keeps_section(setup: SetUp, map: &[u8]) -> bool
     if end + bytes_past(words, map.len()) != map.len() {
         return false;
     }
-    if all_whole(k, count, map) {
-        zero_from(end, map)
-    } else {
-        false
-    }
+    let tags = all_tags(k, count, map);
+    (tags == 1 + sum_of(&map[..end])) & zero_from(end, map)
 }
 
 // The size of the live block of which a byte is the tag; 0 if it is none.
@@ -125,51 +149,62 @@ pub fn live_size(setup: SetUp, map: &[u8], address: u64) -> u64
     }
 }
 
-// The lowest aligned run of the j-th size outside the live blocks, from block to block: a free block of that size or a larger starts
-// one, a live block has none in its words, and where a smaller block stands there is none in as many words as are wanted.
+// From a place on, n bytes at a time, past bytes below a tag: the first that is not, or the end.
+fn skip(map: &[u8], from: usize, end: usize, least: u8, n: usize) -> usize
+    requires { ⌜ (end ≤ length (now map)) × (end ≤ 65536) × (0 < n) × (n ≤ 128) ⌝ }
+    ensures { λ r. ⌜ Passed (now (map .entry)) end least n from r × (r < end → least ≤ getD (now (map .entry)) r 0) ⌝ }
+{
+    let mut i = from;
+    while i < end {
+        if least <= map[i] {
+            return i;
+        }
+        i += n;
+    }
+    i
+}
+
+// The lowest aligned run of the j-th size outside the live blocks, from block to block: where a smaller block stands there is none in as many
+// words as are wanted, a free block of that size or a larger starts one, and a live block has none in its words.
 pub fn lowest_run(setup: SetUp, map: &[u8], j: u8) -> Found
     requires { ⌜ (words setup % size (top (setup .d)) ≡ 0) × (keeps setup (now map) ≡ true) × (j ≤ top (setup .d)) ⌝ }
     ensures { λ r. ⌜ r ≡ firstOf (runs (size j) setup (live setup (now (map .entry)))) ⌝ }
 {
     let n = size_of(j);
     let least = free_tag(j);
-    let words = words_of(setup);
-    let mut i = 0;
-    while i < words {
+    let end = words_of(setup);
+    let mut i = skip(map, 0, end, least, n);
+    while i < end {
         let tag = map[i];
-        if tag < least {
-            i += n;
-        } else if tag % 2 == 0 {
-            i += size_of(tag / 2 - 1);
-        } else {
+        if tag % 2 == 1 {
             return Found::At(setup.s1 as usize + i);
         }
+        i = skip(map, i + size_of(tag / 2 - 1), end, least, n);
     }
     Found::Nothing
 }
 
-// Frees the live block around an address of the set-up words.
+// Frees the live block that starts at an address: in its tree, from its own byte upward.
 pub fn free_block(setup: SetUp, map: &mut [u8], address: usize)
-    requires { ⌜ (words setup % size (top (setup .d)) ≡ 0) × (keeps setup (now map) ≡ true) × (setup .s1 ≤ address) × (address < setup .s1 + words setup) ⌝ }
+    requires { ⌜ (words setup % size (top (setup .d)) ≡ 0) × (keeps setup (now map) ≡ true) × (sizeAt address (live setup (now map)) ≡ 0 → ⊥) ⌝ }
     ensures { λ _. ⌜ now (map .exit) ≡ freedMap address setup (now (map .entry)) ⌝ }
 {
     let k = top_of(setup.d);
     let n = size_of(k);
     let offset = address - setup.s1 as usize;
+    let level = map[offset] / 2 - 1;
     let start = offset / n * n;
     let end = start + n;
-    free_at(k, offset % n, &mut map[start..end]);
+    free_up(k, level, offset % n, &mut map[start..end]);
 }
 
-// Delivers the lowest aligned run of the j-th size.
+// Delivers the lowest aligned run of the j-th size: the free block that it starts is split.
 pub fn deliver(setup: SetUp, map: &mut [u8], j: u8, address: usize)
     requires { ⌜ (words setup % size (top (setup .d)) ≡ 0) × (keeps setup (now map) ≡ true) × (setup .s1 ≤ address) × (address < setup .s1 + words setup) × (j ≤ top (setup .d)) × (firstOf (runs (size j) setup (live setup (now map))) ≡ At address) ⌝ }
     ensures { λ _. ⌜ now (map .exit) ≡ deliveredMap j address setup (now (map .entry)) ⌝ }
 {
-    let k = top_of(setup.d);
-    let n = size_of(k);
-    let offset = address - setup.s1 as usize;
-    let start = offset / n * n;
-    let end = start + n;
-    deliver_at(k, j, offset % n, &mut map[start..end]);
+    let start = address - setup.s1 as usize;
+    let k = map[start] / 2;
+    let end = start + size_of(k);
+    split(k, j, &mut map[start..end]);
 }

@@ -1,16 +1,15 @@
 // One tree of the block map: the bytes of a block of the k-th size.
 ghost use mathlib.Core.Path.{_≡_};
-ghost use mathlib.Core.Bool.{true, cond};
-ghost use mathlib.Core.List.{_++_};
-ghost use Prim.Native.Nat.{ℕ, suc, _+_, _-_, _≤_, _<_};
-ghost use lib.Dec.{ltb};
-ghost use lib.ListN.{length, replicate, drop};
-ghost use Rattle.block.specs.Blocks.{Tree, Free, size, joined, freed, delivered};
-ghost use Rattle.block.specs.Map.{freeTag, liveTag, written, same, canonical};
-ghost use Rattle.buddy.specs.Part.{part, both, leaf};
-ghost use Rattle.buddy.specs.Lowest.{lowestIn};
-ghost use Rattle.buddy.specs.declared.Found.the-variants.{At};
-use super::Part;
+ghost use mathlib.Core.Bool.{_&&_};
+ghost use mathlib.Core.List.{List};
+ghost use Prim.Native.Nat.{ℕ, _-_, _≤_, _<_};
+ghost use lib.Dec.{eqb, ltb};
+ghost use lib.ListN.{length, getD, replicate, drop};
+ghost use Rattle.block.specs.Blocks.{Free, size, delivered};
+ghost use Rattle.block.specs.Map.{freeTag, liveTag, written, same};
+ghost use Rattle.buddy.specs.Sum.{isTag, isRest, startsBlock, tags};
+ghost use Rattle.buddy.specs.Upward.{pairStart, otherPlace, Rises, Rising};
+use super::sizes::size_of;
 
 // The byte of a free block of the k-th size.
 pub(crate) fn free_tag(k: u8) -> u8
@@ -28,71 +27,98 @@ pub(crate) fn live_tag(k: u8) -> u8
     k + k + 2
 }
 
-// Whether every byte from a place on is zero.
+// Whether every byte from a place on is zero: so is what they are joined to by "or".
 pub(crate) fn zero_from(from: usize, tags: &[u8]) -> bool
     requires { ⌜ from ≤ length (now tags) ⌝ }
     ensures { λ r. ⌜ r ≡ same (replicate (length (now (tags .entry)) - from) 0) (drop from (now (tags .entry))) ⌝ }
 {
+    let mut all: u8 = 0;
     let mut i = from;
     while i < tags.len() {
-        if tags[i] == 0 {
-            i += 1;
-        } else {
-            return false;
+        all = all | tags[i];
+        i += 1;
+    }
+    all == 0
+}
+
+// A byte as a number to add up.
+fn wide(x: u8) -> u64
+    ensures { λ r. ⌜ r ≡ x ⌝ }
+{
+    x as u64
+}
+
+// Whether a byte is the tag of a block of the k-th size.
+fn is_tag(k: u8, x: u8) -> bool
+    requires { ⌜ k ≤ 7 ⌝ }
+    ensures { λ r. ⌜ r ≡ isTag k x ⌝ }
+{
+    (x == free_tag(k)) | (x == live_tag(k))
+}
+
+// Whether a free block of n words at a place is the high half of a block of which the low half is free too.
+fn is_rest(tag: u8, n: usize, i: usize, bytes: &[u8]) -> bool
+    requires { ⌜ (0 < n) × (i < length (now bytes)) ⌝ }
+    ensures { λ r. ⌜ r ≡ isRest tag n i (now (bytes .entry)) ⌝ }
+{
+    if tag % 2 != 1 {
+        return false;
+    }
+    if i / n % 2 != 1 {
+        return false;
+    }
+    bytes[i - n] == tag
+}
+
+// Whether a block starts at a place of a tree of the k-th size and keeps the section.
+fn starts_block(k: u8, i: usize, bytes: &[u8]) -> bool
+    requires { ⌜ (k ≤ 7) × (i < length (now bytes)) ⌝ }
+    ensures { λ r. ⌜ r ≡ startsBlock k i (now (bytes .entry)) ⌝ }
+{
+    let tag = bytes[i];
+    if tag == 0 {
+        return false;
+    }
+    if live_tag(k) < tag {
+        return false;
+    }
+    let n = size_of((tag - 1) / 2);
+    if i % n != 0 {
+        return false;
+    }
+    !is_rest(tag, n, i, bytes)
+}
+
+// The sum of the tags of the blocks in a tree of the k-th size, from block to block, 0 if one breaks the section. Bytes between them are not
+// looked at.
+fn add_tags(k: u8, bytes: &[u8]) -> u64
+    requires { ⌜ (k ≤ 7) × (length (now bytes) ≡ size k) ⌝ }
+    ensures { λ r. ⌜ r ≡ tags k (now (bytes .entry)) ⌝ }
+{
+    let mut sum: u64 = 0;
+    let mut i = 0;
+    while i < bytes.len() {
+        if !starts_block(k, i, bytes) {
+            return 0;
         }
+        let tag = bytes[i];
+        sum += wide(tag);
+        i += size_of((tag - 1) / 2);
     }
-    true
+    sum
 }
 
-// One block whose first byte is its tag: the others are zero.
-fn block_part(known: Part, tags: &[u8]) -> Part
-    requires { ⌜ 0 < length (now tags) ⌝ }
-    ensures { λ r. ⌜ r ≡ leaf known (now (tags .entry)) ⌝ }
+// The same of a tree, most often one block.
+pub(crate) fn tree_tags(k: u8, bytes: &[u8]) -> u64
+    requires { ⌜ (k ≤ 7) × (length (now bytes) ≡ size k) ⌝ }
+    ensures { λ r. ⌜ r ≡ tags k (now (bytes .entry)) ⌝ }
 {
-    if zero_from(1, tags) {
-        known
+    let tag = bytes[0];
+    if is_tag(k, tag) {
+        wide(tag)
     } else {
-        Part::Broken
+        add_tags(k, bytes)
     }
-}
-
-// Two halves: neither is broken, and not both are free.
-fn both_parts(low: Part, high: Part) -> Part
-    ensures { λ r. ⌜ r ≡ both low high ⌝ }
-{
-    match low {
-        Part::Broken => Part::Broken,
-        Part::Free => match high {
-            Part::Broken => Part::Broken,
-            Part::Free => Part::Broken,
-            Part::Taken => Part::Taken,
-        },
-        Part::Taken => match high {
-            Part::Broken => Part::Broken,
-            Part::Free => Part::Taken,
-            Part::Taken => Part::Taken,
-        },
-    }
-}
-
-// What the bytes of a block of the k-th size tell.
-pub(crate) fn check(k: u8, tags: &[u8]) -> Part
-    requires { ⌜ (k ≤ 7) × (length (now tags) ≡ size k) ⌝ }
-    ensures { λ r. ⌜ r ≡ part k (now (tags .entry)) ⌝ }
-{
-    if tags[0] == free_tag(k) {
-        return block_part(Part::Free, tags);
-    }
-    if tags[0] == live_tag(k) {
-        return block_part(Part::Taken, tags);
-    }
-    if k == 0 {
-        return Part::Broken;
-    }
-    let half = tags.len() / 2;
-    let low = check(k - 1, &tags[..half]);
-    let high = check(k - 1, &tags[half..]);
-    both_parts(low, high)
 }
 
 // Delivers the first words of a free block of the k-th size: it is halved until the j-th size is reached, the low half going on.
@@ -113,64 +139,40 @@ pub(crate) fn split(k: u8, j: u8, tags: &mut [u8])
     split(k - 1, j, &mut tags[low..end]);
 }
 
-// Rejoins the halves of a block of the k-th size if both are free.
-fn rejoin(k: u8, tags: &mut [u8])
-    requires { ⌜ (0 < k) × (k ≤ 7) × (length (now tags) ≡ size k) ⌝ }
-    ensures { λ _. ⌜ ((j : ℕ) (l r : Tree) → k ≡ suc j → now (tags .entry) ≡ written j l ++ written j r → now (tags .exit) ≡ written k (joined l r)) ⌝ }
+// Where the block of two halves of n words starts that is around a place.
+fn pair_start(n: usize, at: usize) -> usize
+    requires { ⌜ (0 < n) × (n ≤ 128) ⌝ }
+    ensures { λ r. ⌜ r ≡ pairStart n at ⌝ }
 {
-    let half = tags.len() / 2;
-    let tag = free_tag(k - 1);
-    if tags[0] == tag {
-        if tags[half] == tag {
-            tags[half] = 0;
-            tags[0] = free_tag(k);
-        }
-    }
+    let pair = n + n;
+    at / pair * pair
 }
 
-// Where the half around an offset starts.
-fn half_around(offset: usize, half: usize) -> usize
-    ensures { λ r. ⌜ r ≡ cond (ltb offset half) 0 half ⌝ }
+// Whether the other half of the block around a block of the j-th size is free too.
+fn is_joined(k: u8, j: u8, at: usize, tags: &[u8]) -> bool
+    requires { ⌜ (k ≤ 7) × (length (now tags) ≡ size k) × Rising k j at (now tags) ⌝ }
+    ensures { λ r. ⌜ r ≡ (ltb j k && eqb (getD (now (tags .entry)) (otherPlace (size j) at) 0) (freeTag j)) ⌝ }
 {
-    if offset < half { 0 } else { half }
+    if k <= j {
+        return false;
+    }
+    let n = size_of(j);
+    let start = pair_start(n, at);
+    tags[start + start + n - at] == free_tag(j)
 }
 
-// Frees the live block around an offset, and rejoins free halves on the way back.
-pub(crate) fn free_at(k: u8, offset: usize, tags: &mut [u8])
-    requires { ⌜ (k ≤ 7) × (length (now tags) ≡ size k) × (offset < size k) ⌝ }
-    ensures { λ _. ⌜ ((at : ℕ) (t : Tree) → canonical k t ≡ true → now (tags .entry) ≡ written k t → now (tags .exit) ≡ written k (freed (at + offset) k at t)) ⌝ }
+// Frees a live block of a tree: as long as the other half of the block around it is free too, that block is freed instead.
+pub(crate) fn free_up(k: u8, level: u8, offset: usize, tags: &mut [u8])
+    requires { ⌜ (k ≤ 7) × (length (now tags) ≡ size k) × Rising k level offset (now tags) ⌝ }
+    ensures { λ _. ⌜ ((new : List ℕ) → Rises k level offset (now (tags .entry)) new → now (tags .exit) ≡ new) ⌝ }
 {
-    if tags[0] == live_tag(k) {
-        tags[0] = free_tag(k);
-        return;
+    let mut j = level;
+    let mut at = offset;
+    while is_joined(k, j, at, &*tags) {
+        let n = size_of(j);
+        at = pair_start(n, at);
+        tags[at + n] = 0;
+        j += 1;
     }
-    if tags[0] == free_tag(k) {
-        return;
-    }
-    if k == 0 {
-        return;
-    }
-    let half = tags.len() / 2;
-    let start = half_around(offset, half);
-    let end = start + half;
-    free_at(k - 1, offset - start, &mut tags[start..end]);
-    rejoin(k, tags);
-}
-
-// Delivers the lowest run of the j-th size, which starts at an offset: the free block there is split.
-pub(crate) fn deliver_at(k: u8, j: u8, offset: usize, tags: &mut [u8])
-    requires { ⌜ (j ≤ k) × (k ≤ 7) × (length (now tags) ≡ size k) × (offset < size k) ⌝ }
-    ensures { λ _. ⌜ ((at : ℕ) (t : Tree) → canonical k t ≡ true → now (tags .entry) ≡ written k t → lowestIn j k at t ≡ At (at + offset) → now (tags .exit) ≡ written k (delivered j (at + offset) k at t)) ⌝ }
-{
-    if tags[0] == free_tag(k) {
-        split(k, j, tags);
-        return;
-    }
-    if k == j {
-        return;
-    }
-    let half = tags.len() / 2;
-    let start = half_around(offset, half);
-    let end = start + half;
-    deliver_at(k - 1, j, offset - start, &mut tags[start..end]);
+    tags[at] = free_tag(j);
 }

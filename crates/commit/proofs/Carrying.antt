@@ -8,9 +8,9 @@ use lib.ListN.{length, set, take, drop, replicate}
 use Rattle.character.specs.Character.{printed}
 use Rattle.character.proofs.Digits.{length-printed}
 use Rattle.block.specs.declared.SetUp.{SetUp}
-use Rattle.block.specs.Blocks.{level}
+use Rattle.block.specs.Blocks.{level, sizeAt}
 use Rattle.block.specs.SetUp.{top, words, fitting}
-use Rattle.block.specs.Map.{freshMap, freedMap, deliveredMap}
+use Rattle.block.specs.Map.{freshMap, live, freedMap, deliveredMap}
 use Rattle.table.specs.declared.FieldName.{FieldName}
 use Rattle.machine.specs.declared.Definition.{Definition}
 use Rattle.machine.specs.declared.Location.{Location}
@@ -51,7 +51,7 @@ module _ (b : ℕ) (g : Ground) {x : Action} (h : Feasible b g x) where
   deliver-two-asks e = subst (Feasible b g) e h
 
   pub free-asks : {address v : ℕ} {at : Location} → x ≡ Free address at v
-      → ReachedIn b g at × (g .setup .s1 ≤ address) × (address < g .setup .s1 + words (g .setup))
+      → ReachedIn b g at × (sizeAt address (live (g .setup) (g .map)) ≡ 0 → ⊥)
   unfolding Feasible
   free-asks e = subst (Feasible b g) e h
 

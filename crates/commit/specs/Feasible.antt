@@ -6,8 +6,9 @@ use mathlib.Core.Logic.{_⊎_}
 use mathlib.Core.Path.{_≡_}
 use lib.ListN.{length}
 use Rattle.block.specs.declared.SetUp.{SetUp}
-use Rattle.block.specs.Blocks.{size}
+use Rattle.block.specs.Blocks.{size, sizeAt}
 use Rattle.block.specs.SetUp.{top, words, fitting}
+use Rattle.block.specs.Map.{live}
 use Rattle.machine.specs.declared.Location.{Location}
 use Rattle.machine.specs.Answer.{passed}
 use Rattle.operands.specs.Reading.{Reached}
@@ -61,7 +62,7 @@ Feasible b g (Define f x) = f .0 < 36
 Feasible b g (Deliver address n from a) = Run g address n × ((from ≡ 0 → ⊥) → Copy g address n from) × ReachedIn b g a
 Feasible b g (DeliverTwo address n a a2 v) = Run g address n × ReachedIn b g a × ReachedIn b g a2
 Feasible b g (Free address at v) =
-    ReachedIn b g at × (g .setup .s1 ≤ address) × (address < g .setup .s1 + words (g .setup))
+    ReachedIn b g at × (sizeAt address (live (g .setup) (g .map)) ≡ 0 → ⊥)
 Feasible b g (Input at v n) = ReachedIn b g at × (g .counts .taken + n ≤ g .given)
 Feasible b g (Print n width v) = (width ≤ 64) × (g .counts .written + n ≤ g .room)
 Feasible b g (Save v) = g .counts .contents < 128

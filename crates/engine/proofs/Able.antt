@@ -265,10 +265,7 @@ module _ (b : ℕ) (l : Lent) (e : Engine) (h : Facts b e) (ready : Ready b (sig
         let (live, k₁) = need-passed _ _ _ k in
         let (_, k₂) = need-passed _ _ _ k₁ in
         let fa = found (row .first) (t .a) a at in
-        let lies = live-lies b (e .state) (e .storage) (h .storage) _ (sizeAt-mem (contents b (world e) a) (liveBlocks e) (nonzero _ live)) in
-        let last = lies .last in
-        let some = lies-pos lies in
-        able-is k₂ (record { feasible = (fa .reached, lies .first, omega arith); sure = fa .sure })
+        able-is k₂ (record { feasible = (fa .reached, nonzero _ live); sure = fa .sure })
 
     -- 5 duplicate
     duplicate-able : duplicating (world e .setup) (world e .map) a (v .value) (sizeOf (world e) (v .value)) ≡ passed x → Able b l e x

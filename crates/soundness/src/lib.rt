@@ -17,20 +17,18 @@ use machine::Definition;
 use machine::Place;
 use word::arithmetic::power;
 
-// Each of these words is below 2^b.
+// Each of these words is below 2^b: so is what they are joined to by "or".
 pub fn are_words(b: u64, words: &[u64]) -> bool
     requires { ⌜ b < 64 ⌝ }
     ensures { λ r. ⌜ r ≡ every (λ x. ltb x (2 ^ b)) (now (words .entry)) ⌝ }
 {
-    let bound = power(b);
+    let mut all: u64 = 0;
     let mut i = 0;
     while i < words.len() {
-        if bound <= words[i] {
-            return false;
-        }
+        all = all | words[i];
         i += 1;
     }
-    true
+    all < power(b)
 }
 
 // A row that a place may name.

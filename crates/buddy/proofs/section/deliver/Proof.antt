@@ -1,71 +1,73 @@
--- `deliver` delivers in the tree around the lowest run. Assumes nothing.
-use Prim.Native.Nat.{_-_}
-use native.Mathlib.Nat.{div-add-mod'}
+-- `deliver` splits the free block that the lowest run starts. Assumes nothing.
+use Prim.Native.Nat.{_-_, _/_}
+use mathlib.Core.Path.{_∙_}
 use native.Mathlib.Omega.{arith}
-use Rattle.block.proofs.Size.{size-pos, top-le}
-use Rattle.buddy.proofs.Address.{tree-fits, tree-asks, delivers-map}
+use lib.ListN.{getD}
 use borrow.Author.Needs.{needs}
+use Rattle.block.specs.SetUp.{top}
+use Rattle.block.specs.Map.{deliveredMap}
+use Rattle.block.proofs.Size.{top-le}
+use Rattle.block.proofs.Map.{keeps-words}
+use Rattle.buddy.proofs.Halves.{part-length}
+use Rattle.buddy.proofs.Address.{delivers}
+use Rattle.buddy.proofs.Delivered.{Ready}
 use Rattle.buddy.proofs.section.deliver.Statement.{statement}
 use Rattle.buddy.proofs.section.deliver.Tie as tie
 
-top-of-requires : tie.Need-top-of-requires
-top-of-requires c κs = search needs
+-- the block that is split
+block : (c : tie.Start) → let a = c .args in let start = a .address - a .setup .s1 in
+    Ready (a .j) (top (a .setup .d)) start (a .map .now) (deliveredMap (a .j) (a .address) (a .setup) (a .map .now)) (getD (a .map .now) start 0 / 2)
+block c = delivers (c .args .setup) (c .args .map .now) (c .pre .0) (c .pre .1) (c .args .j) (c .args .address) (c .pre .2) (c .pre .4) (c .pre .5)
+
+cast-start : tie.Need-cast-start
+cast-start c = search needs
+
+sub-start : tie.Need-sub-start
+sub-start c = search needs
+
+slice-read-k : tie.Need-slice-read-k
+slice-read-k c =
+    let e = c .before .before .before in
+    omega (arith, keeps-words (e .args .setup) (e .args .map .now) (e .pre .0) (e .pre .1))
 
 size-of-requires : tie.Need-size-of-requires
-size-of-requires c κs = omega (arith, c .top-of .ensures, top-le (c .before .before .args .setup .d))
-
-cast-offset : tie.Need-cast-offset
-cast-offset c = search needs
-
-sub-offset : tie.Need-sub-offset
-sub-offset c = search needs
-
-div-start : tie.Need-div-start
-div-start c = omega (arith, c .before .size-of .ensures, size-pos (c .before .before .top-of .result))
-
-mul-start : tie.Need-mul-start
-mul-start c = record { fits = omega (arith, div-add-mod' (c .before .before .before .before .args .address - c .before .before .before .before .args .setup .s1) (c .before .size-of .result)) }
+size-of-requires c κs =
+    let e = c .before .before .before in
+    omega (arith, block e .small, top-le (e .args .setup .d))
 
 add-end : tie.Need-add-end
-add-end c =
-    let start = c .before .before .before .before in
-    record { fits = omega (arith, tree-fits (start .args .setup) (start .args .map .now) (start .pre .0) (start .pre .1) _ (c .before .size-of .result) (start .args .address) (c .before .before .top-of .ensures) (c .before .size-of .ensures) (start .pre .2) (start .pre .3)) }
+add-end c = record { fits = omega (arith, c .size-of .ensures, block (c .before .before .before .before) .fits) }
 
-rem-deliver-at : tie.Need-rem-deliver-at
-rem-deliver-at c = omega (arith, c .before .size-of .ensures, size-pos (c .before .before .top-of .result))
+sub-split : tie.Need-sub-split
+sub-split c = search needs
 
-sub-deliver-at : tie.Need-sub-deliver-at
-sub-deliver-at c = search needs
+part-split-start : tie.Need-part-split-start
+part-split-start c = search needs
 
-part-deliver-at-start : tie.Need-part-deliver-at-start
-part-deliver-at-start c = search needs
+part-split-end : tie.Need-part-split-end
+part-split-end c = omega (arith, c .size-of .ensures, block (c .before .before .before .before) .fits)
 
-part-deliver-at-end : tie.Need-part-deliver-at-end
-part-deliver-at-end c =
-    let start = c .before .before .before .before in
-    tree-fits (start .args .setup) (start .args .map .now) (start .pre .0) (start .pre .1) (c .before .before .top-of .result) (c .before .size-of .result) (start .args .address) (c .before .before .top-of .ensures) (c .before .size-of .ensures) (start .pre .2) (start .pre .3)
-
-deliver-at-requires : tie.Need-deliver-at-requires
-deliver-at-requires c κs =
-    let at-size = c .before .before in
-    let at-top = at-size .before in
-    let e = at-top .before .before in
-    let asks = tree-asks (e .args .setup) (e .args .map .now) (e .pre .0) (e .pre .1) (at-top .top-of .result) (at-size .size-of .result)
-    (e .args .address) (at-top .top-of .ensures) (at-size .size-of .ensures) (e .pre .2) (e .pre .3) in
-    (omega (arith, at-top .top-of .ensures), asks .0, asks .1, asks .2)
+split-requires : tie.Need-split-requires
+split-requires c κs =
+    let e = c .before .before .before .before .before in
+    let n = c .before .size-of in
+    let b = block e in (
+      b .wanted,
+      omega (arith, b .small, top-le (e .args .setup .d)),
+      part-length (e .args .address - e .args .setup .s1) (n .result) (e .args .map .now) (omega (arith, n .ensures, b .fits)) ∙ n .ensures,
+    )
 
 same-length : tie.Need-same-length
 same-length c = search needs
 
 returns : tie.Need-returns
 returns c =
-    let at-size-of = c .before .before .before .before .before in
-    let e = at-size-of .before .before .before in
-    delivers-map (e .args .setup) (e .args .map .now) (e .pre .0) (e .pre .1) (at-size-of .before .top-of .result) (at-size-of .size-of .result) (e .args .address) (at-size-of .before .top-of .ensures) (at-size-of .size-of .ensures)
-    (e .pre .2) (e .pre .3) (e .args .j) (c .before .before .deliver-at .last .1 .1 .1 .0) (e .pre .4) (e .pre .5) (c .before .before .deliver-at .ensures)
+    let sized = c .before .before .before .before in
+    let split = c .before .before .split in
+    block (sized .before .before .before .before) .puts (sized .size-of .result) (split .last .1 .1 .0) (sized .size-of .ensures) (split .ensures)
 
 pub deliver-spec : {M : Type 1} → statement M
 deliver-spec =
     tie.close
-    (tie.spec top-of-requires size-of-requires cast-offset sub-offset div-start mul-start add-end rem-deliver-at
-    sub-deliver-at part-deliver-at-start part-deliver-at-end deliver-at-requires same-length returns)
+    (tie.spec cast-start sub-start slice-read-k size-of-requires add-end sub-split part-split-start part-split-end
+    split-requires same-length returns)

@@ -1,12 +1,16 @@
--- `free_block` frees in the tree around an address. Assumes nothing.
+-- `free_block` frees in the tree around an address, upward from the block's own byte. Assumes nothing.
 use Prim.Native.Nat.{_-_}
 use native.Mathlib.Nat.{div-add-mod'}
 use native.Mathlib.Omega.{arith}
 use Rattle.block.proofs.Size.{size-pos, top-le}
-use Rattle.buddy.proofs.Address.{tree-fits, tree-asks, frees-map}
+use Rattle.buddy.proofs.Address.{Freeing, freeing}
 use borrow.Author.Needs.{needs}
 use Rattle.buddy.proofs.section.free_block.Statement.{statement}
 use Rattle.buddy.proofs.section.free_block.Tie as tie
+
+-- the block that is freed
+block : (c : tie.After-size-of) → let a = c .before .before .before .args in Freeing (a .setup) (a .map .now) (a .address) (c .before .top-of .result) (c .size-of .result)
+block c = freeing (c .before .before .before .args .setup) (c .before .before .before .args .map .now) (c .before .before .before .pre .0) (c .before .before .before .pre .1) (c .before .top-of .result) (c .size-of .result) (c .before .before .before .args .address) (c .before .top-of .ensures) (c .size-of .ensures) (c .before .before .before .pre .2)
 
 top-of-requires : tie.Need-top-of-requires
 top-of-requires c κs = search needs
@@ -18,54 +22,61 @@ cast-offset : tie.Need-cast-offset
 cast-offset c = search needs
 
 sub-offset : tie.Need-sub-offset
-sub-offset c = search needs
+sub-offset c = block (c .before) .low
+
+slice-read-level : tie.Need-slice-read-level
+slice-read-level c = block (c .before .before) .inside
+
+sub-level : tie.Need-sub-level
+sub-level c = omega (arith, block (c .before .before) .live)
 
 div-start : tie.Need-div-start
-div-start c = omega (arith, c .before .size-of .ensures, size-pos (c .before .before .top-of .result))
+div-start c = omega (arith, c .before .before .size-of .ensures, size-pos (c .before .before .before .top-of .result))
 
 mul-start : tie.Need-mul-start
-mul-start c = record { fits = omega (arith, div-add-mod' (c .before .before .before .before .args .address - c .before .before .before .before .args .setup .s1) (c .before .size-of .result)) }
+mul-start c = record { fits = omega (arith, div-add-mod' (c .before .before .before .before .before .args .address - c .before .before .before .before .before .args .setup .s1) (c .before .before .size-of .result)) }
 
 add-end : tie.Need-add-end
-add-end c =
-    let start = c .before .before .before .before in
-    record { fits = omega (arith, tree-fits (start .args .setup) (start .args .map .now) (start .pre .0) (start .pre .1) _ (c .before .size-of .result) (start .args .address) (c .before .before .top-of .ensures) (c .before .size-of .ensures) (start .pre .2) (start .pre .3)) }
+add-end c = record { fits = omega (arith, block (c .before .before) .fits) }
 
-rem-free-at : tie.Need-rem-free-at
-rem-free-at c = omega (arith, c .before .size-of .ensures, size-pos (c .before .before .top-of .result))
+rem-free-up : tie.Need-rem-free-up
+rem-free-up c = omega (arith, c .before .before .size-of .ensures, size-pos (c .before .before .before .top-of .result))
 
-sub-free-at : tie.Need-sub-free-at
-sub-free-at c = search needs
+sub-free-up : tie.Need-sub-free-up
+sub-free-up c = search needs
 
-part-free-at-start : tie.Need-part-free-at-start
-part-free-at-start c = search needs
+part-free-up-start : tie.Need-part-free-up-start
+part-free-up-start c = search needs
 
-part-free-at-end : tie.Need-part-free-at-end
-part-free-at-end c =
-    let start = c .before .before .before .before in
-    tree-fits (start .args .setup) (start .args .map .now) (start .pre .0) (start .pre .1) (c .before .before .top-of .result) (c .before .size-of .result) (start .args .address) (c .before .before .top-of .ensures) (c .before .size-of .ensures) (start .pre .2) (start .pre .3)
+part-free-up-end : tie.Need-part-free-up-end
+part-free-up-end c = block (c .before .before) .fits
 
-free-at-requires : tie.Need-free-at-requires
-free-at-requires c κs =
-    let at-size = c .before .before in
-    let at-top = at-size .before in
-    let e = at-top .before .before in
-    let asks = tree-asks (e .args .setup) (e .args .map .now) (e .pre .0) (e .pre .1) (at-top .top-of .result) (at-size .size-of .result)
-    (e .args .address) (at-top .top-of .ensures) (at-size .size-of .ensures) (e .pre .2) (e .pre .3) in
-    asks
+free-up-requires : tie.Need-free-up-requires
+free-up-requires c κs = block (c .before .before .before) .asks
 
 same-length : tie.Need-same-length
 same-length c = search needs
 
 returns : tie.Need-returns
-returns c =
-    let at-size-of = c .before .before .before .before .before in
-    let e = at-size-of .before .before .before in
-    frees-map (e .args .setup) (e .args .map .now) (e .pre .0) (e .pre .1) (at-size-of .before .top-of .result) (at-size-of .size-of .result) (e .args .address) (at-size-of .before .top-of .ensures) (at-size-of .size-of .ensures)
-    (e .pre .2) (e .pre .3) (c .before .before .free-at .last .1 .1 .0) (c .before .before .free-at .ensures)
+returns c = block (c .before .before .before .before .before .before) .puts (c .before .before .free-up .last .1 .1 .1 .0) (c .before .before .free-up .ensures)
 
 pub free-block-spec : {M : Type 1} → statement M
 free-block-spec =
     tie.close
-    (tie.spec top-of-requires size-of-requires cast-offset sub-offset div-start mul-start add-end rem-free-at sub-free-at
-    part-free-at-start part-free-at-end free-at-requires same-length returns)
+    (tie.spec
+    top-of-requires
+    size-of-requires
+    cast-offset
+    sub-offset
+    slice-read-level
+    sub-level
+    div-start
+    mul-start
+    add-end
+    rem-free-up
+    sub-free-up
+    part-free-up-start
+    part-free-up-end
+    free-up-requires
+    same-length
+    returns)

@@ -1,12 +1,13 @@
--- `keeps_section` checks that the map is as long as its trees and the bytes past them, each tree, and that the rest is zero.
--- Assumes nothing.
-use mathlib.Core.Path.{refl, sym, ap, ap₂, _∙_}
-use Prim.Native.Nat.{ℕ, _/_, _*_}
-use mathlib.Core.Bool.{_&&_}
-use native.Mathlib.Nat.{div-add-mod'}
+-- `keeps_section` checks that the map is as long as its trees and the bytes past them, that the trees' tags sum to their bytes, and that the
+-- rest is zero. Assumes nothing.
+use mathlib.Core.Path.{sym, ap}
+use Prim.Native.Nat.{ℕ, _/_, _*_, _≤_}
+use native.Mathlib.Nat.{div-add-mod', div-le-self}
 use native.Mathlib.Omega.{arith}
+use lib.ListN.{length}
+use lib.Seq.{length-take-le}
 use borrow.Author.Needs.{needs}
-use Rattle.block.proofs.Size.{size-pos, top-le}
+use Rattle.block.proofs.Size.{size-pos, top-le, words-le}
 use Rattle.buddy.proofs.Count.{count-short, count-keeps}
 use Rattle.buddy.proofs.section.keeps_section.Statement.{statement}
 use Rattle.buddy.proofs.section.keeps_section.Tie as tie
@@ -43,29 +44,47 @@ returns c =
     count-short (e .before .before .before .before .before .args .setup) _ _ _ (e .before .before .before .top-of .ensures)
     (e .before .before .size-of .ensures) (e .before .words-of .ensures) _ (λ z. c .if1 .taken (rw (e .bytes-past .ensures) z))
 
-all-whole-requires : tie.Need-all-whole-requires
-all-whole-requires c κs =
+all-tags-requires : tie.Need-all-tags-requires
+all-tags-requires c κs =
     let sized = c .before .before .before in
-    let same = ap (λ (x : ℕ). c .before .before .words-of .result / sized .size-of .result * x) (sized .size-of .ensures) in
-    (omega (arith, sized .before .top-of .ensures, top-le (sized .before .before .before .args .setup .d)), omega arith)
+    let w = c .before .before .words-of .result in
+    let start = sized .before .before .before in
+    let same = ap (λ (x : ℕ). w / sized .size-of .result * x) (sized .size-of .ensures) in (
+      omega (arith, sized .before .top-of .ensures, top-le (start .args .setup .d)),
+      omega (arith, div-le-self w (sized .size-of .result), c .before .before .words-of .ensures, words-le (start .args .setup)),
+      omega arith,
+    )
+
+-- the trees lie in the map, and their words are at most 65,536
+within : (c : tie.Else1) → let w = c .before .before .words-of .result in let n = c .before .before .before .size-of .result in
+    (w / n * n ≤ length (c .before .before .before .before .before .before .args .map .now)) × (w / n * n ≤ 65536)
+within c =
+    let w = c .before .before .words-of .result in
+    let n = c .before .before .before .size-of .result in
+    (omega arith, omega (arith, div-add-mod' w n, c .before .before .words-of .ensures, words-le (c .before .before .before .before .before .before .args .setup)))
+
+slice-aggregate-sum-of : tie.Need-slice-aggregate-sum-of
+slice-aggregate-sum-of c = sym (length-take-le _ _ (within (c .before .before) .0))
+
+sum-of-requires : tie.Need-sum-of-requires
+sum-of-requires c κs = let (there, few) = within (c .before .before) in rw (length-take-le _ _ there) few
+
+add-result : tie.Need-add-result
+add-result c =
+    let (there, few) = within (c .before .before .before) in
+    let long = length-take-le _ (c .before .before .before .before .before .before .before .before .before .args .map .now) there in
+    omega (arith, c .sum-of .ensures .1)
 
 zero-from-requires : tie.Need-zero-from-requires
-zero-from-requires c κs = search needs
+zero-from-requires c κs = within (c .before .before .before) .0
 
 returns-2 : tie.Need-returns-2
 returns-2 c =
-    let e = c .before .before .before .before in
-    c .zero-from .ensures
-    ∙ ap₂ _&&_ (sym (c .before .if2 .taken) ∙ c .before .before .all-whole .ensures) refl
-    ∙ count-keeps (e .before .before .before .before .before .args .setup) _ _ _ (e .before .before .before .top-of .ensures)
-    (e .before .before .size-of .ensures) (e .before .words-of .ensures) _ (omega (arith, e .bytes-past .ensures))
-
-returns-3 : tie.Need-returns-3
-returns-3 c =
-    let e = c .before .before .before in
-    ap₂ _&&_ (sym (c .if2 .left) ∙ c .before .all-whole .ensures) refl
-    ∙ count-keeps (e .before .before .before .before .before .args .setup) _ _ _ (e .before .before .before .top-of .ensures)
-    (e .before .before .size-of .ensures) (e .before .words-of .ensures) _ (omega (arith, e .bytes-past .ensures))
+    let e = c .before .before .before .before .before in
+    let start = e .before .before .before .before .before in
+    rw (c .before .before .before .all-tags .ensures, c .before .sum-of .ensures .0, c .zero-from .ensures)
+    (count-keeps (start .args .setup) _ _ _ (e .before .before .before .top-of .ensures)
+    (e .before .before .size-of .ensures) (e .before .words-of .ensures) (start .args .map .now) (omega (arith, e .bytes-past .ensures)))
 
 pub keeps-section-spec : {M : Type 1} → statement M
 keeps-section-spec =
@@ -79,7 +98,9 @@ keeps-section-spec =
     bytes-past-requires
     add-if1
     returns
-    all-whole-requires
+    all-tags-requires
+    slice-aggregate-sum-of
+    sum-of-requires
+    add-result
     zero-from-requires
-    returns-2
-    returns-3)
+    returns-2)

@@ -1,25 +1,60 @@
--- `lowest_run` scans the map from block to block. The loop's invariant: the first of the aligned runs is among the words that are left.
--- The measure is how many are. Assumes nothing.
+-- `lowest_run` scans the map from block to block. The loop's invariant: the first of the aligned runs is among the words that are left, and
+-- no smaller block stands first there. The measure is how many are left. Assumes nothing.
 use mathlib.Core.Path.{_≡_}
-use Prim.Native.Nat.{ℕ, _-_, _+_, _/_, _≤_}
+use Prim.Native.Nat.{ℕ, _-_, _+_, _/_, _≤_, _<_}
 use native.Mathlib.Omega.{arith}
-use lib.ListN.{getD}
+use lib.ListN.{length, getD}
 use Rattle.block.specs.Blocks.{size}
 use Rattle.block.specs.SetUp.{words, runs}
 use Rattle.block.specs.Map.{live, freeTag}
-use Rattle.block.proofs.Size.{size-pos, top-le, words-le}
+use Rattle.block.proofs.Size.{size-pos, size-small, top-le, words-le}
 use Rattle.block.proofs.Map.{keeps-words}
-use Rattle.buddy.specs.Lowest.{firstOf}
-use Rattle.buddy.proofs.Scan.{Scanned, meets-free, meets-live, meets-small, scan-starts, scan-ends}
+use Rattle.buddy.specs.Lowest.{firstOf, Passed}
+use Rattle.buddy.proofs.Scan.{Scanned, meets-free, meets-live, passed-scanned, passed-on, scan-starts, scan-ends}
 use borrow.Author.Needs.{needs}
 use Rattle.buddy.proofs.section.lowest_run.Statement.{statement}
 use Rattle.buddy.proofs.section.lowest_run.Tie as tie
 
 abbrev Inv-loop : tie.InvT-loop
-Inv-loop setup map j n least count i₀ i = Scanned j (setup .s1) (words setup) map (firstOf (runs (size j) setup (live setup map))) i
+Inv-loop setup map j n least end i₀ i = Scanned j (setup .s1) (words setup) map (firstOf (runs (size j) setup (live setup map))) i × (i < end → least ≤ getD map i 0)
 
 abbrev μ-loop : tie.MeasureT-loop
-μ-loop setup map j n least count i₀ i = count - i
+μ-loop setup map j n least end i₀ i = end - i
+
+-- the scan has come to word i: the lowest run is among the words from there on
+abbrev At : tie.After-words-of Inv-loop μ-loop → ℕ → Type 0
+At c = let a = c .before .before .before .before .args in
+    Scanned (a .j) (a .setup .s1) (words (a .setup)) (a .map .now) (firstOf (runs (size (a .j)) (a .setup) (live (a .setup) (a .map .now))))
+
+-- what a call of `skip` asks, and that it keeps the scan
+skip-asks : (c : tie.After-words-of Inv-loop μ-loop) → let n = c .before .before .size-of .result in let end = c .words-of .result in
+    (end ≤ length (c .before .before .before .before .args .map .now)) × (end ≤ 65536) × (0 < n) × (n ≤ 128)
+skip-asks c =
+    let e = c .before .before .before .before in
+    let sized = c .before .before .size-of .ensures in (
+      omega (arith, c .words-of .ensures, keeps-words (e .args .setup) (e .args .map .now) (e .pre .0) (e .pre .1)),
+      omega (arith, c .words-of .ensures, words-le (e .args .setup)),
+      omega (arith, sized, size-pos (e .args .j)),
+      omega (arith, sized, size-small (e .args .j) (omega (arith, top-le (e .args .setup .d)))),
+    )
+
+scans : (c : tie.After-words-of Inv-loop μ-loop) {i r : ℕ} → At c i
+    → Passed (c .before .before .before .before .args .map .now) (c .words-of .result) (c .before .free-tag .result) (c .before .before .size-of .result) i r → At c r
+scans c = let a = c .before .before .before .before .args in
+    passed-scanned (a .setup .s1) (words (a .setup)) (a .j) (c .words-of .ensures) (c .before .free-tag .ensures) (c .before .before .size-of .ensures)
+
+-- no smaller block stands here
+large : (c : tie.In-loop Inv-loop μ-loop) → let a = c .before .before .before .before .before .before .before .args in freeTag (a .j) ≤ getD (a .map .now) (c .before .loop .i) 0
+large c = omega (arith, c .before .loop .inv .1 (c .loop-test .taken), c .before .before .before .before .free-tag .ensures)
+
+-- the words after a live block
+past-live : (c : tie.Else1 Inv-loop μ-loop) → let l = c .before .before .before in let k = getD (l .before .before .before .before .before .before .args .map .now) (l .loop .i) 0 / 2 - 1 in
+    (k ≤ 7) × ((n : ℕ) → n ≡ size k → At (l .before .before) (l .loop .i + n))
+past-live c =
+    let l = c .before .before .before in
+    let a = l .before .before .before .before .before .before .args in
+    meets-live (a .setup .s1) (words (a .setup)) (l .loop .i) (a .map .now) (l .loop .inv .0) (omega (arith, l .before .before .words-of .ensures))
+    (large (c .before .before)) (omega (arith, c .if1 .left))
 
 size-of-requires : tie.Need-size-of-requires Inv-loop μ-loop
 size-of-requires c κs = omega (arith, top-le (c .before .args .setup .d))
@@ -30,73 +65,45 @@ free-tag-requires c κs = omega (arith, top-le (c .before .before .args .setup .
 words-of-requires : tie.Need-words-of-requires Inv-loop μ-loop
 words-of-requires c κs = search needs
 
+skip-requires : tie.Need-skip-requires Inv-loop μ-loop
+skip-requires c κs = skip-asks c
+
 loop-holds : tie.Need-loop-holds Inv-loop μ-loop
-loop-holds c =
-    let e = c .before .before .before .before in
-    scan-starts (e .args .setup) (e .args .map .now) (e .args .j) (e .pre .0) (e .pre .1) (e .pre .2)
+loop-holds c = (scans (c .before) (scan-starts (c .before .before .before .before .before .args .setup) (c .before .before .before .before .before .args .map .now) (c .before .before .before .before .before .args .j) (c .before .before .before .before .before .pre .0) (c .before .before .before .before .before .pre .1) (c .before .before .before .before .before .pre .2)) (c .skip .ensures .0), c .skip .ensures .1)
 
 shared-slice-read-tag : tie.Need-shared-slice-read-tag Inv-loop μ-loop
-shared-slice-read-tag c =
-    let e = c .before .before .before .before .before .before .before in
-    omega (arith, c .before .before .before .words-of .ensures, keeps-words (e .args .setup) (e .args .map .now) (e .pre .0) (e .pre .1))
+shared-slice-read-tag c = omega (arith, c .before .before .before .before .words-of .ensures, keeps-words (c .before .before .before .before .before .before .before .before .args .setup) (c .before .before .before .before .before .before .before .before .args .map .now) (c .before .before .before .before .before .before .before .before .pre .0) (c .before .before .before .before .before .before .before .before .pre .1))
 
--- the words after those that are wanted, where a smaller block stands
-past-small : (c : tie.Then1 Inv-loop μ-loop) → let a = c .before .before .before .before .before .before .before .before .args in
-    Scanned (a .j) (a .setup .s1) (words (a .setup)) (a .map .now) (firstOf (runs (size (a .j)) (a .setup) (live (a .setup) (a .map .now)))) (c .before .before .before .loop .i + c .before .before .before .before .before .before .size-of .result)
-past-small c =
-    let a = c .before .before .before .before .before .before .before .before .args in
-    meets-small (a .setup .s1) (words (a .setup)) (c .before .before .before .loop .i) (a .map .now) (c .before .before .before .loop .inv) (omega (arith, c .before .before .before .before .words-of .ensures))
-    (c .before .before .before .before .before .before .size-of .result) (c .before .before .before .before .before .before .size-of .ensures) (omega (arith, c .if1 .taken, c .before .before .before .before .before .free-tag .ensures))
+cast-t12 : tie.Need-cast-t12 Inv-loop μ-loop
+cast-t12 c = search needs
 
-add-i : tie.Need-add-i Inv-loop μ-loop
-add-i c = record { fits = omega (arith, past-small c .0, words-le (c .before .before .before .before .before .before .before .before .args .setup)) }
+add-t13 : tie.Need-add-t13 Inv-loop μ-loop
+add-t13 c = record { fits = omega (arith, c .before .before .before .before .loop .inv .0 .0, words-le (c .before .before .before .before .before .before .before .before .before .before .args .setup)) }
 
-loop-less : tie.Need-loop-less Inv-loop μ-loop
-loop-less c = omega (arith, c .before .before .before .before .before .before .size-of .ensures, size-pos (c .before .before .before .before .before .before .before .before .args .j))
-
-loop-again : tie.Need-loop-again Inv-loop μ-loop
-loop-again c = past-small c
+returns : tie.Need-returns Inv-loop μ-loop
+returns c = meets-free (c .before .before .before .before .before .before .before .before .before .before .args .setup .s1) (words (c .before .before .before .before .before .before .before .before .before .before .args .setup)) (c .before .before .before .before .loop .i) (c .before .before .before .before .before .before .before .before .before .before .args .map .now) (c .before .before .before .before .loop .inv .0) (omega (arith, c .before .before .before .before .before .before .words-of .ensures)) (large (c .before .before .before)) (λ e. omega (arith, c .before .if1 .taken))
 
 sub-size-of : tie.Need-sub-size-of Inv-loop μ-loop
 unfolding freeTag
-sub-size-of c = omega (arith, c .before .before .before .before .before .before .free-tag .ensures)
-
--- the words after a live block
-past-live : (c : tie.Then2 Inv-loop μ-loop) → let a = c .before .before .before .before .before .before .before .before .before .args in let k = getD (a .map .now) (c .before .before .before .before .loop .i) 0 / 2 - 1 in
-    (k ≤ 7) × ((n : ℕ) → n ≡ size k → Scanned (a .j) (a .setup .s1) (words (a .setup)) (a .map .now) (firstOf (runs (size (a .j)) (a .setup) (live (a .setup) (a .map .now)))) (c .before .before .before .before .loop .i + n))
-past-live c =
-    let a = c .before .before .before .before .before .before .before .before .before .args in
-    meets-live (a .setup .s1) (words (a .setup)) (c .before .before .before .before .loop .i) (a .map .now) (c .before .before .before .before .loop .inv) (omega (arith, c .before .before .before .before .before .words-of .ensures))
-    (omega (arith, c .before .if1 .left, c .before .before .before .before .before .before .free-tag .ensures)) (c .if2 .taken)
+sub-size-of c = omega (arith, large (c .before .before), c .if1 .left)
 
 size-of-requires-2 : tie.Need-size-of-requires-2 Inv-loop μ-loop
 size-of-requires-2 c κs = past-live c .0
 
-add-i-2 : tie.Need-add-i-2 Inv-loop μ-loop
-add-i-2 c = record { fits = omega (arith, past-live (c .before) .1 (c .size-of2 .result) (c .size-of2 .ensures) .0, words-le (c .before .before .before .before .before .before .before .before .before .before .args .setup)) }
+add-skip : tie.Need-add-skip Inv-loop μ-loop
+add-skip c = record { fits = omega (arith, past-live (c .before) .1 (c .size-of2 .result) (c .size-of2 .ensures) .0, words-le (c .before .before .before .before .before .before .before .before .before .before .args .setup)) }
 
-loop-less-2 : tie.Need-loop-less-2 Inv-loop μ-loop
-loop-less-2 c = omega (arith, c .size-of2 .ensures, size-pos (getD (c .before .before .before .before .before .before .before .before .before .before .args .map .now) (c .before .before .before .before .before .loop .i) 0 / 2 - 1))
+skip-requires-2 : tie.Need-skip-requires-2 Inv-loop μ-loop
+skip-requires-2 c κs = skip-asks (c .before .before .before .before .before .before)
 
-loop-again-2 : tie.Need-loop-again-2 Inv-loop μ-loop
-loop-again-2 c = past-live (c .before) .1 (c .size-of2 .result) (c .size-of2 .ensures)
+loop-less : tie.Need-loop-less Inv-loop μ-loop
+loop-less c = omega (arith, passed-on (c .skip2 .ensures .0), c .before .size-of2 .ensures, size-pos (getD (c .before .before .before .before .before .before .before .before .before .before .before .args .map .now) (c .before .before .before .before .before .loop .i) 0 / 2 - 1))
 
-cast-t17 : tie.Need-cast-t17 Inv-loop μ-loop
-cast-t17 c = search needs
-
-add-t18 : tie.Need-add-t18 Inv-loop μ-loop
-add-t18 c = record { fits = omega (arith, c .before .before .before .before .before .loop .inv .0, words-le (c .before .before .before .before .before .before .before .before .before .before .args .setup)) }
-
-returns : tie.Need-returns Inv-loop μ-loop
-returns c =
-    let a = c .before .before .before .before .before .before .before .before .before .before .args in
-    meets-free (a .setup .s1) (words (a .setup)) (c .before .before .before .before .before .loop .i) (a .map .now) (c .before .before .before .before .before .loop .inv) (omega (arith, c .before .before .before .before .before .before .words-of .ensures))
-    (omega (arith, c .before .before .if1 .left, c .before .before .before .before .before .before .before .free-tag .ensures)) (c .before .if2 .left)
+loop-again : tie.Need-loop-again Inv-loop μ-loop
+loop-again c = (scans (c .before .before .before .before .before .before .before) (past-live (c .before .before) .1 (c .before .size-of2 .result) (c .before .size-of2 .ensures)) (c .skip2 .ensures .0), c .skip2 .ensures .1)
 
 returns-2 : tie.Need-returns-2 Inv-loop μ-loop
-returns-2 c =
-    let a = c .before .before .before .before .before .before .args in
-    scan-ends (a .setup .s1) (words (a .setup)) (c .before .loop .i) (a .map .now) (c .before .loop .inv) (omega (arith, c .before .before .words-of .ensures))
+returns-2 c = scan-ends (c .before .before .before .before .before .before .before .args .setup .s1) (words (c .before .before .before .before .before .before .before .args .setup)) (c .before .loop .i) (c .before .before .before .before .before .before .before .args .map .now) (c .before .loop .inv .0) (omega (arith, c .before .before .before .words-of .ensures))
 
 pub lowest-run-spec : {M : Type 1} → statement M
 lowest-run-spec =
@@ -107,17 +114,16 @@ lowest-run-spec =
     size-of-requires
     free-tag-requires
     words-of-requires
+    skip-requires
     loop-holds
     shared-slice-read-tag
-    add-i
-    loop-less
-    loop-again
+    cast-t12
+    add-t13
+    returns
     sub-size-of
     size-of-requires-2
-    add-i-2
-    loop-less-2
-    loop-again-2
-    cast-t17
-    add-t18
-    returns
+    add-skip
+    skip-requires-2
+    loop-less
+    loop-again
     returns-2)

@@ -101,7 +101,7 @@ enum-known-action-6 c = search needs
 free-block-requires : tie.Need-free-block-requires
 free-block-requires c κs =
     let h = free-asks _ _ (c .before .before .before .before .before .before .before .pre .3 .1) (c .before .before .action6 .given .1) in
-    (c .before .before .before .before .before .before .before .pre .1, c .before .before .before .before .before .before .before .pre .2, h .1, h .2)
+    (c .before .before .before .before .before .before .before .pre .1, c .before .before .before .before .before .before .before .pre .2, h .1)
 
 store-requires-7 : tie.Need-store-requires-7
 store-requires-7 c κs =
