@@ -5,3 +5,6 @@ pub mod Bits
 pub mod Loops
 pub mod Places
 pub mod Calls
+pub mod Writing
+pub mod Packing
+pub mod Parts

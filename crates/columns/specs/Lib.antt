@@ -1,2 +1,3 @@
 -- Storage kept by bit columns.
 pub mod Columns
+pub mod Packing

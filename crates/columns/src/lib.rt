@@ -2,11 +2,13 @@
 ghost use mathlib.Core.Bool.{true};
 ghost use mathlib.Core.List.{_++_};
 ghost use mathlib.Core.Path.{_≡_};
-ghost use Prim.Native.Nat.{_+_, _-_, _*_, _/_, _%_, _^_, _≤_, _<_};
+ghost use Prim.Native.Nat.{ℕ, _+_, _-_, _*_, _/_, _%_, _^_, _≤_, _<_, min};
 ghost use lib.Dec.{eqb};
 ghost use lib.ListN.{length, getD, take, drop};
+ghost use lib.Seq.{sets};
 ghost use Rattle.character.specs.Character.{number};
-ghost use Rattle.columns.specs.Columns.{groupsOf, filledUp, turnedGroups, saved, fitsWidth, eachBelow, isSaved, isWidth, saving, loading, bitsAt};
+ghost use Rattle.columns.specs.Columns.{groupsOf, filledUp, turnedGroups, saved, fitsWidth, eachBelow, isSaved, isWidth, saving, loading, bitsAt, turned};
+ghost use Rattle.columns.specs.Packing.{unpacked, spreadOf, packedTurned, octets, longer};
 
 // What a call answers: how many bytes or words it wrote, or why it wrote none. A width is 36 or 48 bits.
 pub enum Kept {
@@ -51,19 +53,135 @@ fn word_or_zero(words: &[u64], at: usize, i: usize) -> u64
     }
 }
 
-// The byte that holds bit p of the eight words from a place on.
-fn column(b: u64, p: u64, words: &[u64], at: usize) -> u8
-    requires { ⌜ (p < b) × (b ≤ 48) × (at + 8 ≤ 8 * groupsOf (length (now words))) ⌝ }
-    ensures { λ r. ⌜ r ≡ number 2 0 (bitsAt b p (take 8 (drop at (filledUp (now (words .entry)))))) ⌝ }
+// Eight words from a place on, zero past the last.
+fn group_at(words: &[u64], at: usize) -> [u64; 8]
+    requires { ⌜ at + 8 ≤ 8 * groupsOf (length (now words)) ⌝ }
+    ensures { λ r. ⌜ r ≡ take 8 (drop at (filledUp (now (words .entry)))) ⌝ }
 {
-    let right = b - 1 - p;
+    let mut group = [0u64; 8];
+    let mut i = 0;
+    while i < 8 {
+        group[i] = word_or_zero(words, at, i);
+        i += 1;
+    }
+    group
+}
+
+// The bits of a byte as eight bytes of 0 or 1, the leftmost bit in the lowest byte: eight copies of the byte, one bit kept of each, and a
+// one in the place of each that is not zero.
+fn spread(x: u64) -> u64
+    requires { ⌜ x < 256 ⌝ }
+    ensures { λ r. ⌜ r ≡ spreadOf x ⌝ }
+{
+    let bits = (x * 72340172838076673) & 72624976668147840;
+    ((bits + 9187201950435737471) >> 7) & 72340172838076673
+}
+
+// Eight bits of eight words turned, those with so many bits to their right.
+fn turned_words(group: &[u64], right: u64) -> u64
+    requires { ⌜ (right < 64) × (length (now group) ≡ 8) ⌝ }
+    ensures { λ r. ⌜ r ≡ packedTurned (octets right (now (group .entry))) ⌝ }
+{
     let mut made = 0;
     let mut i = 0;
     while i < 8 {
-        made = made * 2 + (word_or_zero(words, at, i) >> right) % 2;
+        made = made * 2 + spread((group[i] >> right) % 256);
         i += 1;
     }
-    (made % 256) as u8
+    made
+}
+
+// So many bytes from a place on turned.
+fn turned_bytes(bytes: &[u8], at: usize, n: usize) -> u64
+    requires { ⌜ (n ≤ 8) × (at + n ≤ length (now bytes)) ⌝ }
+    ensures { λ r. ⌜ r ≡ packedTurned (take n (drop at (now (bytes .entry)))) ⌝ }
+{
+    let mut made = 0;
+    let mut i = 0;
+    while i < n {
+        made = made * 2 + spread(bytes[at + i] as u64);
+        i += 1;
+    }
+    made
+}
+
+// Writes the lowest n bytes of a number.
+fn put_bytes(bytes: &mut [u8], to: usize, n: usize, all: u64)
+    requires { ⌜ to + n ≤ length (now bytes) ⌝ }
+    ensures { λ _. ⌜ now (bytes .exit) ≡ sets (now (bytes .entry)) to (unpacked n all) ⌝ }
+{
+    let mut rest = all;
+    let mut i = 0;
+    while i < n {
+        bytes[to + i] = (rest % 256) as u8;
+        rest = rest / 256;
+        i += 1;
+    }
+}
+
+// Writes the bytes of a group: those of the first bits where the width is no multiple of eight, and then eight at a time.
+fn save_group(b: u64, group: &[u64], bytes: &mut [u8], to: usize)
+    requires { ⌜ (b ≤ 48) × (length (now group) ≡ 8) × (to + b ≤ length (now bytes)) ⌝ }
+    ensures { λ _. ⌜ now (bytes .exit) ≡ sets (now (bytes .entry)) to (turned b (now (group .entry))) ⌝ }
+{
+    let n = b as usize;
+    let odd = n % 8;
+    put_bytes(
+        bytes,
+        to,
+        odd,
+        (turned_words(group, b - b % 8) / 256) >> (56 - 8 * odd),
+    );
+    let mut p = odd;
+    while p < n {
+        put_bytes(bytes, to + p, 8, turned_words(group, (n - p - 8) as u64));
+        p += 8;
+    }
+}
+
+// Eight words with eight bits more, those in the bytes of a number.
+fn with_bits(group: &[u64], all: u64) -> [u64; 8]
+    requires { ⌜ (length (now group) ≡ 8) × ((i : ℕ) → getD (now group) i 0 < 2 ^ 48) ⌝ }
+    ensures { λ r. ⌜ r ≡ longer (now (group .entry)) all ⌝ }
+{
+    let mut made = [0u64; 8];
+    let mut rest = all;
+    let mut i = 0;
+    while i < 8 {
+        made[i] = group[i] * 256 + rest % 256;
+        rest = rest / 256;
+        i += 1;
+    }
+    made
+}
+
+// The words of a group.
+fn load_group(b: u64, bytes: &[u8], at: usize) -> [u64; 8]
+    requires { ⌜ (b ≤ 48) × (at + b ≤ length (now bytes)) ⌝ }
+    ensures { λ r. ⌜ r ≡ turned 8 (take b (drop at (now (bytes .entry)))) ⌝ }
+{
+    let n = b as usize;
+    let odd = n % 8;
+    let mut group = [0u64; 8];
+    group = with_bits(&group, turned_bytes(bytes, at, odd));
+    let mut p = odd;
+    while p < n {
+        group = with_bits(&group, turned_bytes(bytes, at + p, 8));
+        p += 8;
+    }
+    group
+}
+
+// Writes the first n words of a group.
+fn put_words(group: &[u64], n: usize, words: &mut [u64], to: usize)
+    requires { ⌜ (n ≤ length (now group)) × (to + n ≤ length (now words)) ⌝ }
+    ensures { λ _. ⌜ now (words .exit) ≡ sets (now (words .entry)) to (take n (now (group .entry))) ⌝ }
+{
+    let mut i = 0;
+    while i < n {
+        words[to + i] = group[i];
+        i += 1;
+    }
 }
 
 // The word that has bit i of each of the b bytes from a place on.
@@ -80,15 +198,6 @@ fn row(b: u64, i: u64, bytes: &[u8], at: usize) -> u64
         p += 1;
     }
     made
-}
-
-// Byte j of what is saved: that of a bit place of a group.
-fn byte_at(b: u64, words: &[u64], j: usize) -> u8
-    requires { ⌜ (1 ≤ b) × (b ≤ 48) × (j < b * groupsOf (length (now words))) ⌝ }
-    ensures { λ r. ⌜ r ≡ getD (saved b (now (words .entry))) j 0 ⌝ }
-{
-    let n = b as usize;
-    column(b, (j % n) as u64, words, j / n * 8)
 }
 
 // Word i of what is loaded, of so many groups.
@@ -115,27 +224,41 @@ fn filled_with_zeros(b: u64, groups: usize, bytes: &[u8], n: usize) -> bool
     true
 }
 
-// Writes what is saved of words at the start of the bytes.
-fn save_all(b: u64, words: &[u64], count: usize, bytes: &mut [u8])
-    requires { ⌜ (1 ≤ b) × (b ≤ 48) × (count ≡ b * groupsOf (length (now words))) × (count ≤ length (now bytes)) ⌝ }
-    ensures { λ _. ⌜ now (bytes .exit) ≡ saved b (now (words .entry)) ++ drop count (now (bytes .entry)) ⌝ }
+// Writes what is saved of words at the start of the bytes, a group at a time.
+fn save_all(b: u64, words: &[u64], groups: usize, bytes: &mut [u8])
+    requires { ⌜ (b ≤ 48) × (groups ≡ groupsOf (length (now words))) × (b * groups ≤ length (now bytes)) ⌝ }
+    ensures { λ _. ⌜ now (bytes .exit) ≡ saved b (now (words .entry)) ++ drop (b * groups) (now (bytes .entry)) ⌝ }
 {
-    let mut j = 0;
-    while j < count {
-        bytes[j] = byte_at(b, words, j);
-        j += 1;
+    let n = b as usize;
+    let mut k = 0;
+    while k < groups {
+        let group = group_at(words, 8 * k);
+        save_group(b, &group, bytes, n * k);
+        k += 1;
     }
 }
 
-// Writes the first n words of what is loaded at the start of the words.
+// The lesser of eight and what is left.
+fn up_to_eight(left: usize) -> usize
+    ensures { λ r. ⌜ r ≡ min left 8 ⌝ }
+{
+    if left < 8 { left } else { 8 }
+}
+
+// Writes the first n words of what is loaded at the start of the words, a group at a time.
 fn load_all(b: u64, groups: usize, bytes: &[u8], n: usize, words: &mut [u64])
     requires { ⌜ (b ≤ 48) × (length (now bytes) ≡ b * groups) × (n ≤ 8 * groups) × (n ≤ length (now words)) ⌝ }
     ensures { λ _. ⌜ now (words .exit) ≡ take n (turnedGroups 8 b groups (now (bytes .entry))) ++ drop n (now (words .entry)) ⌝ }
 {
+    let size = b as usize;
+    let mut k = 0;
     let mut i = 0;
     while i < n {
-        words[i] = word_at(b, groups, bytes, i);
-        i += 1;
+        let group = load_group(b, bytes, size * k);
+        let m = up_to_eight(n - i);
+        put_words(&group, m, words, i);
+        k += 1;
+        i += m;
     }
 }
 
@@ -171,7 +294,7 @@ pub fn save(b: u64, words: &[u64], bytes: &mut [u8]) -> Kept
         return Kept::OutputShort;
     }
     let count = n * groups;
-    save_all(b, words, count, bytes);
+    save_all(b, words, groups, bytes);
     Kept::Count(count)
 }
 

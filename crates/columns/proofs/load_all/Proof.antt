@@ -1,62 +1,102 @@
--- `columns::load_all` meets its contract. The loop's invariant: the first i words are those of what is loaded. Assumes nothing.
-use Prim.Native.Nat.{ℕ, _≤_, _-_, _<_}
-use mathlib.Core.List.{List, _++_}
+-- `columns::load_all` meets its contract. The loop's invariant: the first i words, those of k groups, are stored. Assumes nothing.
+use Prim.Native.Nat.{ℕ, suc, _+_, _-_, _*_, _≤_, _<_}
+use mathlib.Core.List.{List}
 use mathlib.Core.Path.{_≡_, refl, sym, ap, _∙_}
+use native.Mathlib.Nat.{mul-le-mul-left}
 use native.Mathlib.Omega.{arith}
-use lib.ListN.{length, getD, set, take, drop, length-set}
+use lib.ListN.{length, take, drop}
+use lib.Seq.{sets, length-sets, take-take}
 use Rattle.columns.specs.Columns.{turnedGroups}
-use Rattle.columns.proofs.Turning.{length-groups}
-use Rattle.columns.proofs.Places.{put-next}
+use Rattle.columns.proofs.Turning.{length-turned, length-groups}
+use Rattle.columns.proofs.Parts.{group-of}
+use Rattle.columns.proofs.Writing.{start-more, start-all}
 use borrow.Author.Needs.{needs}
 use Rattle.columns.proofs.load_all.Statement.{statement}
 use Rattle.columns.proofs.load_all.Tie as tie
 
 abbrev Inv-loop : tie.InvT-loop
-Inv-loop b groups bytes n words₀ i₀ words i = (i ≤ n) × (length words ≡ length words₀) × (words ≡ take i (turnedGroups 8 b groups bytes) ++ drop i words₀)
+Inv-loop b groups bytes n words₀ size k₀ i₀ words k i =
+    (i ≤ n) × (i < n → i ≡ 8 * k) × (length words ≡ length words₀) × (words ≡ sets words₀ 0 (take i (turnedGroups 8 b groups bytes)))
 
 abbrev μ-loop : tie.MeasureT-loop
-μ-loop b groups bytes n words₀ i₀ words i = n - i
+μ-loop b groups bytes n words₀ size k₀ i₀ words k i = n - i
 
 loop-holds : tie.Need-loop-holds Inv-loop μ-loop
-loop-holds c = (omega arith, refl, refl)
+loop-holds c = (omega arith, λ _. refl, refl, refl)
 
-word-at-requires : tie.Need-word-at-requires Inv-loop μ-loop
-word-at-requires c κs = let more = c .loop-test .taken in (c .before .before .before .before .pre .0, c .before .before .before .before .pre .1, omega (arith, c .before .before .before .before .pre .2))
+mul-load-group : tie.Need-mul-load-group Inv-loop μ-loop
+mul-load-group c =
+    let here = c .before .loop .inv .1 (c .loop-test .taken) in
+    let more = c .loop-test .taken in
+    let most = mul-le-mul-left {m = c .before .loop .k} {n = c .before .before .before .before .args .groups} (c .before .before .before .before .args .b) (omega (arith, c .before .before .before .before .pre .2)) in
+    omega (arith, c .before .before .before .before .pre .1)
 
-mul-words : tie.Need-mul-words Inv-loop μ-loop
-mul-words c = search needs
+load-group-requires : tie.Need-load-group-requires Inv-loop μ-loop
+load-group-requires c κs =
+    let here = c .before .loop .inv .1 (c .loop-test .taken) in
+    let more = c .loop-test .taken in
+    let most = mul-le-mul-left {m = suc (c .before .loop .k)} {n = c .before .before .before .before .args .groups} (c .before .before .before .before .args .b) (omega (arith, c .before .before .before .before .pre .2)) in
+    (c .before .before .before .before .pre .0, omega (arith, c .before .before .before .before .pre .1))
 
-slice-write-words : tie.Need-slice-write-words Inv-loop μ-loop
-slice-write-words c = let more = c .before .loop-test .taken in let long = c .before .before .loop .inv .1 in omega (arith, c .before .before .before .before .before .pre .3)
+sub-up-to-eight : tie.Need-sub-up-to-eight Inv-loop μ-loop
+sub-up-to-eight c = search needs
+
+up-to-eight-requires : tie.Need-up-to-eight-requires Inv-loop μ-loop
+up-to-eight-requires c κs = search needs
+
+slice-aggregate-put-words : tie.Need-slice-aggregate-put-words Inv-loop μ-loop
+slice-aggregate-put-words c = sym (ap length (c .before .before .load-group .ensures) ∙ length-turned 8 _)
+
+put-words-requires : tie.Need-put-words-requires Inv-loop μ-loop
+put-words-requires c κs =
+    let long = ap length (c .before .before .before .load-group .ensures) ∙ length-turned 8 (take (c .before .before .before .before .before .before .before .before .args .b) (drop (c .before .before .before .before .before .before .before .before .args .b * c .before .before .before .before .before .loop .k) (c .before .before .before .before .before .before .before .before .args .bytes .now))) in
+    (omega (arith, c .before .before .up-to-eight .ensures), omega (arith, c .before .before .up-to-eight .ensures, c .before .before .before .before .before .before .before .before .pre .3, c .before .before .before .before .before .loop .inv .2, c .before .before .before .before .loop-test .taken))
+
+add-k : tie.Need-add-k Inv-loop μ-loop
+add-k c =
+    let here = c .before .before .before .before .before .before .before .before .loop .inv .1 (c .before .before .before .before .before .before .before .loop-test .taken) in
+    let more = c .before .before .before .before .before .before .before .loop-test .taken in
+    omega (arith, c .before .before .before .before .before .before .before .before .before .before .before .pre .2)
 
 add-i : tie.Need-add-i Inv-loop μ-loop
-add-i c = search needs
+add-i c = omega (arith, c .before .before .before .before .before .up-to-eight .ensures)
 
 loop-less : tie.Need-loop-less Inv-loop μ-loop
-loop-less c = search needs
+loop-less c = let more = c .before .before .before .before .before .before .before .loop-test .taken in omega (arith, c .before .before .before .before .before .up-to-eight .ensures)
 
 loop-again : tie.Need-loop-again Inv-loop μ-loop
 loop-again c =
-    let more = c .before .loop-test .taken in
-    let all = turnedGroups 8 (c .before .before .before .before .before .args .b) (c .before .before .before .before .before .args .groups) (c .before .before .before .before .before .args .bytes .now) in
-    let d = c .before .before .before .before .before .args .words .now in
-    let long = length-groups 8 (c .before .before .before .before .before .args .b) (c .before .before .before .before .before .args .groups) (c .before .before .before .before .before .args .bytes .now) in (
+    let a = c .before .before .before .before .before .before .before .before .before .before .before .args in
+    let l = c .before .before .before .before .before .before .before .before .loop in
+    let more = c .before .before .before .before .before .before .before .loop-test .taken in
+    let here = l .inv .1 more in
+    let m = c .before .before .before .before .before .up-to-eight .result in
+    let is = c .before .before .before .before .before .up-to-eight .ensures in
+    let all = turnedGroups 8 (a .b) (a .groups) (a .bytes .now) in
+    let inside : l .k < a .groups = omega (arith, c .before .before .before .before .before .before .before .before .before .before .before .pre .2) in (
       omega arith,
-      length-set (c .before .before .loop .words) _ _ ∙ c .before .before .loop .inv .1,
-      ap (λ (l : List ℕ). set l (c .before .before .loop .i) (c .word-at .result)) (c .before .before .loop .inv .2)
-          ∙ ap (λ (x : ℕ). set (take (c .before .before .loop .i) all ++ drop (c .before .before .loop .i) d) (c .before .before .loop .i) x) (c .word-at .ensures)
-          ∙ put-next all d (c .before .before .loop .i) (omega (arith, c .before .before .before .before .before .pre .2)) (omega (arith, c .before .before .before .before .before .pre .3)),
+      λ (later : l .i + m < a .n). omega arith,
+      ap length (c .before .before .put-words .ensures) ∙ simp length-sets (l .inv .2),
+      c .before .before .put-words .ensures
+          ∙ ap (λ (g : List ℕ). sets (l .words) (l .i) (take m g)) (c .before .before .before .before .before .before .load-group .ensures ∙ sym (group-of 8 (a .b) (a .groups) (l .k) (a .bytes .now) inside))
+          ∙ ap (sets (l .words) (l .i)) (take-take m 8 (drop (8 * l .k) all) (omega arith))
+          ∙ ap (λ (j : ℕ). sets (l .words) (l .i) (take m (drop j all))) (sym here)
+          ∙ start-more all (a .words .now) (l .i) m (l .inv .3),
     )
 
 same-length : tie.Need-same-length Inv-loop μ-loop
-same-length c = c .before .loop .inv .1
+same-length c = c .before .loop .inv .2
 
 returns : tie.Need-returns Inv-loop μ-loop
 returns c =
+    let a = c .before .before .before .before .args in
+    let l = c .before .loop in
     let over = c .loop-test .left in
-    let most = c .before .loop .inv .0 in
-    let same : c .before .loop .i ≡ c .before .before .before .before .args .n = omega arith in
-    c .before .loop .inv .2 ∙ ap (λ (k : ℕ). take k (turnedGroups 8 (c .before .before .before .before .args .b) (c .before .before .before .before .args .groups) (c .before .before .before .before .args .bytes .now)) ++ drop k (c .before .before .before .before .args .words .now)) same
+    let most = l .inv .0 in
+    let all = turnedGroups 8 (a .b) (a .groups) (a .bytes .now) in
+    let same : l .i ≡ a .n = omega arith in
+    start-all all (a .words .now) (a .n) (omega (arith, length-groups 8 (a .b) (a .groups) (a .bytes .now), c .before .before .before .before .pre .2)) (c .before .before .before .before .pre .3)
+    (l .inv .3 ∙ ap (λ (j : ℕ). sets (a .words .now) 0 (take j all)) same)
 
 pub load-all-spec : {M : Type 1} → statement M
 load-all-spec =
@@ -65,9 +105,13 @@ load-all-spec =
     Inv-loop
     μ-loop
     loop-holds
-    word-at-requires
-    mul-words
-    slice-write-words
+    mul-load-group
+    load-group-requires
+    sub-up-to-eight
+    up-to-eight-requires
+    slice-aggregate-put-words
+    put-words-requires
+    add-k
     add-i
     loop-less
     loop-again

@@ -46,11 +46,8 @@ mul-count c =
 save-all-requires : tie.Need-save-all-requires
 save-all-requires c κs =
     let at-if1 = c .before .before .before .before .before in
-    let b = at-if1 .before .before .before .before .args .b in
     let wide = sym (at-if1 .before .is-width .ensures) ∙ not-false _ (at-if1 .if1 .left) in
-    let range = width-range b wide in
-    let room = groups-fit _ _ _ wide (c .before .if3 .left) in
-    (omega (arith, range .0), range .1, ap (λ (n : ℕ). b * n) (c .before .before .groups-of .ensures), omega arith)
+    (width-range _ wide .1, c .before .before .groups-of .ensures, groups-fit _ _ _ wide (c .before .if3 .left))
 
 same-length : tie.Need-same-length
 same-length c = search needs

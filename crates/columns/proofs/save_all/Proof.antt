@@ -1,49 +1,77 @@
--- `columns::save_all` meets its contract. The loop's invariant: the first j bytes are those of what is saved. Assumes nothing.
-use Prim.Native.Nat.{ℕ, _≤_, _-_, _<_}
+-- `columns::save_all` meets its contract. The loop's invariant: the bytes of the first k groups are stored. Assumes nothing.
+use Prim.Native.Nat.{ℕ, suc, _+_, _-_, _*_, _≤_}
 use mathlib.Core.List.{List, _++_}
 use mathlib.Core.Path.{_≡_, refl, sym, ap, _∙_}
+use native.Mathlib.Nat.{mul-le-mul-left}
 use native.Mathlib.Omega.{arith}
-use lib.ListN.{length, getD, set, take, drop, length-set}
-use lib.Seq.{take-all}
-use Rattle.columns.specs.Columns.{saved}
+use lib.ListN.{length, take, drop}
+use lib.Seq.{sets, length-sets, take-all}
+use Rattle.columns.specs.Columns.{groupsOf, turned, saved}
 use Rattle.columns.proofs.Back.{length-saved}
-use Rattle.columns.proofs.Places.{put-next}
+use Rattle.columns.proofs.Loops.{length-group}
+use Rattle.columns.proofs.Parts.{saved-group}
+use Rattle.columns.proofs.Writing.{start-more, start-all}
 use borrow.Author.Needs.{needs}
 use Rattle.columns.proofs.save_all.Statement.{statement}
 use Rattle.columns.proofs.save_all.Tie as tie
 
 abbrev Inv-loop : tie.InvT-loop
-Inv-loop b words count bytes₀ j₀ bytes j = (j ≤ count) × (length bytes ≡ length bytes₀) × (bytes ≡ take j (saved b words) ++ drop j bytes₀)
+Inv-loop b words groups bytes₀ n k₀ bytes k = (k ≤ groups) × (length bytes ≡ length bytes₀) × (bytes ≡ sets bytes₀ 0 (take (b * k) (saved b words)))
 
 abbrev μ-loop : tie.MeasureT-loop
-μ-loop b words count bytes₀ j₀ bytes j = count - j
+μ-loop b words groups bytes₀ n k₀ bytes k = groups - k
 
 loop-holds : tie.Need-loop-holds Inv-loop μ-loop
-loop-holds c = (omega arith, refl, refl)
+loop-holds c =
+    let none : 0 ≡ c .before .before .args .b * 0 = omega arith in
+    (omega arith, refl, ap (λ (i : ℕ). sets (c .before .before .args .bytes .now) 0 (take i (saved (c .before .before .args .b) (c .before .before .args .words .now)))) none)
 
-byte-at-requires : tie.Need-byte-at-requires Inv-loop μ-loop
-byte-at-requires c κs = let more = c .loop-test .taken in (c .before .before .before .before .pre .0, c .before .before .before .before .pre .1, omega (arith, c .before .before .before .before .pre .2))
+mul-group-at : tie.Need-mul-group-at Inv-loop μ-loop
+unfolding groupsOf
+mul-group-at c = let count = c .before .before .before .before .pre .1 in let more = c .loop-test .taken in omega arith
 
-slice-write-bytes : tie.Need-slice-write-bytes Inv-loop μ-loop
-slice-write-bytes c = let more = c .before .loop-test .taken in let long = c .before .before .loop .inv .1 in omega (arith, c .before .before .before .before .before .pre .3)
+group-at-requires : tie.Need-group-at-requires Inv-loop μ-loop
+group-at-requires c κs = let count = c .before .before .before .before .pre .1 in let more = c .loop-test .taken in omega arith
 
-add-j : tie.Need-add-j Inv-loop μ-loop
-add-j c = search needs
+slice-aggregate-save-group : tie.Need-slice-aggregate-save-group Inv-loop μ-loop
+slice-aggregate-save-group c =
+    let count = c .before .before .before .before .before .before .pre .1 in
+    let more = c .before .before .loop-test .taken in
+    sym (ap length (c .before .group-at .ensures) ∙ length-group (c .before .before .before .before .before .before .args .words .now) (8 * c .before .before .before .loop .k) (omega arith))
+
+mul-save-group : tie.Need-mul-save-group Inv-loop μ-loop
+mul-save-group c =
+    let most = mul-le-mul-left {m = c .before .before .before .before .loop .k} {n = c .before .before .before .before .before .before .before .args .groups} (c .before .before .before .before .before .before .before .args .b) (c .before .before .before .before .loop .inv .0) in
+    omega (arith, c .before .before .before .before .before .before .before .pre .2)
+
+save-group-requires : tie.Need-save-group-requires Inv-loop μ-loop
+save-group-requires c κs =
+    let count = c .before .before .before .before .before .before .before .pre .1 in
+    let more = c .before .before .before .loop-test .taken in
+    let most = mul-le-mul-left {m = suc (c .before .before .before .before .loop .k)} {n = c .before .before .before .before .before .before .before .args .groups} (c .before .before .before .before .before .before .before .args .b) more in
+    (c .before .before .before .before .before .before .before .pre .0, ap length (c .before .before .group-at .ensures) ∙ length-group (c .before .before .before .before .before .before .before .args .words .now) (8 * c .before .before .before .before .loop .k) (omega arith), omega (arith, c .before .before .before .before .before .before .before .pre .2, c .before .before .before .before .loop .inv .1))
+
+add-k : tie.Need-add-k Inv-loop μ-loop
+add-k c = let more = c .before .before .before .before .before .before .loop-test .taken in search needs
 
 loop-less : tie.Need-loop-less Inv-loop μ-loop
-loop-less c = search needs
+loop-less c = let more = c .before .before .before .before .before .before .loop-test .taken in omega arith
 
 loop-again : tie.Need-loop-again Inv-loop μ-loop
 loop-again c =
-    let more = c .before .loop-test .taken in
-    let s = saved (c .before .before .before .before .before .args .b) (c .before .before .before .before .before .args .words .now) in
-    let d = c .before .before .before .before .before .args .bytes .now in
-    let long = length-saved (c .before .before .before .before .before .args .b) (c .before .before .before .before .before .args .words .now) in (
+    let a = c .before .before .before .before .before .before .before .before .before .before .args in
+    let l = c .before .before .before .before .before .before .before .loop in
+    let more = c .before .before .before .before .before .before .loop-test .taken in
+    let count = c .before .before .before .before .before .before .before .before .before .before .pre .1 in
+    let s = saved (a .b) (a .words .now) in
+    let next : a .b * l .k + a .b ≡ a .b * (l .k + 1) = omega arith in (
       omega arith,
-      length-set (c .before .before .loop .bytes) _ _ ∙ c .before .before .loop .inv .1,
-      ap (λ (l : List ℕ). set l (c .before .before .loop .j) (c .byte-at .result)) (c .before .before .loop .inv .2)
-          ∙ ap (λ (x : ℕ). set (take (c .before .before .loop .j) s ++ drop (c .before .before .loop .j) d) (c .before .before .loop .j) x) (c .byte-at .ensures)
-          ∙ put-next s d (c .before .before .loop .j) (omega (arith, c .before .before .before .before .before .pre .2)) (omega (arith, c .before .before .before .before .before .pre .3)),
+      ap length (c .before .before .save-group .ensures) ∙ simp length-sets (l .inv .1),
+      c .before .before .save-group .ensures
+          ∙ ap (λ (g : List ℕ). sets (l .bytes) (a .b * l .k) (turned (a .b) g)) (c .before .before .before .before .before .group-at .ensures)
+          ∙ ap (sets (l .bytes) (a .b * l .k)) (sym (saved-group (a .b) (a .words .now) (l .k) (omega arith)))
+          ∙ start-more s (a .bytes .now) (a .b * l .k) (a .b) (l .inv .2)
+          ∙ ap (λ (i : ℕ). sets (a .bytes .now) 0 (take i s)) next,
     )
 
 same-length : tie.Need-same-length Inv-loop μ-loop
@@ -51,14 +79,15 @@ same-length c = c .before .loop .inv .1
 
 returns : tie.Need-returns Inv-loop μ-loop
 returns c =
+    let a = c .before .before .before .before .args in
+    let l = c .before .loop in
     let over = c .loop-test .left in
-    let most = c .before .loop .inv .0 in
-    let s = saved (c .before .before .before .before .args .b) (c .before .before .before .before .args .words .now) in
-    let long = length-saved (c .before .before .before .before .args .b) (c .before .before .before .before .args .words .now) in
-    let same : c .before .loop .j ≡ c .before .before .before .before .args .count = omega arith in
-    c .before .loop .inv .2
-    ∙ ap (λ (k : ℕ). take k s ++ drop k (c .before .before .before .before .args .bytes .now)) same
-    ∙ ap (λ (l : List ℕ). l ++ drop (c .before .before .before .before .args .count) (c .before .before .before .before .args .bytes .now)) (take-all (c .before .before .before .before .args .count) s (omega (arith, c .before .before .before .before .pre .2)))
+    let most = l .inv .0 in
+    let s = saved (a .b) (a .words .now) in
+    let same : l .k ≡ a .groups = omega arith in
+    let long : length s ≡ a .b * a .groups = length-saved (a .b) (a .words .now) ∙ ap (λ (g : ℕ). a .b * g) (sym (c .before .before .before .before .pre .1)) in
+    start-all s (a .bytes .now) (a .b * a .groups) (omega arith) (c .before .before .before .before .pre .2) (l .inv .2 ∙ ap (λ (k : ℕ). sets (a .bytes .now) 0 (take (a .b * k) s)) same)
+    ∙ ap (λ (r : List ℕ). r ++ drop (a .b * a .groups) (a .bytes .now)) (take-all (a .b * a .groups) s (omega arith))
 
 pub save-all-spec : {M : Type 1} → statement M
 save-all-spec =
@@ -67,9 +96,12 @@ save-all-spec =
     Inv-loop
     μ-loop
     loop-holds
-    byte-at-requires
-    slice-write-bytes
-    add-j
+    mul-group-at
+    group-at-requires
+    slice-aggregate-save-group
+    mul-save-group
+    save-group-requires
+    add-k
     loop-less
     loop-again
     same-length
