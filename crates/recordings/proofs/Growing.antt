@@ -11,8 +11,8 @@ use Rattle.recordings.specs.Walking.{entered, noted, heldRows, Holds, En
 use Rattle.recordings.proofs.Counting.{Each, each-at, each-take}
 use Rattle.recordings.proofs.Chain.{At, at-passed, chain-inside}
 use Rattle.recordings.proofs.Pairs.{length-pairs, pairs-second}
-use Rattle.recordings.proofs.Standing.{grown-by-one, no-fewer, standing-each}
-use Rattle.recordings.proofs.Entering.{held-noted}
+use Rattle.recordings.proofs.Standing.{grown-by-one, no-fewer, entered-most, standing-each}
+use Rattle.recordings.proofs.Entering.{length-held, held-noted}
 
 -- what stands past numbers that were written in front of it
 drop-past : (front before : List ℕ) (m n : ℕ) → length front ≡ m → m ≤ n → drop n (front ++ drop m before) ≡ drop n before
@@ -90,25 +90,36 @@ module _ (xs before : List ℕ) where
     rows-there : Each (λ r. r < rowCount xs) (soFar xs i)
     rows-there = standing-each xs (λ r. r < rowCount xs) [] (take i (chain xs)) (each-take (chain xs) i (λ x there. chain-inside xs list x there .0))
 
-    pub entering : 2 * length (allStanding xs) ≤ length before → Entering xs row count now
-    entering room =
-        let most = so-far-most i in
-        let next = so-far-most (i + 1) in
+    fewer : length (soFar xs i) ≤ length (soFar xs (i + 1))
+    fewer =
+        let most = no-fewer xs [] (take i (chain xs)) (row ∷ []) in
+        let same = ap (λ (l : List ℕ). length (standingRows xs [] l)) (at-passed xs list at more) in omega arith
+
+    entering-room : 2 * length (soFar xs (i + 1)) ≤ length before → Entering xs row count now
+    entering-room room =
         record {
           is-list = list;
           inside = at .inside;
           holds = noted-holds is rows-there;
-          room = omega (arith, ap length grown, noted-length is (omega (arith, is .count)));
+          room = omega (arith, ap length grown, noted-length is (omega (arith, is .count, fewer)));
         }
+
+    pub entering : 2 * length (allStanding xs) ≤ length before → Entering xs row count now
+    entering room = entering-room (omega (arith, so-far-most (i + 1)))
+
+    -- at most one row more
+    pub grown-few : length (soFar xs (i + 1)) ≤ count + 1
+    grown-few = omega (arith, ap length grown, entered-most xs row (heldRows count now), length-held count now)
+
+    pub entering-few : 2 * (count + 1) ≤ length before → Entering xs row count now
+    entering-few room = entering-room (omega (arith, grown-few))
 
     pub entered-one : {n : ℕ} {after : List ℕ} → Noted xs (entered xs row (heldRows count now)) n now after → Noted xs (soFar xs (i + 1)) n before after
     entered-one {n} then =
-        let fewer = no-fewer xs [] (take i (chain xs)) (row ∷ []) in
-        let same = ap (λ (l : List ℕ). length (standingRows xs [] l)) (at-passed xs list at more) in
         record {
           count = then .count ∙ ap length (sym grown);
           output =
               then .output
               ∙ ap (λ (l : List ℕ). noted xs l ++ drop (2 * n) now) (sym grown)
-              ∙ ap (λ (l : List ℕ). noted xs (soFar xs (i + 1)) ++ l) (noted-past is n (omega (arith, is .count, then .count, ap length grown)));
+              ∙ ap (λ (l : List ℕ). noted xs (soFar xs (i + 1)) ++ l) (noted-past is n (omega (arith, is .count, then .count, ap length grown, fewer)));
         }

@@ -11,3 +11,4 @@ pub mod Putting
 pub mod Calls
 pub mod Order
 pub mod Laws
+pub mod Hints

@@ -125,3 +125,13 @@ module _ (xs : List ℕ) where
     entered-at (row ∷ rows) (suc place) h is none =
         rw (ne-eqb (stopOf xs later) (stopOf xs row) (λ e. none 0 (omega arith) (sym e)))
         (ap (λ (l : List ℕ). row ∷ l) (entered-at rows place (omega arith) is (λ k h. none (suc k) (omega arith))))
+
+    -- which makes at most one row more
+    pub entered-most : (rows : List ℕ) → length (entered xs later rows) ≤ suc (length rows)
+    unfolding entered
+    entered-most [] = omega arith
+    entered-most (row ∷ rows) =
+        by-eqb (λ t. length (cond t (cond (leb (dayOf xs row) (dayOf xs later)) later row ∷ rows) (row ∷ entered xs later rows)) ≤ suc (suc (length rows)))
+        (stopOf xs later) (stopOf xs row)
+        (λ _. omega arith)
+        (λ _. omega (arith, entered-most rows))

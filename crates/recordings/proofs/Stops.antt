@@ -29,7 +29,7 @@ module _ (xs : List ℕ) where
       (λ _. stops-seen (stopOf xs row ∷ seen) rows s (by-test (λ t. (t || member s seen) ≡ true) (eqb s (stopOf xs row)) (λ _. refl) (λ _. is))))
 
   -- no stop stands twice
-  stops-differ : (seen rows : List ℕ) → hasTwice (stops xs (standingRows xs seen rows)) ≡ false
+  pub stops-differ : (seen rows : List ℕ) → hasTwice (stops xs (standingRows xs seen rows)) ≡ false
   unfolding standingRows hasTwice
   stops-differ seen [] = refl
   stops-differ seen (row ∷ rows) =
@@ -40,7 +40,7 @@ module _ (xs : List ℕ) where
       (member-first _ (stopOf xs row) seen (standing-stop xs row rows))) (stops-differ (stopOf xs row ∷ seen) rows))
 
   -- and those of the standing rows are those of all rows, but for stops seen before
-  stops-same : (seen rows : List ℕ) (s : ℕ) → member s seen ≡ false → member s (stops xs (standingRows xs seen rows)) ≡ member s (stops xs rows)
+  pub stops-same : (seen rows : List ℕ) (s : ℕ) → member s seen ≡ false → member s (stops xs (standingRows xs seen rows)) ≡ member s (stops xs rows)
   unfolding standingRows member
   stops-same seen [] s out = refl
   stops-same seen (row ∷ rows) s out =

@@ -1,6 +1,6 @@
 -- What the contracts of inner functions name besides: the chain walked, rows entered one after the other, the least stop from a bound on.
 -- Assumes nothing.
-use Prim.Native.Nat.{ℕ, zero, suc, _+_, _*_, _<_, _≤_}
+use Prim.Native.Nat.{ℕ, zero, suc, _+_, _*_, _%_, _<_, _≤_}
 use mathlib.Core.Bool.{true, _&&_, cond}
 use mathlib.Core.List.{List, [], _∷_, _++_, map}
 use mathlib.Core.Path.{_≡_}
@@ -52,6 +52,18 @@ pub record Place (output : List ℕ) (count stop place : ℕ) : Type 0 where
   pub most : place ≤ count
   pub none-before : (k : ℕ) → k < place → getD output (2 * k) 0 ≡ stop → ⊥
   pub found : place < count → getD output (2 * place) 0 ≡ stop
+
+-- hints at the places of stops by their remainders: none are zero of those that stand in the first so many pairs, whose stops differ
+pub record Hinted (hints output : List ℕ) (count : ℕ) : Type 0 where
+  pub long : length hints ≡ 8192
+  pub some : (k : ℕ) → k < count → getD hints (getD output (2 * k) 0 % 8192) 0 ≡ 0 → ⊥
+  pub differ : (j k : ℕ) → j < k → k < count → getD output (2 * j) 0 ≡ getD output (2 * k) 0 → ⊥
+
+-- there is a hint for a stop, and there are those that there were
+pub record Marked (stop : ℕ) (before after : List ℕ) : Type 0 where
+  pub same-long : length after ≡ length before
+  pub here : getD after (stop % 8192) 0 ≡ 0 → ⊥
+  pub others : (h : ℕ) → getD after h 0 ≡ 0 → getD before h 0 ≡ 0
 
 -- the stops of rows
 abbrev pub stops : List ℕ → List ℕ → List ℕ

@@ -2,11 +2,11 @@
 ghost use mathlib.Core.Path.{_≡_};
 ghost use mathlib.Core.Bool.{true};
 ghost use mathlib.Core.List.{_++_};
-ghost use Prim.Native.Nat.{_+_, _*_, _≤_, _<_};
+ghost use Prim.Native.Nat.{_+_, _*_, _%_, _≤_, _<_};
 ghost use lib.Dec.{leb};
 ghost use lib.ListN.{length, getD, set, drop};
 ghost use Rattle.recordings.specs.Recordings.{rowCount, numberOf, stopOf, recordingOf, zerosAfter, nextsInside, isList, chain, allStanding, pairs, correcting, Numbered};
-ghost use Rattle.recordings.specs.Walking.{Walked, Place, Entering, Noted, entered, heldRows, stops, from, lesser, LeastOf};
+ghost use Rattle.recordings.specs.Walking.{Walked, Place, Entering, Noted, Hinted, Marked, entered, heldRows, stops, from, lesser, LeastOf};
 
 // What the call answers: how many stops it wrote, or why it wrote none: 26, 27, 28.
 pub enum Written {
@@ -126,14 +126,60 @@ fn next_stop(list: &[u64], steps: usize, last: Least) -> Least
     found
 }
 
-// Whether there is room for the stops of the chain. They are counted in the order of their numbers, by a pass for each, and only where
-// the chain has more rows than there is room for.
+// No hints.
+fn no_hints() -> [u16; 8192]
+    ensures { λ r. ⌜ length r ≡ 8192 ⌝ }
+{
+    [0u16; 8192]
+}
+
+// Room for 1,024 pairs.
+fn no_pairs() -> [u64; 2048]
+    ensures { λ r. ⌜ length r ≡ 2048 ⌝ }
+{
+    [0u64; 2048]
+}
+
+// Whether there is room for the stops of the chain, whose standing rows are noted until there are more.
+fn count_few(list: &[u64], steps: usize, room: usize, pairs: &mut [u64], hints: &mut [u16]) -> bool
+    requires { ⌜ Walked (now list) steps × (2 * room + 2 ≤ length (now pairs)) × (length (now hints) ≡ 8192) ⌝ }
+    ensures { λ r. ⌜ r ≡ leb (length (allStanding (now (list .entry)))) room ⌝ }
+{
+    let mut count = 0;
+    let mut row = number_of(list, 0, 0);
+    let mut i = 0;
+    while i < steps {
+        count = enter(list, row as usize, count, pairs, hints);
+        if room < count {
+            return false;
+        }
+        row = number_of(list, row as usize, 0);
+        i += 1;
+    }
+    true
+}
+
+// The same in memory of its own.
+fn fits_few(list: &[u64], steps: usize, room: usize) -> bool
+    requires { ⌜ Walked (now list) steps × (room < 1024) ⌝ }
+    ensures { λ r. ⌜ r ≡ leb (length (allStanding (now (list .entry)))) room ⌝ }
+{
+    let mut pairs = no_pairs();
+    let mut hints = no_hints();
+    count_few(list, steps, room, &mut pairs, &mut hints)
+}
+
+// Whether there is room for the stops of the chain, which are counted only where the chain has more rows than there is room for. Where the
+// room is small their rows are noted in other memory; else they are counted in the order of their numbers, by a pass for each.
 fn has_room(list: &[u64], steps: usize, room: usize) -> bool
     requires { ⌜ Walked (now list) steps ⌝ }
     ensures { λ r. ⌜ r ≡ leb (length (allStanding (now (list .entry)))) room ⌝ }
 {
     if steps <= room {
         return true;
+    }
+    if room < 1024 {
+        return fits_few(list, steps, room);
     }
     let mut last = Least::Nothing;
     let mut left = room;
@@ -164,6 +210,33 @@ fn place_of(output: &[u64], count: usize, stop: u64) -> usize
     k
 }
 
+// The same by a hint at the place that a stop with this remainder had. Where there is no hint there is no such stop.
+fn find(hints: &[u16], output: &[u64], count: usize, stop: u64) -> usize
+    requires { ⌜ (2 * count ≤ length (now output)) × Hinted (now hints) (now output) count ⌝ }
+    ensures { λ r. ⌜ Place (now (output .entry)) count stop r ⌝ }
+{
+    let hint = hints[(stop % 8192) as usize] as usize;
+    if hint == 0 {
+        return count;
+    }
+    if count < hint {
+        return place_of(output, count, stop);
+    }
+    let k = hint - 1;
+    if output[2 * k] == stop {
+        return k;
+    }
+    place_of(output, count, stop)
+}
+
+// Leaves a hint at the place of a stop. It is never zero, and right up to place 65,534.
+fn mark(hints: &mut [u16], stop: u64, k: usize)
+    requires { ⌜ length (now hints) ≡ 8192 ⌝ }
+    ensures { λ _. ⌜ now (hints .exit) ≡ set (now (hints .entry)) (stop % 8192) (k % 65535 + 1) ⌝ }
+{
+    hints[(stop % 8192) as usize] = (k % 65535 + 1) as u16;
+}
+
 // The second number of pair k.
 fn second_of(output: &[u64], k: usize) -> u64
     requires { ⌜ 2 * k + 2 ≤ length (now output) ⌝ }
@@ -190,12 +263,13 @@ fn put_pair(output: &mut [u64], k: usize, first: u64, second: u64)
 }
 
 // Enters a row into the pairs of stop and row: over the one of its stop, unless its issue day is smaller, or after them. Their count then.
-fn enter(list: &[u64], row: usize, count: usize, output: &mut [u64]) -> usize
-    requires { ⌜ Entering (now list) row count (now output) ⌝ }
-    ensures { λ r. ⌜ Noted (now (list .entry)) (entered (now (list .entry)) row (heldRows count (now (output .entry)))) r (now (output .entry)) (now (output .exit)) ⌝ }
+fn enter(list: &[u64], row: usize, count: usize, output: &mut [u64], hints: &mut [u16]) -> usize
+    requires { ⌜ Entering (now list) row count (now output) × Hinted (now hints) (now output) count ⌝ }
+    ensures { λ r. ⌜ Noted (now (list .entry)) (entered (now (list .entry)) row (heldRows count (now (output .entry)))) r (now (output .entry)) (now (output .exit)) × Marked (stopOf (now (list .entry)) row) (now (hints .entry)) (now (hints .exit)) ⌝ }
 {
     let stop = number_of(list, row, 1);
-    let k = place_of(&*output, count, stop);
+    let k = find(&*hints, &*output, count, stop);
+    mark(hints, stop, k);
     if k == count {
         put_pair(output, k, stop, row as u64);
         return count + 1;
@@ -209,19 +283,28 @@ fn enter(list: &[u64], row: usize, count: usize, output: &mut [u64]) -> usize
 }
 
 // Notes stop and row of each standing row at the start of the output, and counts them.
-fn note_standing(list: &[u64], steps: usize, output: &mut [u64]) -> usize
-    requires { ⌜ Walked (now list) steps × (2 * length (allStanding (now list)) ≤ length (now output)) ⌝ }
+fn note_standing(list: &[u64], steps: usize, output: &mut [u64], hints: &mut [u16]) -> usize
+    requires { ⌜ Walked (now list) steps × (2 * length (allStanding (now list)) ≤ length (now output)) × (length (now hints) ≡ 8192) ⌝ }
     ensures { λ r. ⌜ Noted (now (list .entry)) (allStanding (now (list .entry))) r (now (output .entry)) (now (output .exit)) ⌝ }
 {
     let mut count = 0;
     let mut row = number_of(list, 0, 0);
     let mut i = 0;
     while i < steps {
-        count = enter(list, row as usize, count, output);
+        count = enter(list, row as usize, count, output, hints);
         row = number_of(list, row as usize, 0);
         i += 1;
     }
     count
+}
+
+// The same with hints of its own.
+fn note(list: &[u64], steps: usize, output: &mut [u64]) -> usize
+    requires { ⌜ Walked (now list) steps × (2 * length (allStanding (now list)) ≤ length (now output)) ⌝ }
+    ensures { λ r. ⌜ Noted (now (list .entry)) (allStanding (now (list .entry))) r (now (output .entry)) (now (output .exit)) ⌝ }
+{
+    let mut hints = no_hints();
+    note_standing(list, steps, output, &mut hints)
 }
 
 // Puts each noted row's recording in its place.
@@ -253,7 +336,7 @@ pub fn write_standing(list: &[u64], output: &mut [u64]) -> Written
     if !has_room(list, steps, output.len() / 2) {
         return Written::OutputShort;
     }
-    let count = note_standing(list, steps, output);
+    let count = note(list, steps, output);
     put_recordings(list, count, output);
     Written::Count(count)
 }

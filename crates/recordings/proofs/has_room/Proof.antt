@@ -20,11 +20,17 @@ abbrev μ-loop : tie.MeasureT-loop
 returns : tie.Need-returns Inv-loop μ-loop
 returns c = room-for-all _ _ (c .before .before .pre .all-steps) (c .if1 .taken)
 
+fits-few-requires : tie.Need-fits-few-requires Inv-loop μ-loop
+fits-few-requires c κs = (c .before .before .before .pre, c .if2 .taken)
+
+returns-2 : tie.Need-returns-2 Inv-loop μ-loop
+returns-2 c = search needs
+
 loop-holds : tie.Need-loop-holds Inv-loop μ-loop
 loop-holds c = room-start _ _
 
 next-stop-requires : tie.Need-next-stop-requires Inv-loop μ-loop
-next-stop-requires c κs = c .before .before .before .pre
+next-stop-requires c κs = c .before .before .before .before .pre
 
 enum-known-stop : tie.Need-enum-known-stop Inv-loop μ-loop
 enum-known-stop c = search needs
@@ -32,15 +38,11 @@ enum-known-stop c = search needs
 enum-told : tie.Need-enum-told Inv-loop μ-loop
 enum-told c = search needs
 
-returns-2 : tie.Need-returns-2 Inv-loop μ-loop
-returns-2 c = sym (room-none _ _ _ (rw (c .enum-told .given .1) at (c .before .before .next-stop .ensures))) ∙ c .before .before .before .loop .inv
-
 returns-3 : tie.Need-returns-3 Inv-loop μ-loop
-returns-3 c =
-    let at-stop = c .before .before in
-    let at-next-stop = at-stop .before .before in
-    let at-loop = at-next-stop .before in
-    sym (room-short _ _ _ _ (rw (at-stop .stop .given .1) at (at-next-stop .next-stop .ensures)) (c .if2 .taken)) ∙ at-loop .loop .inv
+returns-3 c = sym (room-none _ _ _ (rw (c .enum-told .given .1) at (c .before .before .next-stop .ensures))) ∙ c .before .before .before .loop .inv
+
+returns-4 : tie.Need-returns-4 Inv-loop μ-loop
+returns-4 c = sym (room-short _ _ _ _ (rw (c .before .before .stop .given .1) at (c .before .before .before .before .next-stop .ensures)) (c .if3 .taken)) ∙ c .before .before .before .before .before .loop .inv
 
 sub-left : tie.Need-sub-left Inv-loop μ-loop
 sub-left c = search needs
@@ -49,11 +51,7 @@ loop-less : tie.Need-loop-less Inv-loop μ-loop
 loop-less c = search needs
 
 loop-again : tie.Need-loop-again Inv-loop μ-loop
-loop-again c =
-    let at-stop = c .before .before in
-    let at-next-stop = at-stop .before .before in
-    let at-loop = at-next-stop .before in
-    room-next _ _ _ _ (rw (at-stop .stop .given .1) at (at-next-stop .next-stop .ensures)) (c .if2 .left) ∙ at-loop .loop .inv
+loop-again c = room-next _ _ _ _ (rw (c .before .before .stop .given .1) at (c .before .before .before .before .next-stop .ensures)) (c .if3 .left) ∙ c .before .before .before .before .before .loop .inv
 
 pub has-room-spec : {M : Type 1} → statement M
 has-room-spec =
@@ -62,12 +60,14 @@ has-room-spec =
     Inv-loop
     μ-loop
     returns
+    fits-few-requires
+    returns-2
     loop-holds
     next-stop-requires
     enum-known-stop
     enum-told
-    returns-2
     returns-3
+    returns-4
     sub-left
     loop-less
     loop-again)

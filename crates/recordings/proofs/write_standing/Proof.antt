@@ -43,8 +43,8 @@ returns-3 c =
     let at-is-list = at-if1 .before in
     output-short _ _ (sym (at-is-list .is-list .ensures) ∙ not-false _ (at-if1 .if1 .left)) (at-chain-length .chain-length .ensures) (at-if2 .if2 .left) (sym (at-has-room .has-room .ensures) ∙ not-true _ (c .if3 .taken))
 
-note-standing-requires : tie.Need-note-standing-requires
-note-standing-requires c κs =
+note-requires : tie.Need-note-requires
+note-requires c κs =
     let at-if3 = c .before in
     let at-has-room = at-if3 .before in
     let at-if2 = at-has-room .before in
@@ -57,10 +57,10 @@ note-standing-requires c κs =
 
 put-recordings-requires : tie.Need-put-recordings-requires
 put-recordings-requires c κs =
-    let at-note-standing = c .before .before .before in
-    let at-if1 = at-note-standing .before .before .before .before .before .before in
+    let at-note = c .before .before .before in
+    let at-if1 = at-note .before .before .before .before .before .before in
     let at-is-list = at-if1 .before in
-    (sym (at-is-list .is-list .ensures) ∙ not-false _ (at-if1 .if1 .left), noted-itself (at-note-standing .note-standing .ensures))
+    (sym (at-is-list .is-list .ensures) ∙ not-false _ (at-if1 .if1 .left), noted-itself (at-note .note .ensures))
 
 same-length : tie.Need-same-length
 same-length c = search needs
@@ -68,8 +68,8 @@ same-length c = search needs
 returns-4 : tie.Need-returns-4
 returns-4 c =
     let at-put-recordings = c .before .before in
-    let at-note-standing = at-put-recordings .before .before .before .before in
-    let at-if3 = at-note-standing .before .before in
+    let at-note = at-put-recordings .before .before .before .before in
+    let at-if3 = at-note .before .before in
     let at-has-room = at-if3 .before in
     let at-if2 = at-has-room .before in
     let at-chain-length = at-if2 .before in
@@ -77,10 +77,10 @@ returns-4 c =
     let at-is-list = at-if1 .before in
     let entry = at-is-list .before .before .before in
     let list = sym (at-is-list .is-list .ensures) ∙ not-false _ (at-if1 .if1 .left) in
-    let noted = at-note-standing .note-standing .ensures in
+    let noted = at-note .note .ensures in
     let xs : List ℕ = entry .args .list .now in
     all-written _ _ list (at-chain-length .chain-length .ensures) (at-if2 .if2 .left) (sym (at-has-room .has-room .ensures) ∙ not-false _ (at-if3 .if3 .left)) (noted .count)
-    (at-put-recordings .put-recordings .ensures ∙ ap (λ (l : List ℕ). pairs (stopOf xs) (recordingOf xs) (allStanding xs) ++ l) (noted-past noted (at-note-standing .note-standing .result) (omega arith)))
+    (at-put-recordings .put-recordings .ensures ∙ ap (λ (l : List ℕ). pairs (stopOf xs) (recordingOf xs) (allStanding xs) ++ l) (noted-past noted (at-note .note .result) (omega arith)))
 
 pub write-standing-spec : {M : Type 1} → statement M
 write-standing-spec =
@@ -92,7 +92,7 @@ write-standing-spec =
     returns-2
     has-room-requires
     returns-3
-    note-standing-requires
+    note-requires
     put-recordings-requires
     same-length
     returns-4)
