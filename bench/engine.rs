@@ -267,6 +267,9 @@ fn are_words(words: &[u64]) -> bool {
 fn are_zero(bytes: &[u8]) -> bool {
     bytes.iter().fold(0, |all, byte| all | byte) == 0
 }
+fn sum(bytes: &[u8]) -> u64 {
+    bytes.chunks(256).map(|part| u64::from(part.iter().map(|&byte| u16::from(byte)).sum::<u16>())).sum()
+}
 fn is_field(field: &Option<Field>) -> bool {
     field.is_none_or(|f| f.word <= 127 && f.left <= 35 && f.right <= 35)
 }
@@ -295,25 +298,26 @@ impl State {
     fn is_storage_sound(&self, storage: &[u64]) -> bool {
         let Some(SetUp { d, s1, s2 }) = self.setup else { return are_zero(&self.map) };
         let Some(setup) = SetUp::new(d.into(), s1.into(), s2.into(), storage.len()) else { return false };
-        let words = setup.words();
-        self.are_blocks(d.into(), words) && are_zero(&self.map[words..]) && are_words(&storage[..words])
+        self.tags(setup) == Some(sum(&self.map)) && are_words(&storage[..setup.words()])
     }
-    /// Blocks up to d words tile the words, each on a place that its size divides, and no two free halves stand separately.
-    fn are_blocks(&self, d: usize, words: usize) -> bool {
-        let mut i = 0;
-        while i < words {
-            let tag = self.map[i];
-            if !(1..=16).contains(&tag) {
-                return false;
+    /// The sum of the tags of blocks of up to d words that tile the words, each on a place that its size divides, no two free halves
+    /// standing separately. It is the sum of the whole map exactly where every other byte is zero.
+    fn tags(&self, setup: SetUp) -> Option<u64> {
+        let (largest, map) = (free_tag(u32::from(setup.d).ilog2()), &self.map[..setup.words()]);
+        let (mut i, mut tags) = (0, 0);
+        while let Some(&tag) = map.get(i) {
+            if tag.wrapping_sub(1) > largest {
+                return None;
             }
             let size = 1 << level(tag);
-            let halved = is_free(tag) && size < d && i & size != 0 && self.map[i - size] == tag;
-            if size > d || i % size != 0 || halved || !are_zero(&self.map[i + 1..i + size]) {
-                return false;
+            let halved = is_free(tag) && tag != largest && i & size != 0 && map[i - size] == tag;
+            if i & (size - 1) != 0 || halved {
+                return None;
             }
+            tags += u64::from(tag);
             i += size;
         }
-        true
+        Some(tags)
     }
 }
 
