@@ -3,7 +3,7 @@ SHELL = /bin/bash
 .SHELLFLAGS = -o pipefail -c
 .PHONY: tour tours tourrun libplayer player compare test fmt wrong bench expected
 
-# Proves tourrun and builds it (minutes the first time), then plays the sample museum.
+# Proves tourrun and tourcheck and builds them (minutes the first time), then checks and plays the sample museum.
 tour: tourrun
 	tours/play tours/museum.tour
 
@@ -12,7 +12,7 @@ tours: tourrun
 	tours/play --check tours/*.tour
 
 tourrun:
-	rt check tourrun | grep '^rt:'
+	rt check tourrun tourcheck | grep '^rt:'
 
 # Proves the library for players and writes target/staticlib/libplayer.a (minutes the first time).
 libplayer:
@@ -52,8 +52,11 @@ expected:
 	for name in leaves allocations triples openings corrections cards; do target/leaves-reference $$name > crates/$$name/stdout; done
 	rustc -O --edition 2021 -o target/reference reference/main.rs
 	for file in stdin stdout; do target/reference comparison 7094 480 $$file > crates/comparison/$$file; done
+	for file in stdin stdout; do target/reference drafts 14 600 $$file > crates/drafts/$$file; done
 	tours/play --files tours/example.tour crates/tourrun/data
 	rm crates/tourrun/data/stops.in
+	tours/play --files tours/refusal-14.tour crates/tourcheck/data
+	rm crates/tourcheck/data/stops.in
 	tours/play --files bench/lists.tour crates/laps/data
 	rm crates/laps/data/stops.in
 	rustc -O --edition 2021 -o target/rival bench/main.rs

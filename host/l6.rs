@@ -50,11 +50,12 @@ pub enum Refusal {
     CorrectionsLoop,
     CorrectionsShort,
     Hours,
+    Kinds,
 }
 use Refusal::*;
 
 /// Every refusal, and what it means.
-pub const REFUSALS: [(Refusal, &str); 26] = [
+pub const REFUSALS: [(Refusal, &str); 27] = [
     (TableLength, "the table has fewer than 20 numbers, more than 8,000, or no multiple of ten"),
     (BadRow, "the row, or a test of it, is missing, ill-formed or of another kind than is needed here"),
     (SetUpNumbers, "the set-up's numbers are not allowed, or ask for more words than there are"),
@@ -81,6 +82,7 @@ pub const REFUSALS: [(Refusal, &str); 26] = [
     (CorrectionsLoop, "the chain of corrections reaches a row a second time"),
     (CorrectionsShort, "there is no room for the corrected stops"),
     (Hours, "the opening hours break their rules, or the minute is above 1,439"),
+    (Kinds, "row 1 is no line, or a row names one of the wrong kind"),
 ];
 
 impl Refusal {
@@ -282,6 +284,45 @@ pub fn check(table: &[u64]) -> Result<(), BadTable> {
     if row == 0 { Ok(()) } else { Err(BadTable::Row(row)) }
 }
 
+/// Why the fields of a table do not pass: its length, the lowest ill-formed row, row 1 that is no line or the lowest row that names one of
+/// the wrong kind, or the lowest row that uses a field where it is not defined, with the field's name number.
+#[derive(Clone, Copy, Debug, PartialEq, Eq)]
+pub enum NotDefined {
+    Length,
+    Row(u64),
+    Kinds(u64),
+    Field { row: u64, field: u64 },
+}
+impl fmt::Display for NotDefined {
+    fn fmt(&self, f: &mut fmt::Formatter) -> fmt::Result {
+        match self {
+            NotDefined::Length => write!(f, "{TableLength}"),
+            NotDefined::Row(row) => write!(f, "row {row} is ill-formed"),
+            NotDefined::Kinds(row) => write!(f, "row {row} names a row of the wrong kind, or is row 1 and no line"),
+            NotDefined::Field { row, field } => write!(f, "row {row} uses field {}, which is not defined there", field_name(*field)),
+        }
+    }
+}
+impl std::error::Error for NotDefined {}
+
+/// The name of a field by its number, 0 to 35; `?` for a number that names none.
+pub fn field_name(field: u64) -> char {
+    b"0123456789ABCDEFGHIJKLMNOPQRSTUVWXYZ".get(field as usize).map_or('?', |&name| name as char)
+}
+
+/// Whether each field of a table is defined before it is used (l6.h). A fresh tour played with such a table alone never meets
+/// [`Refusal::UndefinedField`].
+pub fn defined(table: &[u64]) -> Result<(), NotDefined> {
+    let (mut row, mut field) = (0, 0);
+    match unsafe { raw::l6_defined(table.as_ptr(), table.len(), &mut row, &mut field) } {
+        0 => Ok(()),
+        1 => Err(NotDefined::Length),
+        30 => Err(NotDefined::Kinds(row)),
+        107 => Err(NotDefined::Row(row)),
+        _ => Err(NotDefined::Field { row, field }),
+    }
+}
+
 /// What opening hours say of a day and a minute.
 #[derive(Clone, Copy, Debug, PartialEq, Eq)]
 pub enum Opening {
@@ -407,6 +448,7 @@ pub mod raw {
             output: *mut u8, output_length: usize, state: *mut u8, state_length: usize, limit: u64, count: *mut u64,
         ) -> u64;
         pub fn l6_check(table: *const u64, table_length: usize, row: *mut u64) -> u64;
+        pub fn l6_defined(table: *const u64, table_length: usize, row: *mut u64, field: *mut u64) -> u64;
         pub fn l6_count_blocks(state: *const u8, state_length: usize, counts: *mut u64, counts_length: usize) -> u64;
         pub fn l6_list_blocks(state: *const u8, state_length: usize, live: u64, list: *mut u64, list_length: usize) -> u64;
         pub fn l6_hours(

@@ -63,6 +63,8 @@ enum {
 
     L6_HOURS = 29,            /* opening hours of a wrong length, with an entry that breaks the rules, or a minute above 1,439 */
 
+    L6_KINDS = 30,            /* l6_defined: row 1 is no line, or a row names one of the wrong kind */
+
     /* l6_save and l6_load */
     L6_WORD_TOO_WIDE = 33,    /* a word to save does not fit the width */
     L6_NOT_SAVED = 34,        /* so many words have not so many bytes, or a bit of the words that fill up is one */
@@ -76,7 +78,11 @@ enum {
     L6_BAD_LIST_LENGTH = 103,   /* the counts have not 2 numbers, or the list not two for each block */
 
     L6_CLOSED = 104,          /* by the opening hours no tour starts at this time */
-    L6_BAD_WIDTH = 105          /* the width is neither 36 nor 48 */
+    L6_BAD_WIDTH = 105,         /* the width is neither 36 nor 48 */
+
+    /* l6_defined */
+    L6_NOT_DEFINED = 106,     /* a row uses a field that is not defined there on some path */
+    L6_ILL_FORMED = 107       /* a row is ill-formed */
 };
 
 /* ---------------------------------------------------------------- the state */
@@ -156,6 +162,19 @@ uint64_t l6_run(const uint64_t *table, size_t table_length, uint64_t *storage, s
  * Reads the table. Answers 0 and writes into row the lowest ill-formed row, or 0 where there is none; or answers L6_TABLE_LENGTH and
  * row is unchanged. */
 uint64_t l6_check(const uint64_t *table, size_t table_length, uint64_t *row);
+
+/* Whether each field of a table is defined before it is used: on every path that starts at row 1, takes either outcome of each test,
+ * follows operations, DOs into the lines that they name, go-tos and next lines, and leads from a DONE to the place after any DO. A
+ * definition row defines its name, a restore of a definition makes it unknown again. With a table that gets a 0, a fresh tour that is
+ * played with this table alone is never refused by L6_UNDEFINED_FIELD.
+ * Reads the table. Answers 0; or
+ *   L6_TABLE_LENGTH, and row and field are unchanged;
+ *   L6_ILL_FORMED, and writes into row the lowest ill-formed row, as l6_check does;
+ *   L6_KINDS, and writes into row 1, where row 1 is no line, or the lowest row that names a row of the wrong kind, all rows counted;
+ *   L6_NOT_DEFINED, and writes into row the lowest row that some path reaches with a reference to a field that is not defined there, and
+ *   into field the name number of the first such field of the row: l6_field gives its name.
+ * field is otherwise unchanged. The order of these is the order of the tests. */
+uint64_t l6_defined(const uint64_t *table, size_t table_length, uint64_t *row, uint64_t *field);
 
 /* How many blocks are in use, and how many are free.
  * Reads state. Writes the two numbers into counts, whose length is 2; where there was no set-up yet both are 0.
@@ -244,6 +263,7 @@ static inline const char *l6_words(uint64_t answer) {
     case L6_CORRECTIONS_LOOP: return "the chain of corrections reaches a row a second time";
     case L6_CORRECTIONS_SHORT: return "there is no room for the corrected stops";
     case L6_HOURS: return "the opening hours break their rules, or the minute is above 1,439";
+    case L6_KINDS: return "row 1 is no line, or a row names one of the wrong kind";
     case L6_WORD_TOO_WIDE: return "a word to save does not fit the width";
     case L6_NOT_SAVED: return "the bytes to load are not those of so many saved words";
     case L6_OUTPUT_SHORT: return "there is no room for what is saved or loaded";
@@ -253,6 +273,8 @@ static inline const char *l6_words(uint64_t answer) {
     case L6_BAD_LIST_LENGTH: return "the list's length is wrong";
     case L6_CLOSED: return "closed at this time";
     case L6_BAD_WIDTH: return "the width is neither 36 nor 48";
+    case L6_NOT_DEFINED: return "a row uses a field that is not defined there";
+    case L6_ILL_FORMED: return "a row is ill-formed";
     default: return "an answer that this header does not know";
     }
 }
@@ -261,6 +283,9 @@ static inline const char *l6_words(uint64_t answer) {
 static inline char l6_character(uint8_t code) {
     return code > 63 ? '?' : "0123456789???????ABCDEFGHI?.?????JKLMNOPQR?????? ?STUVWXYZ?????\n"[code];
 }
+
+/* The name of a field by its number, 0 to 35; '?' for a number that names none. */
+static inline char l6_field(uint64_t field) { return field > 35 ? '?' : "0123456789ABCDEFGHIJKLMNOPQRSTUVWXYZ"[field]; }
 
 #ifdef __cplusplus
 }

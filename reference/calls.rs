@@ -20,6 +20,7 @@ pub struct Calls {
     step: Step,
     run: Run,
     check: unsafe extern "C" fn(*const u64, usize, *mut u64) -> u64,
+    defined: unsafe extern "C" fn(*const u64, usize, *mut u64, *mut u64) -> u64,
     count_blocks: unsafe extern "C" fn(*const u8, usize, *mut u64, usize) -> u64,
     list_blocks: unsafe extern "C" fn(*const u8, usize, u64, *mut u64, usize) -> u64,
     hours: Hours,
@@ -39,6 +40,7 @@ extern "C" {
         state: *mut u8, length: usize, limit: u64, count: *mut u64,
     ) -> u64;
     fn header_check(table: *const u64, numbers: usize, row: *mut u64) -> u64;
+    fn header_defined(table: *const u64, numbers: usize, row: *mut u64, field: *mut u64) -> u64;
     fn header_count_blocks(state: *const u8, length: usize, counts: *mut u64, numbers: usize) -> u64;
     fn header_list_blocks(state: *const u8, length: usize, live: u64, list: *mut u64, numbers: usize) -> u64;
     fn header_hours(
@@ -51,18 +53,21 @@ extern "C" {
     pub fn header_reads(state: *const u8, numbers: *mut u64);
     pub fn header_words(answer: u64) -> *const c_char;
     pub fn header_character(code: u8) -> u8;
+    pub fn header_field(field: u64) -> u8;
+    pub static header_undefined: [u64; 3];
     pub static header_constants: [u64; 34];
     pub fn header_saved_length(width: u64, words: usize) -> usize;
     pub static header_kept: [u64; 4];
 }
 
 pub static HEADER: Calls = Calls {
-    fresh: header_fresh, step: header_step, run: header_run, check: header_check, count_blocks: header_count_blocks,
+    fresh: header_fresh, step: header_step, run: header_run, check: header_check, defined: header_defined,
+    count_blocks: header_count_blocks,
     list_blocks: header_list_blocks, hours: header_hours, recordings: header_recordings,
     save: header_save, load: header_load,
 };
 pub static MODULE: Calls = Calls {
-    fresh: module::l6_fresh, step: module::l6_step, run: module::l6_run, check: module::l6_check,
+    fresh: module::l6_fresh, step: module::l6_step, run: module::l6_run, check: module::l6_check, defined: module::l6_defined,
     count_blocks: module::l6_count_blocks, list_blocks: module::l6_list_blocks, hours: module::l6_hours,
     recordings: module::l6_recordings, save: module::l6_save, load: module::l6_load,
 };
@@ -92,6 +97,9 @@ impl Calls {
         }
     }
     pub fn check(&self, table: &[u64], row: &mut u64) -> u64 { unsafe { (self.check)(table.as_ptr(), table.len(), row) } }
+    pub fn defined(&self, table: &[u64], row: &mut u64, field: &mut u64) -> u64 {
+        unsafe { (self.defined)(table.as_ptr(), table.len(), row, field) }
+    }
     pub fn count_blocks(&self, state: &[u8], counts: &mut [u64]) -> u64 {
         unsafe { (self.count_blocks)(state.as_ptr(), state.len(), counts.as_mut_ptr(), counts.len()) }
     }

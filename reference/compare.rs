@@ -5,6 +5,7 @@
 //! With each tour go drawn opening hours.
 //! Before the generated tours, 20,000 lists of words and bytes are saved and loaded by bit columns, and as many lists of corrections
 //! answered, damaged ones among them, with both and with the safe calls.
+//! Before these, 40,000 drafts of tables are checked for fields that are used before they are defined, and those that got a yes are run.
 //! Prints how many steps and answers of each number there were, and how many differences.
 #![allow(dead_code)]
 mod bytes;
@@ -12,6 +13,8 @@ mod calls;
 mod columns;
 mod comparison;
 mod damage;
+mod defined;
+mod drafts;
 mod engine;
 mod generator;
 mod hours;
@@ -31,9 +34,12 @@ use std::ffi::CStr;
 /// How many lists are saved and loaded by bit columns, and how many lists of corrections are answered.
 const LISTS: u64 = 20_000;
 
+/// How many drafts of tables are checked for fields that are used before they are defined.
+const DRAFTS: u64 = 40_000;
+
 /// What was compared so far; `label` says of what the present case is.
 #[derive(Default)]
-struct Compared { steps: u64, calls: u64, answers: Vec<u64>, differences: u64, label: String }
+struct Compared { steps: u64, calls: u64, answers: Vec<u64>, differences: u64, label: String, checked: [u64; 5], runs: u64, used: u64 }
 
 /// Gets and frees in a drawn order, so that live blocks come to stand between free ones.
 fn gets_and_frees(rng: &mut Rng) -> Case {
@@ -73,7 +79,7 @@ impl Compared {
     fn answered(&mut self, answer: u64, steps: u64) {
         self.steps += steps;
         self.calls += 1;
-        self.answers[answer.min(106) as usize] += 1;
+        self.answers[answer.min(108) as usize] += 1;
     }
 
     // ------------------------------------------------------------ walks
@@ -136,6 +142,53 @@ impl Compared {
         self.answered(answer, 0);
         let expected = lowest_ill_formed(table).map_or((1, 77), |lowest| (0, lowest));
         self.same("the table check", (answer, row), expected);
+    }
+    /// The check of fields by a call, and by the Rust module's safe one. Gives whether the table got a yes.
+    fn fields(&mut self, calls: &Calls, table: &[u64]) -> bool {
+        let (mut row, mut field) = (77, 77);
+        let answer = calls.defined(table, &mut row, &mut field);
+        self.answered(answer, 0);
+        let expected = defined::check(table);
+        let (wanted, safe) = match expected {
+            defined::Finding::Yes => ((0, 77, 77), Ok(())),
+            defined::Finding::No(row, field) => ((106, row, field), Err(l6::NotDefined::Field { row, field })),
+            defined::Finding::BadLength => ((1, 77, 77), Err(l6::NotDefined::Length)),
+            defined::Finding::IllFormed(row) => ((107, row, 77), Err(l6::NotDefined::Row(row))),
+            defined::Finding::WrongKind(row) => ((30, row, 77), Err(l6::NotDefined::Kinds(row))),
+        };
+        self.same("the check of fields", (answer, row, field), wanted);
+        self.same("a safe check of fields", l6::defined(table), safe);
+        answer == 0
+    }
+    /// A draft of a table: checked, and run from fresh engines with drawn stops where it got a yes; no run may meet 14.
+    fn draft(&mut self, rng: &mut Rng, turn: u64) {
+        let table = drafts::draft(rng);
+        let calls = if turn % 2 == 0 { &HEADER } else { &MODULE };
+        let yes = self.fields(calls, &table);
+        let kind = match defined::check(&table) {
+            defined::Finding::Yes => 0,
+            defined::Finding::No(..) => 1,
+            defined::Finding::BadLength => 2,
+            defined::Finding::IllFormed(_) => 3,
+            defined::Finding::WrongKind(_) => 4,
+        };
+        self.checked[kind] += 1;
+        if !yes { return; }
+        for _ in 0..4 {
+            let given = Given { table: table.clone(), input: (0..rng.below(40)).map(|_| rng.below(10) as u8).collect() };
+            let mut tour = Tour::fresh((0..64).map(|_| rng.next() >> 28).collect(), vec![0; 64]);
+            let mut count = 77;
+            let answer = calls.run(&given, &mut tour, 500, &mut count);
+            self.answered(answer, 0);
+            self.runs += 1;
+            self.used += drafts::refers(&table) as u64;
+            self.same("a run of a table that got a yes", answer == 14, false);
+        }
+    }
+    /// Numbers, words and names of the header against the Rust module's.
+    fn defined_constants(&mut self) {
+        self.same("the header's numbers of the check of fields", unsafe { header_undefined }, [30, 106, 107]);
+        for field in 0..40 { self.same("a field's name", unsafe { header_field(field) } as char, l6::field_name(field)); }
     }
     /// Opening hours by a call, and by the Rust module's safe one.
     fn opening(&mut self, calls: &Calls, rng: &mut Rng) {
@@ -327,6 +380,7 @@ impl Compared {
         let last = &passed[passed.len() - 1];
         self.blocks(one, last);
         self.table(other, &given.table);
+        self.fields(one, &given.table);
         for calls in [one, other] { self.opening(calls, rng) }
         self.lengths(one, rng, given, last);
         self.lengths(other, rng, given, start);
@@ -364,7 +418,7 @@ impl Compared {
 fn main() {
     let arguments: Vec<u64> = std::env::args().skip(1).filter_map(|text| text.parse().ok()).collect();
     let [seed, steps] = arguments[..] else { return eprintln!("usage: compare SEED STEPS") };
-    let mut compared = Compared { answers: vec![0; 107], label: "constants".to_string(), ..Compared::default() };
+    let mut compared = Compared { answers: vec![0; 109], label: "constants".to_string(), ..Compared::default() };
     compared.constants();
     compared.label = "large set-ups".to_string();
     compared.large();
@@ -375,6 +429,12 @@ fn main() {
         compared.whole(i as u64, &mut Rng(i as u64), &given, &written(raw), trial.limit);
     }
     compared.kept_constants();
+    compared.defined_constants();
+    let mut rng = Rng(seed ^ 14);
+    for i in 0..DRAFTS {
+        compared.label = format!("draft {i} of seed {seed}");
+        compared.draft(&mut rng, i);
+    }
     let mut rng = Rng(seed ^ 3648);
     for i in 0..LISTS {
         compared.label = format!("lists {i} of seed {seed}");
@@ -389,6 +449,8 @@ fn main() {
     }
     println!("{} steps in {} calls, {i} generated tours of seed {seed}", compared.steps, compared.calls);
     println!("{LISTS} lists saved, as many loaded, and as many of corrections, each by three calls");
+    let [yes, no, length, rows, kinds] = compared.checked;
+    println!("{DRAFTS} drafts checked: {yes} yes ({} in a hundred), {no} no, {kinds} by 30, {rows} ill-formed, {length} by 1; {} runs of those with a yes, {} of them with references to fields", 100 * yes / DRAFTS, compared.runs, compared.used);
     for (answer, count) in compared.answers.iter().enumerate() {
         match answer {
             0 => println!("running, or done: {count} calls"),
@@ -396,7 +458,9 @@ fn main() {
             101..=103 => println!("wrong length, {answer}: {count}"),
             104 => println!("closed: {count}"),
             105 => println!("no width, 105: {count}"),
-            1..=22 | 26..=29 | 33..=35 => println!("refusal {answer}: {count}"),
+            106 => println!("a field not defined: {count}"),
+            107 => println!("an ill-formed row: {count}"),
+            1..=22 | 26..=30 | 33..=35 => println!("refusal {answer}: {count}"),
             _ if *count > 0 => println!("an unknown answer, {answer}: {count}"),
             _ => {}
         }

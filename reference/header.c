@@ -16,6 +16,9 @@ uint64_t header_run(const uint64_t *table, size_t table_length, uint64_t *storag
     return l6_run(LENT(table), LENT(storage), LENT(input), LENT(output), LENT(state), limit, count);
 }
 uint64_t header_check(const uint64_t *table, size_t table_length, uint64_t *row) { return l6_check(LENT(table), row); }
+uint64_t header_defined(const uint64_t *table, size_t table_length, uint64_t *row, uint64_t *field) {
+    return l6_defined(LENT(table), row, field);
+}
 uint64_t header_count_blocks(const uint8_t *state, size_t state_length, uint64_t *counts, size_t counts_length) {
     return l6_count_blocks(LENT(state), LENT(counts));
 }
@@ -47,6 +50,7 @@ void header_reads(const uint8_t *state, uint64_t numbers[5]) {
 }
 const char *header_words(uint64_t answer) { return l6_words(answer); }
 char header_character(uint8_t code) { return l6_character(code); }
+char header_field(uint64_t field) { return l6_field(field); }
 
 /* The lengths, and the answers by their names: 0 and the refusals in their order, and then the others. */
 const uint64_t header_constants[34] = {
@@ -56,6 +60,9 @@ const uint64_t header_constants[34] = {
     L6_OUTPUT_FULL, L6_SUBTRAHEND_GREATER, L6_CORRECTIONS, L6_CORRECTIONS_LOOP, L6_CORRECTIONS_SHORT, L6_HOURS, L6_FINISHED,
     L6_BAD_STATE_LENGTH, L6_BAD_REPORT_LENGTH, L6_BAD_LIST_LENGTH, L6_CLOSED,
 };
+
+/* The answers of l6_defined. */
+const uint64_t header_undefined[3] = {L6_KINDS, L6_NOT_DEFINED, L6_ILL_FORMED};
 
 /* The answers of l6_save and l6_load. */
 const uint64_t header_kept[4] = {L6_WORD_TOO_WIDE, L6_NOT_SAVED, L6_OUTPUT_SHORT, L6_BAD_WIDTH};

@@ -1,8 +1,11 @@
 //! Commands over the reference engine.
-//! Usage: reference gen|cover SEED N | comparison SEED N stdin|stdout | bench | tourrun
+//! Usage: reference gen|cover SEED N | comparison|drafts SEED N stdin|stdout | bench | tourrun
 #[allow(dead_code)]
 mod bytes;
 mod comparison;
+mod defined;
+#[allow(dead_code)]
+mod drafts;
 mod engine;
 mod generator;
 mod raw;
@@ -136,9 +139,13 @@ fn main() {
         Some("comparison") if arguments.get(4).is_some_and(|a| a == "stdin") => {
             std::io::stdout().write_all(&comparison::stdin(number(2), number(3))).unwrap()
         }
+        Some("drafts") if arguments.get(4).is_some_and(|a| a == "stdin") => {
+            std::io::stdout().write_all(&drafts::stdin(number(2), number(3))).unwrap()
+        }
+        Some("drafts") => print!("{}", drafts::stdout(number(2), number(3))),
         Some("comparison") => print!("{}", comparison::stdout(number(2), number(3))),
         Some("bench") => bench(),
         Some("tourrun") => print!("{}", tour(&file("tour.tab"), &file("stops.in"))),
-        _ => eprintln!("usage: reference gen|cover SEED N | comparison SEED N stdin|stdout | bench | tourrun"),
+        _ => eprintln!("usage: reference gen|cover SEED N | comparison|drafts SEED N stdin|stdout | bench | tourrun"),
     }
 }

@@ -3,3 +3,4 @@ pub mod Moving
 pub mod Leaving
 pub mod Blocks
 pub mod Corollaries
+pub mod Alone

@@ -1,5 +1,6 @@
 // The engine as a library for players in C and Rust: numbers and slices alone.
 pub mod correcting;
+pub mod defining;
 pub mod keeping;
 pub mod opening;
 

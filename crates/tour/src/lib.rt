@@ -6,7 +6,7 @@ ghost use Rattle.tour.specs.Tour.{printed};
 ghost use Rattle.tour.specs.Put.{putBefore};
 
 pub mod numbers;
-mod text;
+pub mod text;
 
 use engine::fresh;
 use engine::run;

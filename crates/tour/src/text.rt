@@ -13,7 +13,7 @@ const NEWLINE: u8 = 10;
 const BLANK: u8 = 32;
 
 // A character.
-fn put(text: &mut [u8], at: usize, character: u8) -> usize
+pub fn put(text: &mut [u8], at: usize, character: u8) -> usize
     requires { ⌜ (0 < at) × (at ≤ length (now text)) ⌝ }
     ensures { λ r. ⌜ r + 1 ≡ at ⌝ }
     ensures { λ _. ⌜ now (text .exit) ≡ putBefore at (character ∷ []) (now (text .entry)) ⌝ }
@@ -24,7 +24,7 @@ fn put(text: &mut [u8], at: usize, character: u8) -> usize
 }
 
 // A word.
-fn put_word(text: &mut [u8], at: usize, word: &[u8]) -> usize
+pub fn put_word(text: &mut [u8], at: usize, word: &[u8]) -> usize
     requires { ⌜ (length (now word) ≤ at) × (at ≤ length (now text)) ⌝ }
     ensures { λ r. ⌜ r + length (now (word .entry)) ≡ at ⌝ }
     ensures { λ _. ⌜ now (text .exit) ≡ putBefore at (now (word .entry)) (now (text .entry)) ⌝ }
@@ -54,7 +54,7 @@ fn put_digits(text: &mut [u8], at: usize, n: u64) -> usize
 }
 
 // A number in decimal.
-fn put_decimal(text: &mut [u8], at: usize, n: u64) -> usize
+pub fn put_decimal(text: &mut [u8], at: usize, n: u64) -> usize
     requires { ⌜ (length (decimal n) ≤ at) × (at ≤ length (now text)) ⌝ }
     ensures { λ r. ⌜ r + length (decimal n) ≡ at ⌝ }
     ensures { λ _. ⌜ now (text .exit) ≡ putBefore at (decimal n) (now (text .entry)) ⌝ }

@@ -1,0 +1,19 @@
+-- Theorems on the check of fields.
+pub mod Refers
+pub mod Safe
+pub mod Changes
+pub mod Codes
+pub mod Standing
+pub mod Never
+pub mod Numbers
+pub mod Fit
+pub mod Final
+pub mod Chains
+pub mod Settled
+pub mod Closed
+pub mod Witness
+pub mod Decides
+pub mod Reading
+pub mod Loops
+pub mod Answering
+pub mod Theorem

@@ -1,0 +1,2 @@
+-- Laws of what tourcheck prints.
+pub mod Words

@@ -1,0 +1,2 @@
+-- What tourcheck prints of the bytes that it reads.
+pub mod Diagnosis

@@ -1,0 +1,31 @@
+-- l6_defined: what it answers, and what it leaves in the memory lent to it. Assumes nothing.
+use Prim.Native.Nat.{ℕ}
+use mathlib.Core.List.{List}
+use Rattle.defined.specs.declared.FieldsCheck.{FieldsCheck}
+use Rattle.defined.specs.declared.FieldsCheck.the-variants.{Yes, No, BadLength, IllFormed, WrongKind}
+use Rattle.defined.specs.Answer.{fieldsChecked, refusalOf}
+
+-- answers of the library's own: a field is used where it is not defined, and an ill-formed row
+abbrev pub notDefined : ℕ
+notDefined = 106
+
+abbrev pub illFormed : ℕ
+illFormed = 107
+
+pub record DefinedLeft : Type 0 where
+  pub answer : ℕ
+  pub row : ℕ
+  pub field : ℕ
+
+-- 0 for yes, the row and the field of a no, the row of an ill-formed one, or the number of the refusal, of 30 with its row; row and
+-- field are otherwise as they were
+unfoldable pub afterDefined : FieldsCheck → ℕ → ℕ → DefinedLeft
+afterDefined Yes row field = record { answer = refusalOf Yes; row = row; field = field }
+afterDefined (No r n) row field = record { answer = notDefined; row = r; field = n }
+afterDefined BadLength row field = record { answer = refusalOf BadLength; row = row; field = field }
+afterDefined (IllFormed r) row field = record { answer = illFormed; row = r; field = field }
+afterDefined (WrongKind r) row field = record { answer = refusalOf (WrongKind r); row = r; field = field }
+
+-- of words of 36 bits
+unfoldable pub definedLeft : List ℕ → ℕ → ℕ → DefinedLeft
+definedLeft table row field = afterDefined (fieldsChecked 36 table) row field
