@@ -51,11 +51,12 @@ pub enum Refusal {
     CorrectionsShort,
     Hours,
     Kinds,
+    LastAddress = 32,
 }
 use Refusal::*;
 
 /// Every refusal, and what it means.
-pub const REFUSALS: [(Refusal, &str); 27] = [
+pub const REFUSALS: [(Refusal, &str); 28] = [
     (TableLength, "the table has fewer than 20 numbers, more than 8,000, or no multiple of ten"),
     (BadRow, "the row, or a test of it, is missing, ill-formed or of another kind than is needed here"),
     (SetUpNumbers, "the set-up's numbers are not allowed, or ask for more words than there are"),
@@ -83,6 +84,7 @@ pub const REFUSALS: [(Refusal, &str); 27] = [
     (CorrectionsShort, "there is no room for the corrected stops"),
     (Hours, "the opening hours break their rules, or the minute is above 1,439"),
     (Kinds, "row 1 is no line, or a row names one of the wrong kind"),
+    (LastAddress, "the new last address is none, or asks for more words than there are"),
 ];
 
 impl Refusal {
@@ -218,6 +220,16 @@ impl State {
         (Answer::of(answer), count)
     }
 
+    /// More storage between steps: the words up to a new last address, the old one plus a multiple of the largest block size, become free
+    /// blocks. The tour goes on as it was, after [`NoRun`] too. A refused extension changes nothing.
+    pub fn extend(&mut self, storage: &mut [u64], last: u64) -> Result<(), Refusal> {
+        done(unsafe { raw::l6_extend(storage.as_mut_ptr(), storage.len(), self.0.as_mut_ptr(), STATE_LENGTH, last) })
+    }
+
+    /// The set-up's largest block size, first and last address; zeros before it.
+    pub fn setup(&self) -> [usize; 3] {
+        [21, 23, 25].map(|at| self.number(at, 2))
+    }
     /// Where the tour stands.
     pub fn place(&self) -> Place {
         [Place::Tests, Place::Operation, Place::Exit, Place::Finished].get(self.0[0] as usize).copied().unwrap_or(Place::Nowhere)
@@ -455,6 +467,7 @@ pub mod raw {
             windows: *const u64, windows_length: usize, exceptions: *const u64, exceptions_length: usize, day: u64, minute: u64,
             row: *mut u64,
         ) -> u64;
+        pub fn l6_extend(storage: *mut u64, storage_length: usize, state: *mut u8, state_length: usize, last: u64) -> u64;
         pub fn l6_recordings(list: *const u64, list_length: usize, output: *mut u64, output_length: usize, count: *mut u64) -> u64;
         pub fn l6_save(width: u64, words: *const u64, words_length: usize, bytes: *mut u8, bytes_length: usize, count: *mut u64) -> u64;
         pub fn l6_load(width: u64, bytes: *const u8, bytes_length: usize, n: usize, words: *mut u64, words_length: usize) -> u64;

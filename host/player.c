@@ -2,7 +2,8 @@
  * It reads the table tour.tab and the stop list stops.in, and prints what the guide says; progress goes to standard error. Where there
  * are opening hours, windows.tab and exceptions.tab, the tour starts at the entry line for the time (of UTC), or not at all. Where there
  * are corrections, corrections.tab, the recordings that stand are put into the stop list (that of tours/museum.tour). With --stop-after
- * it stops after so many steps and saves the tour as tour.saved; the next call goes on from there. */
+ * it stops after so many steps and saves the tour as tour.saved; the next call goes on from there. Where a tour has no room for a block,
+ * its storage is extended once to all the words there are, and it goes on. */
 #include <inttypes.h>
 #include <stdio.h>
 #include <stdlib.h>
@@ -53,6 +54,14 @@ static uint64_t begin(void) {
     l6_fresh(state, sizeof state);
     return w + x == 0 ? L6_RUNNING : l6_hours(windows, w, exceptions, x, day, minute, &table[ENTRY]);
 }
+/* Gives a tour all the words there are, in whole blocks. */
+static int extend(void) {
+    uint64_t d = l6_d(state), last = l6_s1(state) + WORDS / d * d - 1;
+    if (last > 32767) last = 32767;
+    if (l6_extend(storage, WORDS, state, sizeof state, last) != 0) return 0;
+    fprintf(stderr, "no room for a block: extended to address %" PRIu64 "\n", last);
+    return 1;
+}
 static int end(int status, const char *why) {
     fprintf(stderr, "%s\n", why);
     return status;
@@ -70,6 +79,7 @@ int main(int count, char **arguments) {
     if (answer != L6_RUNNING || (answer = l6_check(table, length, &row)) != 0) return end(1, l6_words(answer));
     if (row != 0) return fprintf(stderr, "row %" PRIu64 " is ill-formed\n", row), 1;
 
+    int extended = 0;
     uint64_t left = stops ? strtoull(arguments[3], NULL, 10) : UINT64_MAX, steps = 0;
     do {
         uint64_t taken, limit = left < 1000 ? left : 1000, said = l6_written(state);
@@ -78,6 +88,7 @@ int main(int count, char **arguments) {
         left -= taken;
         for (; said < l6_written(state) && said < sizeof output; said++) putchar(l6_character(output[said]));
         fprintf(stderr, "%" PRIu64 " steps, row %" PRIu64 ", %" PRIu64 " characters read\n", steps, l6_row(state), l6_taken(state));
+        if (answer == L6_NO_RUN && !extended && extend()) extended = 1, answer = L6_RUNNING;
     } while (answer == L6_RUNNING && left > 0);
 
     if (answer == L6_RUNNING) {

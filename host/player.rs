@@ -2,10 +2,11 @@
 //! It reads the table tour.tab and the stop list stops.in, and prints what the guide says; progress goes to standard error. Where there
 //! are opening hours, windows.tab and exceptions.tab, the tour starts at the entry line for the time (of UTC), or not at all. Where there
 //! are corrections, corrections.tab, the recordings that stand are put into the stop list (that of tours/museum.tour). With --stop-after
-//! it stops after so many steps and saves the tour as tour.saved; the next call goes on from there.
+//! it stops after so many steps and saves the tour as tour.saved; the next call goes on from there. Where a tour has no room for a block,
+//! its storage is extended once to all the words there are, and it goes on.
 mod l6;
 
-use l6::{numbers, Answer, Lent, State, STATE_LENGTH};
+use l6::{numbers, Answer, Lent, Refusal, State, STATE_LENGTH};
 use std::process::ExitCode;
 
 const ENTRY: usize = 16; // the go-to of row 1, where a tour starts
@@ -33,6 +34,16 @@ fn enter(windows: &[u64], exceptions: &[u64], own: u64) -> Result<u64, String> {
     l6::hours(windows, exceptions, (now / 86400).wrapping_sub(10957), now % 86400 / 60).row()
 }
 
+/// Gives a tour all the words there are, in whole blocks.
+fn extend(state: &mut State, storage: &mut [u64]) -> bool {
+    let [d, s1, _] = state.setup();
+    let last = (s1 + storage.len() / d * d - 1).min(32767);
+    let done = state.extend(storage, last as u64).is_ok();
+    if done {
+        eprintln!("no room for a block: extended to address {last}");
+    }
+    done
+}
 /// Puts the recordings that stand into a stop list: records of ten codes, a room's letter and three digits each for the stop, its recording
 /// and the stop to branch to.
 fn correct(list: &[u64], input: &mut [u8]) -> Result<(), String> {
@@ -63,13 +74,16 @@ fn play(folder: &str, mut left: u64) -> Result<&str, String> {
     l6::check(&table).map_err(|bad| bad.to_string())?;
 
     let mut lent = Lent { table: &table, storage: &mut storage, input: &input, output: &mut output };
-    let (mut steps, mut answer) = (0, Answer::Running);
+    let (mut steps, mut answer, mut extended) = (0, Answer::Running, false);
     while answer == Answer::Running && left > 0 {
         let (said, taken);
         (said, (answer, taken)) = (state.written(), state.run(&mut lent, left.min(1000)));
         (left, steps) = (left - taken, steps + taken);
         print!("{}", l6::text(lent.output.get(said..state.written()).unwrap_or_default()));
         eprintln!("{steps} steps, row {}, {} characters read", state.row(), state.taken());
+        if answer == Answer::Refused(Refusal::NoRun) && !extended && extend(&mut state, lent.storage) {
+            (extended, answer) = (true, Answer::Running);
+        }
     }
 
     if answer == Answer::Running {

@@ -65,6 +65,8 @@ enum {
 
     L6_KINDS = 30,            /* l6_defined: row 1 is no line, or a row names one of the wrong kind */
 
+    L6_LAST_ADDRESS = 32,     /* l6_extend: a new last address that is none, or asks for more words than there are */
+
     /* l6_save and l6_load */
     L6_WORD_TOO_WIDE = 33,    /* a word to save does not fit the width */
     L6_NOT_SAVED = 34,        /* so many words have not so many bytes, or a bit of the words that fill up is one */
@@ -97,7 +99,8 @@ enum {
     L6_AT_ROW = 1,     /* 2 bytes: at an operation its row, otherwise 0 */
     L6_AT_LINE = 3,    /* 2 bytes: the row of the line; 0 where the tour is finished */
     L6_AT_TAKEN = 5,   /* 8 bytes: how many bytes of the input are taken */
-    L6_AT_WRITTEN = 13 /* 8 bytes: how many bytes of the output are written */
+    L6_AT_WRITTEN = 13, /* 8 bytes: how many bytes of the output are written */
+    L6_AT_SET_UP = 21  /* three times 2 bytes: the set-up's largest block size, first and last address; zeros before it */
 };
 
 /* Where a tour stands: at the tests of a line, at an operation, at the exit of a line, or at its end. */
@@ -116,6 +119,11 @@ static inline uint64_t l6_kind(const uint8_t *state) { return state[L6_AT_KIND];
 static inline uint64_t l6_line(const uint8_t *state) { return l6_number(state + L6_AT_LINE, 2); }
 static inline uint64_t l6_taken(const uint8_t *state) { return l6_number(state + L6_AT_TAKEN, 8); }
 static inline uint64_t l6_written(const uint8_t *state) { return l6_number(state + L6_AT_WRITTEN, 8); }
+
+/* The set-up's largest block size d, its first address s1, which is storage[0], and its last s2; all 0 before a set-up. */
+static inline uint64_t l6_d(const uint8_t *state) { return l6_number(state + L6_AT_SET_UP, 2); }
+static inline uint64_t l6_s1(const uint8_t *state) { return l6_number(state + L6_AT_SET_UP + 2, 2); }
+static inline uint64_t l6_s2(const uint8_t *state) { return l6_number(state + L6_AT_SET_UP + 4, 2); }
 
 /* The row that the next step takes: that of the operation or of the line; 0 where the tour is finished. After a refusal it is the row
  * that was refused. */
@@ -187,6 +195,15 @@ uint64_t l6_count_blocks(const uint8_t *state, size_t state_length, uint64_t *co
  * Answers 0, L6_BAD_STATE_LENGTH, L6_UNSOUND as above, or L6_BAD_LIST_LENGTH; nothing is written then. The order of these is the
  * order of the tests. */
 uint64_t l6_list_blocks(const uint8_t *state, size_t state_length, uint64_t live, uint64_t *list, size_t list_length);
+
+/* More storage while a tour runs, between steps: the words from the set-up's last address on, up to a new one, become free blocks.
+ * The new last address is the old one plus a positive multiple of d. The storage is lent long enough from the start; the added words
+ * are zeroed. All else carries on, in a tour that is finished or was refused by L6_NO_RUN too: right after an extension no get and no
+ * duplicate is refused so.
+ * Reads and writes storage and state. Answers 0, L6_BAD_STATE_LENGTH, L6_UNSOUND (how much of input and output is used aside),
+ * L6_BEFORE_SET_UP, or L6_LAST_ADDRESS where the new last address is not of that form, passes 32,767, or makes more than 4,096 words or
+ * more than are lent; nothing is changed then. The order of these is the order of the tests. */
+uint64_t l6_extend(uint64_t *storage, size_t storage_length, uint8_t *state, size_t state_length, uint64_t last);
 
 /* Opening hours: the row of the entry line at which a tour starts on a day, at a minute.
  * Days count from 0 on 1 January 2000, weekdays from 0, Monday, to 6. A window is four numbers: a weekday, the opening minute, which is
@@ -264,6 +281,7 @@ static inline const char *l6_words(uint64_t answer) {
     case L6_CORRECTIONS_SHORT: return "there is no room for the corrected stops";
     case L6_HOURS: return "the opening hours break their rules, or the minute is above 1,439";
     case L6_KINDS: return "row 1 is no line, or a row names one of the wrong kind";
+    case L6_LAST_ADDRESS: return "the new last address is none, or asks for more words than there are";
     case L6_WORD_TOO_WIDE: return "a word to save does not fit the width";
     case L6_NOT_SAVED: return "the bytes to load are not those of so many saved words";
     case L6_OUTPUT_SHORT: return "there is no room for what is saved or loaded";

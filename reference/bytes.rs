@@ -70,6 +70,15 @@ impl Tour {
         if carried { *self = written(raw) }
         (number(answer), count, report_numbers(report))
     }
+    /// An extension to a new last address: its answer. The bytes are written anew where it is not refused.
+    pub fn extend(&mut self, last: u64) -> u64 {
+        let mut raw = read(self.clone());
+        let extended = raw.extend(last);
+        if extended.is_ok() { *self = written(raw) }
+        extended.err().unwrap_or(0)
+    }
+    /// The set-up's d, first and last address.
+    pub fn setup(&self) -> [u64; 3] { read(self.clone()).setup }
     /// Address and size of the live blocks, and of the free ones; none where the set-up numbers or the blocks are not sound.
     pub fn blocks(&self) -> Option<[Vec<u64>; 2]> {
         let raw = read(self.clone());

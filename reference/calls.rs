@@ -27,6 +27,7 @@ pub struct Calls {
     recordings: Recordings,
     save: Save,
     load: Load,
+    extend: unsafe extern "C" fn(*mut u64, usize, *mut u8, usize, u64) -> u64,
 }
 
 extern "C" {
@@ -49,13 +50,14 @@ extern "C" {
     fn header_recordings(list: *const u64, given: usize, output: *mut u64, room: usize, count: *mut u64) -> u64;
     fn header_save(width: u64, words: *const u64, given: usize, bytes: *mut u8, room: usize, count: *mut u64) -> u64;
     fn header_load(width: u64, bytes: *const u8, given: usize, n: usize, words: *mut u64, room: usize) -> u64;
+    fn header_extend(storage: *mut u64, words: usize, state: *mut u8, length: usize, last: u64) -> u64;
     // what else the header has
     pub fn header_reads(state: *const u8, numbers: *mut u64);
     pub fn header_words(answer: u64) -> *const c_char;
     pub fn header_character(code: u8) -> u8;
     pub fn header_field(field: u64) -> u8;
     pub static header_undefined: [u64; 3];
-    pub static header_constants: [u64; 34];
+    pub static header_constants: [u64; 35];
     pub fn header_saved_length(width: u64, words: usize) -> usize;
     pub static header_kept: [u64; 4];
 }
@@ -64,12 +66,12 @@ pub static HEADER: Calls = Calls {
     fresh: header_fresh, step: header_step, run: header_run, check: header_check, defined: header_defined,
     count_blocks: header_count_blocks,
     list_blocks: header_list_blocks, hours: header_hours, recordings: header_recordings,
-    save: header_save, load: header_load,
+    save: header_save, load: header_load, extend: header_extend,
 };
 pub static MODULE: Calls = Calls {
     fresh: module::l6_fresh, step: module::l6_step, run: module::l6_run, check: module::l6_check, defined: module::l6_defined,
     count_blocks: module::l6_count_blocks, list_blocks: module::l6_list_blocks, hours: module::l6_hours,
-    recordings: module::l6_recordings, save: module::l6_save, load: module::l6_load,
+    recordings: module::l6_recordings, save: module::l6_save, load: module::l6_load, extend: module::l6_extend,
 };
 
 /// What is lent and only read.
@@ -95,6 +97,10 @@ impl Calls {
                 output.len(), state.as_mut_ptr(), state.len(), limit, count,
             )
         }
+    }
+    pub fn extend(&self, tour: &mut Tour, last: u64) -> u64 {
+        let Tour { state, storage, .. } = tour;
+        unsafe { (self.extend)(storage.as_mut_ptr(), storage.len(), state.as_mut_ptr(), state.len(), last) }
     }
     pub fn check(&self, table: &[u64], row: &mut u64) -> u64 { unsafe { (self.check)(table.as_ptr(), table.len(), row) } }
     pub fn defined(&self, table: &[u64], row: &mut u64, field: &mut u64) -> u64 {

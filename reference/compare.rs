@@ -2,7 +2,7 @@
 //! First come the cases of `comparison` that are not drawn and set-ups of 4,096 words, then generated tours until so many steps are
 //! compared: each is stepped and run from its start, and again from places on its way after damages of its state's bytes, storage,
 //! table, input or lengths. Calls go through the header and through the Rust module in turn; wrong lengths are tried with both.
-//! With each tour go drawn opening hours.
+//! With each tour go drawn opening hours, and between steps storage is extended, to drawn last addresses, refused ones among them.
 //! Before the generated tours, 20,000 lists of words and bytes are saved and loaded by bit columns, and as many lists of corrections
 //! answered, damaged ones among them, with both and with the safe calls.
 //! Before these, 40,000 drafts of tables are checked for fields that are used before they are defined, and those that got a yes are run.
@@ -39,7 +39,9 @@ const DRAFTS: u64 = 40_000;
 
 /// What was compared so far; `label` says of what the present case is.
 #[derive(Default)]
-struct Compared { steps: u64, calls: u64, answers: Vec<u64>, differences: u64, label: String, checked: [u64; 5], runs: u64, used: u64 }
+struct Compared {
+    steps: u64, calls: u64, extensions: u64, answers: Vec<u64>, differences: u64, label: String, checked: [u64; 5], runs: u64, used: u64,
+}
 
 /// Gets and frees in a drawn order, so that live blocks come to stand between free ones.
 fn gets_and_frees(rng: &mut Rng) -> Case {
@@ -55,7 +57,7 @@ fn gets_and_frees(rng: &mut Rng) -> Case {
     }
     operations.push(row(3, 3, 0, &[(2, 11), (1, rng.pick(&[0, d, d + 1, 2 * d]))]));
     let lines = vec![Line { operations, ..Line::default() }];
-    Case { lines, storage: n as usize + 2, limit: 310, ..Case::default() }
+    Case { lines, storage: (n + rng.pick(&[2, d, 2 * d, 16 * d])) as usize, limit: 310, ..Case::default() }
 }
 /// The reference engine on what is lent.
 fn engine_of(given: &Given, tour: &Tour) -> Engine {
@@ -84,10 +86,15 @@ impl Compared {
 
     // ------------------------------------------------------------ walks
 
-    /// Up to so many calls of step. Gives the tours on the way.
-    fn by_steps(&mut self, calls: &Calls, given: &Given, start: &Tour, limit: u64) -> Vec<Tour> {
+    /// Up to so many calls of step, with extensions between. Gives the tours on the way.
+    fn by_steps(&mut self, calls: &Calls, rng: &mut Rng, given: &Given, start: &Tour, limit: u64) -> Vec<Tour> {
         let (mut engine, mut tour, mut passed) = (engine_of(given, start), start.clone(), vec![start.clone()]);
         for _ in 0..limit {
+            if rng.below(16) == 0 {
+                let Some(longer) = self.extended(calls, rng, &tour) else { break };
+                tour = longer.clone();
+                passed.push(longer);
+            }
             let mut report = [77; 12];
             let answer = calls.step(given, &mut tour, &mut report);
             let mut other = passed[passed.len() - 1].clone();
@@ -96,9 +103,29 @@ impl Compared {
             let same = self.same("a step's answer", answer, expected) & self.same("a report", report, reported);
             if !(self.same_tour(&tour, &other) & same) { break; }
             passed.push(other);
-            if answer != 0 { break; }
+            if answer == 17 {
+                let Some(longer) = self.extended(calls, rng, &tour) else { break };
+                if longer == tour { break; }
+                tour = longer.clone();
+                passed.push(longer);
+            } else if answer != 0 {
+                break;
+            }
         }
         passed
+    }
+    /// An extension to a drawn last address, mostly of the right form. Gives the tour after it.
+    fn extended(&mut self, calls: &Calls, rng: &mut Rng, tour: &Tour) -> Option<Tour> {
+        let [d, s1, s2] = tour.setup();
+        let blocks = rng.pick(&[1, 1, 1, 2, 3, 16, 4096]);
+        let near = [s2 + d, s2 + d / 2, s2 + 1, s2, s2 - s2.min(d), s1, 0, 32767, 32768, 1 << 16 | (s2 + d), u64::MAX];
+        let last = if rng.chance(60) { s2 + d * blocks } else { rng.pick(&near) };
+        let (mut library, mut other) = (tour.clone(), tour.clone());
+        let (answer, expected) = (calls.extend(&mut library, last), other.extend(last));
+        self.answered(answer, 0);
+        self.extensions += (answer == 0) as u64;
+        let same = self.same("an extension's answer", answer, expected);
+        (self.same_tour(&library, &other) & same).then_some(other)
     }
     /// Calls of run with drawn limits, until so many steps are taken or a run does not go on.
     fn by_runs(&mut self, calls: &Calls, rng: &mut Rng, given: &Given, start: &Tour, limit: u64) {
@@ -218,9 +245,9 @@ impl Compared {
         self.answered(answer, 0);
         self.same("an answer on lengths of a step", answer, bad(102));
         if state != STATE {
-            let answers = [calls.run(given, &mut wrong, 9, &mut count), calls.fresh(&mut wrong.state)];
+            let answers = [calls.run(given, &mut wrong, 9, &mut count), calls.fresh(&mut wrong.state), calls.extend(&mut wrong, 15)];
             for answer in answers { self.answered(answer, 0) }
-            self.same("answers on a state's length", answers, [101; 2]);
+            self.same("answers on a state's length", answers, [101; 3]);
         }
         let answer = calls.count_blocks(&wrong.state, &mut list);
         self.answered(answer, 0);
@@ -251,24 +278,29 @@ impl Compared {
         let report = [&[report.freed, report.delivered, report.size, report.copied][..], &stores.concat()].concat();
         self.same("a safe step", (number(stepped), &report[..]), (a, &reported[..]));
         self.same("a safe run", (number(ran), count), (b, taken));
+        let [d, _, s2] = other.setup();
+        let longer = state.extend(&mut tour.storage, s2 + d).map_or_else(|refusal| refusal.number(), |_| 0);
+        tour.state = state.bytes().to_vec();
+        self.same("a safe extension", longer, other.extend(s2 + d));
         self.same_tour(&tour, &other);
         let list = |blocks: Vec<l6::Block>| blocks.iter().flat_map(|b| [b.address, b.size]).collect::<Vec<_>>();
         let lists = state.live_blocks().and_then(|live| Ok([list(live), list(state.free_blocks()?)]));
         self.same("a safe list", lists.ok(), other.blocks());
         let expected = match lowest_ill_formed(&given.table) { None => Err(BadTable::Length), Some(0) => Ok(()), Some(k) => Err(BadTable::Row(k)) };
         self.same("a safe check", l6::check(&given.table), expected);
-        let mut reads = [0; 5];
+        let mut reads = [0; 8];
         unsafe { header_reads(tour.state.as_ptr(), reads.as_mut_ptr()) };
         let two = |i: usize| tour.state[i] as u64 + 256 * tour.state[i + 1] as u64;
         let row = if tour.state[0] == 1 { two(1) } else { two(3) };
         let eight = |i: usize| u64::from_le_bytes(tour.state[i..i + 8].try_into().unwrap());
-        self.same("what the header reads", reads, [tour.state[0] as u64, row, two(3), eight(5), eight(13)]);
+        self.same("what the header reads", reads, [tour.state[0] as u64, row, two(3), eight(5), eight(13), two(21), two(23), two(25)]);
         let safe = [state.place() as usize, state.row(), state.taken(), state.written()].map(|n| n as u64);
         self.same("what the module reads", safe, [tour.state[0].min(4) as u64, row, eight(5), eight(13)]);
+        self.same("the set-up that the module reads", state.setup().map(|n| n as u64), [two(21), two(23), two(25)]);
     }
     /// Numbers and words of the header against the Rust module's.
     fn constants(&mut self) {
-        let numbers: Vec<u64> = [6675, 12].into_iter().chain(0..=22).chain(26..=29).chain(100..=104).collect();
+        let numbers: Vec<u64> = [6675, 12].into_iter().chain(0..=22).chain(26..=29).chain([32]).chain(100..=104).collect();
         self.same("the header's numbers", unsafe { header_constants }, numbers[..].try_into().unwrap());
         self.same("the module's length", l6::STATE_LENGTH, STATE);
         let words = |answer| unsafe { CStr::from_ptr(header_words(answer)) }.to_str().unwrap();
@@ -375,7 +407,7 @@ impl Compared {
     /// Everything on one tour from its start.
     fn whole(&mut self, turn: u64, rng: &mut Rng, given: &Given, start: &Tour, limit: u64) -> Vec<Tour> {
         let (one, other) = if turn % 2 == 0 { (&HEADER, &MODULE) } else { (&MODULE, &HEADER) };
-        let passed = self.by_steps(one, given, start, limit);
+        let passed = self.by_steps(one, rng, given, start, limit);
         self.by_runs(other, rng, given, start, limit);
         let last = &passed[passed.len() - 1];
         self.blocks(one, last);
@@ -448,6 +480,7 @@ fn main() {
         i += 1;
     }
     println!("{} steps in {} calls, {i} generated tours of seed {seed}", compared.steps, compared.calls);
+    println!("{} extensions of storage that were not refused", compared.extensions);
     println!("{LISTS} lists saved, as many loaded, and as many of corrections, each by three calls");
     let [yes, no, length, rows, kinds] = compared.checked;
     println!("{DRAFTS} drafts checked: {yes} yes ({} in a hundred), {no} no, {kinds} by 30, {rows} ill-formed, {length} by 1; {} runs of those with a yes, {} of them with references to fields", 100 * yes / DRAFTS, compared.runs, compared.used);
@@ -460,7 +493,7 @@ fn main() {
             105 => println!("no width, 105: {count}"),
             106 => println!("a field not defined: {count}"),
             107 => println!("an ill-formed row: {count}"),
-            1..=22 | 26..=30 | 33..=35 => println!("refusal {answer}: {count}"),
+            1..=22 | 26..=30 | 32..=35 => println!("refusal {answer}: {count}"),
             _ if *count > 0 => println!("an unknown answer, {answer}: {count}"),
             _ => {}
         }

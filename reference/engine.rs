@@ -174,6 +174,19 @@ impl State {
         self.setup = Some((d, s1, s2));
         Ok(Report::default())
     }
+    /// Document 02, ticket 11: the words up to a new last address are zeroed and become free blocks of size d. Refusals 12 and 32.
+    pub fn extend(&mut self, last: u64) -> Result<(), Refusal> {
+        let (d, s1, s2) = self.setup.ok_or(12u64)?;
+        if last <= s2 || (last - s2) % d != 0 || last > 32767 { return Err(32); }
+        if last - s1 + 1 > 4096.min(self.storage.len() as u64) { return Err(32); }
+        for address in s2 + 1..=last {
+            let i = self.index(address);
+            self.storage[i] = 0;
+        }
+        self.free.extend((s2 + 1..=last).step_by(d as usize).map(|start| Block { start, size: d }));
+        self.setup = Some((d, s1, last));
+        Ok(())
+    }
     /// Blocks: "A larger free block is halved until the wanted size is reached"; refusal 17. The lowest aligned run
     /// outside the live blocks is the front of the lowest free block that is large enough. "Delivered words are zero".
     fn deliver(&mut self, size: u64) -> Result<u64, Refusal> {

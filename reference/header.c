@@ -38,26 +38,32 @@ uint64_t header_save(uint64_t width, const uint64_t *words, size_t words_length,
 uint64_t header_load(uint64_t width, const uint8_t *bytes, size_t bytes_length, size_t n, uint64_t *words, size_t words_length) {
     return l6_load(width, LENT(bytes), n, LENT(words));
 }
+uint64_t header_extend(uint64_t *storage, size_t storage_length, uint8_t *state, size_t state_length, uint64_t last) {
+    return l6_extend(LENT(storage), LENT(state), last);
+}
 size_t header_saved_length(uint64_t width, size_t words) { return l6_saved_length(width, words); }
 
 /* What the header reads of a state. */
-void header_reads(const uint8_t *state, uint64_t numbers[5]) {
+void header_reads(const uint8_t *state, uint64_t numbers[8]) {
     numbers[0] = l6_kind(state);
     numbers[1] = l6_row(state);
     numbers[2] = l6_line(state);
     numbers[3] = l6_taken(state);
     numbers[4] = l6_written(state);
+    numbers[5] = l6_d(state);
+    numbers[6] = l6_s1(state);
+    numbers[7] = l6_s2(state);
 }
 const char *header_words(uint64_t answer) { return l6_words(answer); }
 char header_character(uint8_t code) { return l6_character(code); }
 char header_field(uint64_t field) { return l6_field(field); }
 
 /* The lengths, and the answers by their names: 0 and the refusals in their order, and then the others. */
-const uint64_t header_constants[34] = {
+const uint64_t header_constants[35] = {
     L6_STATE_LENGTH, L6_REPORT_LENGTH, L6_RUNNING, L6_TABLE_LENGTH, L6_BAD_ROW, L6_SET_UP_NUMBERS, L6_INPUT_BYTE, L6_INPUT_SHORT,
     L6_NOT_A_DIGIT, L6_DEFINITION_NUMBER, L6_BLOCK_SIZE, L6_ZERO_DIVISOR, L6_CHARACTER_COUNT, L6_UNSOUND, L6_BEFORE_SET_UP,
     L6_SECOND_SET_UP, L6_UNDEFINED_FIELD, L6_NOT_A_BLOCK, L6_OUTSIDE_BLOCK, L6_NO_RUN, L6_FIELD_FREED, L6_STACK_FULL, L6_STACK_EMPTY,
-    L6_OUTPUT_FULL, L6_SUBTRAHEND_GREATER, L6_CORRECTIONS, L6_CORRECTIONS_LOOP, L6_CORRECTIONS_SHORT, L6_HOURS, L6_FINISHED,
+    L6_OUTPUT_FULL, L6_SUBTRAHEND_GREATER, L6_CORRECTIONS, L6_CORRECTIONS_LOOP, L6_CORRECTIONS_SHORT, L6_HOURS, L6_LAST_ADDRESS, L6_FINISHED,
     L6_BAD_STATE_LENGTH, L6_BAD_REPORT_LENGTH, L6_BAD_LIST_LENGTH, L6_CLOSED,
 };
 

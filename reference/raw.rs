@@ -158,6 +158,10 @@ impl Raw {
     }
     /// Refusal 11, with the length of the lent input.
     pub fn sound(&self, input: usize) -> bool {
+        self.engine_sound() && self.streams[0] <= input as u64 && self.streams[1] <= self.output.len() as u64
+    }
+    /// The same, counts of input and output aside.
+    fn engine_sound(&self) -> bool {
         let [d, s1, s2] = self.setup;
         let absent = self.setup == [0; 3];
         if !absent && !set_up_fits(d, s1, s2, self.storage.len()) { return false; }
@@ -170,7 +174,6 @@ impl Raw {
             && stack_sound(self.counts[1], &self.saved, definition_sound)
             && stack_sound(self.counts[2], &self.calls, place_sound)
             && self.blocks_sound(words)
-            && self.streams[0] <= input as u64 && self.streams[1] <= self.output.len() as u64
     }
 
     /// One step of any state, sound or not; a refused one changes nothing.
@@ -184,6 +187,20 @@ impl Raw {
             keep_unused(&before, self, name);
         }
         (answer, report)
+    }
+    /// An extension of any state, sound or not; a refused one changes nothing.
+    pub fn extend(&mut self, last: u64) -> Result<(), Refusal> {
+        if !self.engine_sound() { return Err(11); }
+        let before = self.clone();
+        self.streams = [0; 2];
+        let mut state = self.state();
+        let extended = state.extend(last);
+        if extended.is_ok() {
+            *self = Raw::of(&state, &self.output);
+            keep_unused(&before, self, 0);
+        }
+        self.streams = before.streams;
+        extended
     }
     pub fn change(&mut self, Damage { what, index: i, value }: Damage) {
         match what {

@@ -13,7 +13,7 @@ use borrow.Author.Tests.{lt-ltb, le-ltb}
 use Rattle.block.specs.declared.SetUp.{SetUp}
 use Rattle.block.specs.Blocks.{size, Block, Tree, Free, Live, Halves, joined, liveIn, freed, delivered, gathered, changed, outside}
 use Rattle.block.specs.SetUp.{top, fitting}
-use Rattle.block.specs.Map.{isFree, canonical, allCanonical, trees, keeps, live, freedMap, deliveredMap}
+use Rattle.block.specs.Map.{isFree, canonical, allCanonical, trees, keeps, live, free, freedMap, deliveredMap}
 use Rattle.word.proofs.Tests.{and-true, either-way, by-leb}
 use Rattle.block.proofs.Size.{size-suc, size-pos, size-mono, aligned-smaller, fitting-facts}
 use Rattle.block.proofs.Map.{canonical-halves, keeps-parts, length-trees}
@@ -192,13 +192,23 @@ live-trees k at (t ∷ ts) (v ∷ vs) n h l aligned e =
     let rest = live-trees k (at + size k) ts vs (omega arith) others others' far high in
     cc
 
--- the live blocks determine the map, and so the free ones
+-- the live blocks determine the trees
+live-same-trees : (lent : ℕ) (u : SetUp) → fitting lent u ≡ true → (m n : List ℕ) → keeps u m ≡ true → keeps u n ≡ true
+    → live u m ≡ live u n → trees u m ≡ trees u n
+unfolding live
+live-same-trees lent u fits m n h l e =
+    let facts = fitting-facts lent u fits in
+    live-trees (top (u .d)) (u .s1) (trees u m) (trees u n) (length-trees u m ∙ sym (length-trees u n)) (keeps-parts u m h .0) (keeps-parts u n l .0)
+    (rw (facts .largest) (facts .aligned)) e
+
+-- and so the free blocks
+pub live-free : (lent : ℕ) (u : SetUp) → fitting lent u ≡ true → (m n : List ℕ) → keeps u m ≡ true → keeps u n ≡ true
+    → live u m ≡ live u n → free u m ≡ free u n
+unfolding free
+live-free lent u fits m n h l e = rw (live-same-trees lent u fits m n h l e)
+
+-- and the map, where they are as long
 pub live-map : (lent : ℕ) (u : SetUp) → fitting lent u ≡ true → (m n : List ℕ) → length m ≡ length n → keeps u m ≡ true → keeps u n ≡ true
     → live u m ≡ live u n → m ≡ n
-unfolding live
 live-map lent u fits m n long h l e =
-    let facts = fitting-facts lent u fits in
-    let (whole, same) = keeps-parts u m h in
-    let (whole', same') = keeps-parts u n l in
-    let equal = live-trees (top (u .d)) (u .s1) (trees u m) (trees u n) (length-trees u m ∙ sym (length-trees u n)) whole whole' (rw (facts .largest) (facts .aligned)) e in
-    sym same ∙ rw (equal, long) same'
+    sym (keeps-parts u m h .1) ∙ rw (live-same-trees lent u fits m n h l e, long) (keeps-parts u n l .1)

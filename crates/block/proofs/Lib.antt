@@ -6,4 +6,5 @@ pub mod Each
 pub mod Tiling
 pub mod Runs
 pub mod Within
+pub mod Extension
 pub mod Laws

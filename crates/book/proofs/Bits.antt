@@ -6,7 +6,7 @@ use native.Mathlib.Omega.{arith}
 use mathlib.Core.Bool.{_&&_, cond}
 use mathlib.Core.List.{List}
 use mathlib.Core.Logic.{_⊎_, inl, inr}
-use mathlib.Core.Path.{_≡_, refl, ap, sym, _∙_}
+use mathlib.Core.Path.{_≡_, ap, sym, _∙_}
 use lib.Dec.{leb}
 use lib.ListN.{length, getD, set, take, drop, replicate, length-replicate, length-take, length-drop, getD-replicate}
 use lib.Seq.{getD-set-same, getD-set-other, getD-take, getD-drop}
@@ -14,7 +14,7 @@ use Rattle.word.specs.Word.{bit}
 use Rattle.word.specs.Field.{kept, stored}
 use Rattle.word.proofs.Field.{bit-stored}
 use Rattle.block.specs.Blocks.{sizeAt}
-use Rattle.word.proofs.Tests.{by-leb, by-eqb}
+use Rattle.word.proofs.Tests.{by-eqb}
 use Rattle.block.proofs.Each.{Each, each-nil, each-cons}
 use Rattle.machine.specs.declared.Store.{Store}
 use Rattle.machine.specs.Storage.{wordAt, placed}

@@ -1,13 +1,13 @@
 -- Demand 3: the claim holds for every list of events. What holds after each event is kept by the next, whatever it is.
 -- Assumes nothing.
-use Prim.Native.Nat.{ℕ, _^_, _<_}
+use Prim.Native.Nat.{ℕ, _<_}
 use native.Mathlib.Omega.{arith}
 use mathlib.Core.Bool.{true, false, cond}
 use mathlib.Core.List.{List, [], _∷_, List·Memᴰ, List·Memᴰ·not-nil}
 use mathlib.Core.Logic.{_⊎_, inl, inr, _↔_}
 use mathlib.Core.Path.{_≡_, refl, ap, sym, subst, _∙_}
-use borrow.Author.Tests.{eqb-true, ne-eqb, lt-ltb, not-false}
-use lib.ListN.{length, take}
+use borrow.Author.Tests.{eqb-true, ne-eqb, not-false}
+use lib.ListN.{length}
 use Rattle.block.specs.declared.SetUp.{SetUp}
 use Rattle.block.specs.Blocks.{Block, size, level}
 use Rattle.block.specs.SetUp.{words, fitting, absent}
@@ -22,26 +22,29 @@ use Rattle.machine.specs.declared.Refusal.{Refusal}
 use Rattle.machine.specs.declared.Refusal.the-variants.{NoRun}
 use Rattle.machine.specs.declared.State.{State}
 use Rattle.machine.specs.declared.Report.{Report}
-use Rattle.machine.specs.State.{fresh, noSetUp, isSetUp, isFinished}
+use Rattle.machine.specs.State.{fresh, noSetUp, isSetUp, isFinished, withSetUp, onCore, withMap}
 use Rattle.machine.specs.Storage.{noStore, noReport}
 use Rattle.machine.specs.Sound.{Lent, Engine}
 use Rattle.machine.specs.Locate.{liveBlocks}
 use Rattle.machine.specs.Effects.{Effects, storageAfter, engineAfter}
-use Rattle.machine.specs.Step.{Outcome, unchanged, carriedOut, step, engineOf, setUpAt}
+use Rattle.machine.specs.Step.{unchanged, carriedOut, step, engineOf, setUpAt}
+use Rattle.machine.specs.Extend.{Extension, isDone, notExtended, engineExtended, extendedBy, extend, engineLeft}
 use Rattle.machine.proofs.Checks.{or-parts}
-use Rattle.machine.proofs.Facts.{CoreFacts, StorageFacts, Facts}
+use Rattle.machine.proofs.Facts.{StorageFacts, Facts}
 use Rattle.machine.proofs.Fresh.{no-words, fresh-facts}
 use Rattle.machine.proofs.Live.{live-fits, live-lies}
 use Rattle.machine.proofs.Moves.{Moves, still, frees, delivers, SetsUp, Done}
 use Rattle.machine.proofs.Plan.{Planned, settingUp, moving, planned}
 use Rattle.machine.proofs.Steps.{Stepping, refusing, staying, forward, stepping}
 use Rattle.machine.proofs.Keeps.{planned-facts}
+use Rattle.machine.proofs.Extend.{Extends, refusing as declining, growing, extends, set-up-fits, extended-facts}
 use Rattle.book.specs.Book.{Book, emptyBook, Entry, blocks, enter, enterSetUp, enterFreed, enterDelivered, enterCopied, enterStore}
-use Rattle.book.specs.Steps.{Event, stepped, Leads, begin, after, isRefused, reportOf, entryOf, bookAfter, LiveBy}
+use Rattle.book.specs.Steps.{Event, stepped, extended, Leads, begin, after, after-extension, isRefused, reportOf, entryOf, bookAfter, LiveBy}
 use Rattle.book.specs.Claim.{Tiled, AlignedRun, Served, Claim}
-use Rattle.book.proofs.Maps.{fresh-live, freed-live-map, tiled}
-use Rattle.book.proofs.Matches.{Matches, matches-set-up}
-use Rattle.book.proofs.Entered.{enter-nothing, isLive, freed-fits, new-live, entered}
+use Rattle.book.proofs.Maps.{fresh-live, extended-live-map, tiled}
+use Rattle.book.proofs.Moved.{freed-fits, gone-live, new-live}
+use Rattle.book.proofs.Matches.{Matches, matches-set-up, matches-extended}
+use Rattle.book.proofs.Entered.{enter-nothing, entered}
 use Rattle.book.proofs.Reported.{live-none as none-live, reported-still, reported-freed, reported-delivered}
 use Rattle.book.proofs.Served.{served}
 
@@ -76,30 +79,30 @@ holds-at-first b ws =
       reported = λ x. (λ m. absurd (List·Memᴰ·not-nil (subst (List·Memᴰ x) (live-none noSetUp _ no-words) m)), λ h. absurd (none-live h));
     }
 
+-- live blocks do not start at address 0
+positive : {b : ℕ} {e : Engine} → Facts b e → (x : Block) → List·Memᴰ x (liveBlocks e) → 0 < x .address
+positive {b} {e} facts x m =
+    let low = live-lies b (e .state) (e .storage) (facts .storage) x m .first in
+    let pos = fitting-facts _ (e .state .core .setup) (live-fits b (e .state) (e .storage) (facts .storage) x m) .first in
+    omega arith
+
 module _ (b : ℕ) (events : List Event) (e : Engine) (h : Holds b events e) (l : Lent) where
   abbrev u : SetUp
   u = e .state .core .setup
 
-  -- live blocks do not start at address 0
-  positive : (x : Block) → List·Memᴰ x (liveBlocks e) → 0 < x .address
-  positive x m =
-      let low = live-lies b (e .state) (e .storage) (h .facts .storage) x m .first in
-      let pos = fitting-facts _ u (live-fits b (e .state) (e .storage) (h .facts .storage) x m) .first in
-      omega arith
-
   -- a step that leaves all as it was
-  kept : (answer : Answer) → entryOf (stepped l e (unchanged answer l e)) ≡ record { setup = noSetUp; report = noReport }
+  kept : (answer : Answer) → entryOf l e (unchanged answer l e) ≡ record { setup = noSetUp; report = noReport }
       → Holds b (stepped l e (unchanged answer l e) ∷ events) (engineOf (unchanged answer l e))
   unfolding bookAfter engineOf unchanged reportOf noReport
   kept answer nothing =
       record {
         facts = h .facts;
         matches = subst (Matches b u (e .state .map) (e .storage)) (sym (ap (λ x. enter x (bookAfter events)) nothing ∙ enter-nothing (bookAfter events))) (h .matches);
-        reported = reported-still (stepped l e (unchanged answer l e)) events (liveBlocks e) (h .reported) positive refl refl;
+        reported = reported-still (stepped l e (unchanged answer l e)) events (liveBlocks e) (h .reported) (positive (h .facts)) refl refl;
       }
 
   -- a step that carries its effects out enters its report and the set-up's numbers
-  entry-forward : (x : Effects) → entryOf (stepped l e (carriedOut b x l e)) ≡ record { setup = setUpAt l e; report = x .report }
+  entry-forward : (x : Effects) → entryOf l e (carriedOut b x l e) ≡ record { setup = setUpAt l e; report = x .report }
   unfolding entryOf carriedOut isRefused
   entry-forward x =
       let full : Entry = record { setup = setUpAt l e; report = x .report } in
@@ -130,17 +133,16 @@ module _ (b : ℕ) (events : List Event) (e : Engine) (h : Holds b events e) (l 
     unfolding reportOf carriedOut
     moves-reported (still s) =
         subst (λ m. (y : Block) → List·Memᴰ y (live u m) ↔ LiveBy y (event ∷ events)) (sym (s .map))
-        (reported-still event events (liveBlocks e) (h .reported) positive (s .freed) (s .size))
+        (reported-still event events (liveBlocks e) (h .reported) (positive (h .facts)) (s .freed) (s .size))
     moves-reported (frees f) =
-        let fits = freed-fits b e (h .facts) x (bookAfter events) (h .matches) f in
-        let same = freed-live-map _ u fits (e .state .map) (h .facts .storage .blocks) (x .report .freed) (isLive b e (h .facts) x (bookAfter events) (h .matches) f) in
+        let fits = freed-fits b e (h .facts) x f in
         subst (λ m. (y : Block) → List·Memᴰ y (live u m) ↔ LiveBy y (event ∷ events)) (sym (f .map))
-        (subst (λ bs. (y : Block) → List·Memᴰ y bs ↔ LiveBy y (event ∷ events)) (sym same)
-        (reported-freed event events (liveBlocks e) (h .reported) positive (map-order _ u fits (e .state .map) .0) (x .report .freed) refl (f .size)))
+        (subst (λ bs. (y : Block) → List·Memᴰ y bs ↔ LiveBy y (event ∷ events)) (sym (gone-live b e (h .facts) x f))
+        (reported-freed event events (liveBlocks e) (h .reported) (positive (h .facts)) (map-order _ u fits (e .state .map) .0) (x .report .freed) refl (f .size)))
     moves-reported (delivers d) =
         subst (λ m. (y : Block) → List·Memᴰ y (live u m) ↔ LiveBy y (event ∷ events)) (sym (d .map))
-        (subst (λ bs. (y : Block) → List·Memᴰ y bs ↔ LiveBy y (event ∷ events)) (sym (new-live b e (h .facts) x (bookAfter events) (h .matches) d))
-        (reported-delivered event events (liveBlocks e) (h .reported) positive (d .freed) (x .report .delivered) (x .report .size) refl refl
+        (subst (λ bs. (y : Block) → List·Memᴰ y bs ↔ LiveBy y (event ∷ events)) (sym (new-live b e (h .facts) x d))
+        (reported-delivered event events (liveBlocks e) (h .reported) (positive (h .facts)) (d .freed) (x .report .delivered) (x .report .size) refl refl
         (rw (d .size) (size-pos (d .level)))))
 
     -- any operation but a set-up
@@ -172,7 +174,7 @@ module _ (b : ℕ) (events : List Event) (e : Engine) (h : Holds b events e) (l 
 
         no-moves : SetsUp (e .storage) (e .state .map) (setUpAt l e) x → (y : Block) → List·Memᴰ y (liveBlocks e) ↔ LiveBy y (event ∷ events)
         no-moves up =
-            reported-still event events (liveBlocks e) (h .reported) positive
+            reported-still event events (liveBlocks e) (h .reported) (positive (h .facts))
             (ap (λ (r : Report). r .freed) (up .report)) (ap (λ (r : Report). r .size) (up .report))
 
   -- the step of a plan
@@ -188,11 +190,11 @@ module _ (b : ℕ) (events : List Event) (e : Engine) (h : Holds b events e) (l 
       rw (ne-eqb (e .state .core .place .kind) 1 (λ one. absurd (omega arith)))
 
   -- neither a refused step nor a finished engine enters anything
-  refused-enters : (r : Refusal) → entryOf (stepped l e (unchanged (Refused r) l e)) ≡ record { setup = noSetUp; report = noReport }
+  refused-enters : (r : Refusal) → entryOf l e (unchanged (Refused r) l e) ≡ record { setup = noSetUp; report = noReport }
   unfolding entryOf unchanged isRefused
   refused-enters r = refl
 
-  finished-enters : isFinished (e .state .core .place) ≡ true → entryOf (stepped l e (unchanged Finished l e)) ≡ record { setup = noSetUp; report = noReport }
+  finished-enters : isFinished (e .state .core .place) ≡ true → entryOf l e (unchanged Finished l e) ≡ record { setup = noSetUp; report = noReport }
   unfolding entryOf unchanged isRefused
   finished-enters f = ap (λ (v : SetUp). record { setup = v; report = noReport }) (finished-asks-none f)
 
@@ -207,17 +209,50 @@ module _ (b : ℕ) (events : List Event) (e : Engine) (h : Holds b events e) (l 
           let plan = planned b l e facts f x p in
           subst (λ o. Holds b (stepped l e o ∷ events) (engineOf o)) (sym o) (after-plan x plan (planned-facts b e facts x l plan))
 
+-- an extension
+module _ (b : ℕ) (events : List Event) (e : Engine) (h : Holds b events e) (last : ℕ) where
+  after-any-extension : Holds b (extended last e (extend b last e) ∷ events) (engineLeft (extend b last e))
+  unfolding bookAfter engineLeft notExtended extendedBy engineExtended onCore withMap withSetUp isDone reportOf noReport
+  after-any-extension = go (extends b last e)
+    where
+      u : SetUp
+      u = e .state .core .setup
+
+      -- no block is freed or delivered
+      same-live : (x : Extension) (y : Block) → List·Memᴰ y (liveBlocks e) ↔ LiveBy y (extended last e x ∷ events)
+      same-live x = reported-still (extended last e x) events (liveBlocks e) (h .reported) (positive (h .facts)) refl refl
+
+      go : Extends b last e (extend b last e) → Holds b (extended last e (extend b last e) ∷ events) (engineLeft (extend b last e))
+      go (declining answer f x) =
+          subst (λ x. Holds b (extended last e x ∷ events) (engineLeft x)) (sym x)
+          (record { facts = h .facts; matches = rw f (h .matches); reported = same-live (notExtended answer e) })
+      go (growing facts up taken x) =
+          let fits = set-up-fits b e facts up in
+          let same = extended-live-map (length (e .storage)) u fits (e .state .map) (facts .storage .blocks) last taken in
+          subst (λ x. Holds b (extended last e x ∷ events) (engineLeft x)) (sym x)
+          (record {
+            facts = extended-facts b last e facts up taken;
+            matches = matches-extended b u (e .state .map) (e .storage) (bookAfter events) last fits (facts .storage .blocks) taken (h .matches);
+            reported = subst (λ bs. (y : Block) → List·Memᴰ y bs ↔ LiveBy y (extended last e (extendedBy last e) ∷ events)) (sym same)
+                (same-live (extendedBy last e));
+          })
+
 -- what holds after every list of events
-holds : {b : ℕ} {ws : List ℕ} {events : List Event} {e : Engine} → Leads b ws events e → Holds b events e
+pub holds : {b : ℕ} {ws : List ℕ} {events : List Event} {e : Engine} → Leads b ws events e → Holds b events e
 holds {b} {ws} begin = holds-at-first b ws
 holds {b} (after {events = events} {e = e} before l) = after-step b events e (holds before) l
+holds {b} (after-extension {events = events} {e = e} before last) = after-any-extension b events e (holds before) last
 
 -- each get and duplicate of the list
 all-served : {b : ℕ} {ws : List ℕ} {events : List Event} {e : Engine} → Leads b ws events e → Served b events
 unfolding Served
 all-served begin = tt
-all-served {b} (after {events = events} {e = e} before l) =
-    (λ w wants. served b l e w wants events (holds before .reported), all-served before)
+all-served {b} (after {events = events} {e = e} before l) = (
+  λ w wants. subst (λ u. (step b l e .stepped .answer ≡ Refused NoRun) ↔ ((at : ℕ) → AlignedRun u events (w .words) at → ⊥))
+      (sym (holds before .matches .setup)) (served b l e w wants events (holds before .reported)),
+  all-served before,
+)
+all-served (after-extension before last) = all-served before
 
 -- before a set-up there is nothing to tile
 tiled-none : (v : SetUp) → words v ≡ 0 → Tiled v [] []
@@ -253,7 +288,9 @@ demand-3 b ws events e leads =
       reported = h .reported;
       live = h .matches .live;
       free = h .matches .free;
-      tiled = all-tiled b (e .state) (e .storage) (h .facts .storage);
-      bits = λ x i. each-mem (h .matches .bits) i;
+      setup = sym (h .matches .setup);
+      tiled = subst (λ u. Tiled u (liveBlocks e) (free (e .state .core .setup) (e .state .map))) (sym (h .matches .setup))
+          (all-tiled b (e .state) (e .storage) (h .facts .storage));
+      bits = λ x m i p. rw (h .matches .setup) (each-mem (h .matches .bits) m i p);
       served = all-served leads;
     }

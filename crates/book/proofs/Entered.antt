@@ -13,7 +13,7 @@ use Rattle.block.specs.declared.SetUp.{SetUp}
 use Rattle.block.specs.Blocks.{Block, size, sizeAt}
 use Rattle.block.specs.SetUp.{fitting}
 use Rattle.block.specs.Map.{live, freedMap, deliveredMap}
-use Rattle.block.proofs.Size.{size-pos, fitting-facts}
+use Rattle.block.proofs.Size.{size-pos}
 use Rattle.block.proofs.Tiling.{map-order, order-sizeAt, sizeAt-mem}
 use Rattle.block.proofs.Runs.{runs-sound, outside-mem}
 use Rattle.machine.specs.declared.Report.{Report}
@@ -25,13 +25,13 @@ use Rattle.machine.specs.Effects.{Effects, storageAfter}
 use Rattle.machine.proofs.Checks.{nonzero}
 use Rattle.machine.proofs.Facts.{Facts}
 use Rattle.machine.proofs.Located.{InBlocks, StoreFacts, nowhere, inBlock}
-use Rattle.machine.proofs.Live.{live-fits, live-lies}
+use Rattle.machine.proofs.Live.{live-fits}
 use Rattle.machine.proofs.Placed.{length-store}
 use Rattle.machine.proofs.Moves.{Still, Frees, Delivers, Moves, still, frees, delivers}
 use Rattle.machine.proofs.Keeps.{stores-only, not-zeroed, delivery-fits, delivered-long, copied-long, delivery-storage}
-use Rattle.book.specs.Book.{Book, start, inserted, enterSetUp, enterFreed, enterDelivered, enterCopied, enterStore, enter}
+use Rattle.book.specs.Book.{Book, start, enterSetUp, enterFreed, enterDelivered, enterCopied, enterStore, enter}
 use Rattle.book.proofs.Lists.{inserted-new, inserted-old, inserted-cases, without-other}
-use Rattle.book.proofs.Maps.{freed-live-map, delivered-live-map}
+use Rattle.book.proofs.Moved.{isLive, freed-fits, freed-some, gone-live, new-live}
 use Rattle.book.proofs.Matches.{Matches, matches-store, matches-freed, matches-delivered, matches-copied}
 
 -- nothing is entered of a report that has nothing
@@ -95,34 +95,22 @@ module _ (b : ℕ) (e : Engine) (h : Facts b e) (x : Effects) (k : Book) (old : 
       (stored-twice m (e .storage) k (live-fits b (e .state) (e .storage) (h .storage)) (s .first) (s .second) old)))
 
   module _ (f : Frees b u m x) where
-    pub isLive : sizeAt (r .freed) (live u m) ≡ 0 → ⊥
-    isLive = nonzero _ (f .isLive)
-
-    the-block : List·Memᴰ (record { address = r .freed; size = sizeAt (r .freed) (live u m) }) (live u m)
-    the-block = sizeAt-mem (r .freed) (live u m) isLive
-
-    pub freed-fits : fitting (length (e .storage)) u ≡ true
-    freed-fits = live-fits b (e .state) (e .storage) (h .storage) _ the-block
-
-    freed-some : r .freed ≡ 0 → ⊥
-    freed-some z =
-        let low = live-lies b (e .state) (e .storage) (h .storage) _ the-block .first in
-        let pos = fitting-facts _ u freed-fits .first in
-        absurd (omega arith)
+    abbrev freed-in : fitting (length (e .storage)) u ≡ true
+    freed-in = freed-fits b e h x f
 
     -- the store's block is not the one that is freed
     spared : (i : InBlocks (live u m) (r .first .address)) → List·Memᴰ (i .block) (live u (freedMap (r .freed) u m))
     unfolding start
     spared i =
-        rw (freed-live-map _ u freed-fits m (h .storage .blocks) (r .freed) isLive)
+        rw (gone-live b e h x f)
         (without-other start (r .freed) (λ (same : i .block .address ≡ r .freed). clash same (f .clear)) (i .isOne))
       where
         clash : i .block .address ≡ r .freed → (r .first .address ≡ 0)
             ⊎ ((r .first .address < r .freed) ⊎ (r .freed + sizeAt (r .freed) (live u m) ≤ r .first .address)) → ⊥
-        clash same (inl z) = absurd (freed-some (omega (arith, i .low)))
+        clash same (inl z) = absurd (freed-some b e h x f (omega (arith, i .low)))
         clash same (inr (inl before)) = omega (arith, i .low)
         clash same (inr (inr past)) =
-            let long = order-sizeAt (map-order _ u freed-fits m .0) (i .isOne) in
+            let long = order-sizeAt (map-order _ u freed-in m .0) (i .isOne) in
             let size : sizeAt (r .freed) (live u m) ≡ i .block .size = ap (λ d. sizeAt d (live u m)) (sym same) ∙ long in
             omega (arith, i .high)
 
@@ -136,8 +124,8 @@ module _ (b : ℕ) (e : Engine) (h : Facts b e) (x : Effects) (k : Book) (old : 
         subst (λ map. After map (storageAfter b x (e .storage))) (sym (f .map))
         (subst (After m′) (sym storage)
         (subst (Matches b u m′ _) (sym (enter-free r k (f .size) (f .copied)))
-        (stored-twice m′ (e .storage) _ (λ y i. freed-fits) (wider b _ _ (r .first) spared (f .first)) (nowhere (ap (λ s. s .address) (f .second)))
-        (matches-freed b u m (e .storage) k (r .freed) freed-fits (h .storage .blocks) isLive freed-some old))))
+        (stored-twice m′ (e .storage) _ (λ y i. freed-in) (wider b _ _ (r .first) spared (f .first)) (nowhere (ap (λ s. s .address) (f .second)))
+        (matches-freed b u m (e .storage) k (r .freed) freed-in (h .storage .blocks) (isLive b e h x f) (freed-some b e h x f) old))))
 
   module _ (d : Delivers b u m x) where
     abbrev fits : fitting (length (e .storage)) u ≡ true
@@ -146,24 +134,18 @@ module _ (b : ℕ) (e : Engine) (h : Facts b e) (x : Effects) (k : Book) (old : 
     abbrev m₁ : List ℕ
     m₁ = deliveredMap (d .level) (r .delivered) u m
 
-    -- the live blocks are those before and the new one
-    pub new-live : live u m₁ ≡ inserted start (record { address = r .delivered; size = r .size }) (live u m)
-    new-live =
-        delivered-live-map _ u fits m (h .storage .blocks) (d .level) (r .delivered) (d .levelFits) (d .isRun)
-        ∙ ap (λ (n : ℕ). inserted start (record { address = r .delivered; size = n }) (live u m)) (sym (d .size))
-
     grown : (y : Block) → List·Memᴰ y (live u m) → List·Memᴰ y (live u m₁)
-    grown y i = rw new-live (inserted-old start _ i)
+    grown y i = rw (new-live b e h x d) (inserted-old start _ i)
 
     new-one : List·Memᴰ (record { address = r .delivered; size = r .size }) (live u m₁)
-    new-one = rw new-live (inserted-new start _ (live u m))
+    new-one = rw (new-live b e h x d) (inserted-new start _ (live u m))
 
     others-apart : (y : Block) → List·Memᴰ y (live u m₁) → (y .address ≡ r .delivered → ⊥) → (y .address + y .size ≤ r .delivered) ⊎ (r .delivered + r .size ≤ y .address)
     others-apart y i other =
         ⊎-elim (λ same. absurd (other (ap (λ (z : Block). z .address) same)))
         (λ o. rw (d .size) (outside-mem (r .delivered) (size (d .level)) (live u m)
         (runs-sound (size (d .level)) u (live u m) (size-pos (d .level)) (d .isRun) .2) o))
-        (inserted-cases start _ y (live u m) (rw new-live at i))
+        (inserted-cases start _ y (live u m) (rw (new-live b e h x d) at i))
 
     copied-one : (r .copied ≡ 0) ⊎ List·Memᴰ (record { address = r .copied; size = r .size }) (live u m₁)
     copied-one = go (d .copied)

@@ -4,6 +4,7 @@ pub mod Local
 pub mod Delivered
 pub mod Freed
 pub mod Maps
+pub mod Moved
 pub mod Lists
 pub mod Bits
 pub mod Matches

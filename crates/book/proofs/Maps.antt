@@ -1,17 +1,20 @@
--- The blocks that a map tells, before and after a set-up, a free and a delivery, are as the book enters them.
+-- The blocks that a map tells, before and after a set-up, an extension, a free and a delivery, are as the book enters them.
 -- Assumes nothing.
-use Prim.Native.Nat.{ℕ, _+_, _*_, _/_, _%_, _≤_}
+use Prim.Native.Nat.{ℕ, suc, _+_, _-_, _*_, _/_, _%_, _≤_}
+use native.Mathlib.Omega.{arith}
 use mathlib.Core.Bool.{true, false}
-use mathlib.Core.List.{List, [], List·Memᴰ}
+use mathlib.Core.List.{List, [], _++_, append-nil, List·Memᴰ}
 use mathlib.Core.Path.{_≡_, ap, subst, _∙_}
-use lib.ListN.{length}
+use lib.ListN.{length, replicate}
 use Rattle.block.specs.declared.SetUp.{SetUp}
-use Rattle.block.specs.Blocks.{Block, size, freeIn, gathered, sizeAt, outside}
+use Rattle.block.specs.Blocks.{Block, Free, size, liveIn, freeIn, gathered, sizeAt, outside}
 use Rattle.block.specs.SetUp.{top, words, fitting, runs}
 use Rattle.block.specs.Map.{allCanonical, trees, keeps, live, free, freshMap, freedMap, deliveredMap}
+use Rattle.block.specs.Extension.{extendedTo, extending, extendedMap}
 use Rattle.block.proofs.Size.{size-pos, size-mono, fitting-facts, aligned-smaller}
 use Rattle.block.proofs.Map.{keeps-parts, trees-fill}
 use Rattle.block.proofs.Change.{words-whole, fresh-tells, keeps-freed, keeps-delivered}
+use Rattle.block.proofs.Extension.{gathered-append, first-added, extended-tells}
 use Rattle.block.proofs.Each.{each-mem}
 use Rattle.block.proofs.Tiling.{map-each, map-tiles, tiles-once}
 use Rattle.block.proofs.Runs.{runs-sound, runs-aligned}
@@ -85,6 +88,24 @@ module _ (lent : ℕ) (u : SetUp) (fits : fitting lent u ≡ true) where
           rw (keeps-delivered lent u fits m kept j a .tells)
           (delivered-free j a k (u .s1) (trees u m) first-aligned canonical-trees fitsIn aligned first last out
           ∙ ap (λ d. without start a (times d (halvedOnce a (size j)) (gathered (freeIn k) k (u .s1) (trees u m)))) largest)
+
+    -- after an extension
+    module _ (last : ℕ) (taken : extending lent last u ≡ true) where
+      tells : trees (extendedTo last u) (extendedMap last u m) ≡ trees u m ++ replicate ((last - u .s2) / size k) Free
+      tells = extended-tells lent lent last u fits taken m kept
+
+      pub extended-live-map : live (extendedTo last u) (extendedMap last u m) ≡ live u m
+      unfolding live extendedTo
+      extended-live-map =
+          rw (tells, gathered-append (liveIn k) k (u .s1) (trees u m) _, fresh-blocks k (u .s1 + length (trees u m) * size k) ((last - u .s2) / size k) .1, append-nil)
+
+      pub extended-free-map : free (extendedTo last u) (extendedMap last u m)
+          ≡ free u m ++ blocksFrom (u .d) (suc (u .s2)) ((last - u .s2) / u .d)
+      unfolding free extendedTo
+      extended-free-map =
+          let first : u .s1 + length (trees u m) * size k ≡ suc (u .s2) = omega (arith, fill, first-added lent lent last u fits taken) in
+          rw (tells, gathered-append (freeIn k) k (u .s1) (trees u m) _, fresh-blocks k (u .s1 + length (trees u m) * size k) ((last - u .s2) / size k) .0, first)
+          (ap (λ d. gathered (freeIn k) k (u .s1) (trees u m) ++ blocksFrom d (suc (u .s2)) ((last - u .s2) / d)) largest)
 
     -- live and free blocks tile the set-up words
     pub tiled : Tiled u (live u m) (free u m)

@@ -1,4 +1,4 @@
--- The book matches set-up numbers, map and storage, and each entry keeps it so: set-up, freed, delivered, copied, stored.
+-- The book matches set-up numbers, map and storage, and each entry keeps it so: set-up, extension, freed, delivered, copied, stored.
 -- Assumes nothing.
 use Prim.Native.Nat.{ℕ, _+_, _-_, _≤_}
 use native.Mathlib.Omega.{arith}
@@ -14,8 +14,10 @@ use Rattle.block.specs.declared.SetUp.{SetUp}
 use Rattle.block.specs.Blocks.{Block, size, sizeAt}
 use Rattle.block.specs.SetUp.{top, words, fitting, runs}
 use Rattle.block.specs.Map.{live, free, keeps, freshMap, freedMap, deliveredMap}
+use Rattle.block.specs.Extension.{extendedTo, extending, extendedMap}
 use Rattle.word.proofs.Tests.{by-eqb, either-way}
 use Rattle.block.proofs.Size.{size-pos, fitting-facts}
+use Rattle.block.proofs.Extension.{extending-facts, extended-words}
 use Rattle.block.proofs.Each.{Each, each-nil, each-map, each-mem, mem-each}
 use Rattle.block.proofs.Tiling.{Lies, map-order, order-each, order-sizeAt}
 use Rattle.block.proofs.Runs.{runs-sound, outside-each}
@@ -23,8 +25,8 @@ use Rattle.machine.specs.declared.Store.{Store}
 use Rattle.machine.specs.declared.Report.{Report}
 use Rattle.machine.specs.Storage.{wordAt, placed, withStore, withDelivery, withCopy}
 use Rattle.machine.proofs.Located.{StoreFacts, nowhere, inBlock}
-use Rattle.book.specs.Book.{Book, LiveBlock, start, liveStart, inserted, without, times, joinedOnce, halvedOnce, blocks, noBits, bitsAt, storedBits, enterSetUp, enterFreed, enterDelivered, enterCopied, enterStore}
-use Rattle.book.proofs.Maps.{fresh-live, fresh-free, freed-live-map, freed-free-map, delivered-live-map, delivered-free-map}
+use Rattle.book.specs.Book.{Book, LiveBlock, start, liveStart, inserted, without, times, joinedOnce, halvedOnce, blocks, noBits, bitsAt, storedBits, enterSetUp, enterExtension, enterFreed, enterDelivered, enterCopied, enterStore}
+use Rattle.book.proofs.Maps.{fresh-live, fresh-free, extended-live-map, extended-free-map, freed-live-map, freed-free-map, delivered-live-map, delivered-free-map}
 use Rattle.book.proofs.Lists.{each-inserted, each-without, each-blocks, each-both, each-changed, blocks-inserted, blocks-without}
 use Rattle.book.proofs.Bits.{BlockBits, store-bits, placed-other, zero-bits, copy-bits}
 
@@ -84,6 +86,26 @@ module _ (b : ℕ) (u : SetUp) (m : List ℕ) where
                 (each-map (λ x p. store-bits b (u .s1) s ws r bits (omega arith) (omega arith) x (p .0 .first) (p .1))
                 (each-both (lives-lie (length ws) fits k (h .live)) (h .bits)));
           }
+
+  -- an extension
+  pub matches-extended : (ws : List ℕ) (k : Book) (last : ℕ) → fitting (length ws) u ≡ true → keeps u m ≡ true
+      → extending (length ws) last u ≡ true → Matches b u m ws k
+      → Matches b (extendedTo last u) (extendedMap last u m) (placed (words u) (replicate (last - u .s2) 0) ws) (enterExtension last k)
+  unfolding enterExtension extendedTo
+  matches-extended ws k last fits kept taken h =
+      let n = length ws in
+      let zeros : List ℕ = replicate (last - u .s2) 0 in
+      let lies = extending-facts n last u taken .lies in
+      let long : u .s1 + words u - u .s1 ≡ words u = omega arith in
+      let inside : u .s1 + words u - u .s1 + length zeros ≤ n = rw length-replicate (omega (arith, extended-words n n last u fits taken)) in
+      record {
+        setup = ap (extendedTo last) (h .setup);
+        live = extended-live-map n u fits m kept last taken ∙ h .live;
+        free = extended-free-map n u fits m kept last taken ∙ rw (h .free, h .setup) refl;
+        bits = subst (λ (i : ℕ). Each (BlockBits b (u .s1) (placed i zeros ws)) (k .live)) long
+            (each-map (λ x p. placed-other b (u .s1) (u .s1 + words u) zeros ws (omega arith) inside x (p .0 .first) (inl (p .0 .last)) (p .1))
+            (each-both (lives-lie n fits k (h .live)) (h .bits)));
+      }
 
   -- a free
   pub matches-freed : (ws : List ℕ) (k : Book) (a : ℕ) → fitting (length ws) u ≡ true → keeps u m ≡ true

@@ -2,7 +2,6 @@
 use Prim.Native.Nat.{ℕ, zero, suc}
 use mathlib.Core.Bool.{true, false}
 use mathlib.Core.List.{List, _∷_}
-use mathlib.Core.Path.{_≡_, refl}
 use Rattle.machine.specs.Answer.{isRunning}
 use Rattle.machine.specs.Sound.{Lent, Engine}
 use Rattle.machine.specs.Step.{Outcome, step, engineOf, ending, runFrom, run, engineRan}

@@ -4,33 +4,33 @@ use Prim.Native.Nat.{ℕ, _%_, _≤_, _<_}
 use native.Mathlib.Omega.{arith}
 use mathlib.Core.Bool.{Bool, true, false, cond}
 use mathlib.Core.List.{List, [], _∷_, List·Memᴰ, List·Memᴰ·head, List·Memᴰ·not-nil}
-use mathlib.Core.Logic.{_⊎_, inl, inr, _↔_}
+use mathlib.Core.Logic.{_⊎_, inl, inr, _↔_, ⊎-elim}
 use mathlib.Core.Path.{_≡_, refl, ap, sym, subst, _∙_}
 use borrow.Author.Tests.{eq-eqb, ne-eqb}
 use lib.Dec.{eqb}
 use lib.ListN.{length}
+use Rattle.word.proofs.Tests.{by-test}
 use Rattle.block.specs.Blocks.{Block, size, level}
-use Rattle.block.specs.SetUp.{top, words, fitting, absent, runs}
-use Rattle.block.proofs.Size.{size-pos, level-le, aligned-smaller, fitting-facts, absent-facts}
+use Rattle.block.specs.SetUp.{top, words, fitting, runs}
+use Rattle.block.proofs.Size.{size-pos, level-le, aligned-smaller, fitting-facts}
 use Rattle.block.proofs.Runs.{runs-sound, runs-aligned, runs-complete, outside-mem, mem-outside}
-use Rattle.table.specs.declared.FieldName.{FieldName}
-use Rattle.table.specs.declared.Pair.{Pair}
 use Rattle.table.specs.Row.{rowAt}
 use Rattle.machine.specs.declared.Refusal.{Refusal}
-use Rattle.machine.specs.declared.Refusal.the-variants.{NoRun}
-use Rattle.machine.specs.declared.Location.{Location}
+use Rattle.machine.specs.declared.Refusal.the-variants.{NoRun, Unsound}
 use Rattle.machine.specs.declared.Answer.the-variants.{Running, Finished, Refused}
 use Rattle.machine.specs.Answer.{Checked, refused, passed, _>>=_, _>>_, need}
-use Rattle.machine.specs.State.{isSetUp, isFinished, onCore, movedTo}
-use Rattle.machine.specs.Sound.{Lent, Engine}
-use Rattle.machine.specs.Locate.{World, world, liveBlocks, linkBy, link, follow, locate, contents}
+use Rattle.machine.specs.State.{isFinished, onCore, movedTo, isSetUp}
+use Rattle.machine.specs.Sound.{Lent, Engine, sound}
+use Rattle.machine.specs.Locate.{world, liveBlocks, locate, contents}
 use Rattle.machine.specs.Effects.{Effects, engineAfter}
 use Rattle.machine.specs.Operations.{Given, Wanted, getWants, duplicateWants, delivering, andStoring, get, duplicate, firstRun, lowestRun, meaning, meaningOf, operationOf, operations}
 use Rattle.machine.specs.Step.{given, inTurn, operationStep, plan, outcome, unchanged, carriedOut, step}
-use Rattle.machine.proofs.Checks.{or-parts, nonzero, need-passed, bind-passed, passed-same}
+use Rattle.machine.proofs.Checks.{need-passed, bind-passed, passed-same}
 use Rattle.machine.proofs.Facts.{Facts}
 use Rattle.machine.proofs.Live.{live-size}
 use Rattle.machine.proofs.Steps.{sound-engine}
+use Rattle.machine.proofs.Extend.{set-up-fits}
+use Rattle.machine.proofs.Wanting.{fine, never, bind-fine, locate-fine, get-wants-fine, duplicate-wants-fine, no-run-delivers}
 use Rattle.book.specs.Steps.{Event, LiveBy}
 use Rattle.book.specs.Claim.{AlignedRun, Wants}
 
@@ -41,36 +41,6 @@ Other r = r ≡ NoRun → ⊥
 -- checks that never refuse for want of storage
 abbrev Never : {A : Type 0} → Checked A → Type 0
 Never m = m ≡ refused NoRun → ⊥
-
-never-bind : {A B : Type 0} (m : Checked A) (f : A → Checked B) → Never m → ((x : A) → Never (f x)) → Never (m >>= f)
-unfolding _>>=_
-never-bind (refused r) f h k e = h (let same : r ≡ NoRun = cc in ap refused same)
-never-bind (passed x) f h k e = k x e
-
-never-need : {A : Type 0} (t : Bool) (r : Refusal) (m : Checked A) → Other r → Never m → Never (need t r >> m)
-unfolding need _>>_
-never-need true r m h k e = k e
-never-need false r m h k e = h cc
-
-never-passed : {A : Type 0} (x : A) → Never (passed x)
-never-passed x e = let never : _≡_ {A = ℕ} 0 1 = cc in omega arith
-
--- locating a reference never refuses for want of storage
-never-link : (w : World) (pointer : ℕ) (f : FieldName) → Never (link w pointer f)
-unfolding link linkBy
-never-link w pointer f =
-    never-need _ _ _ (λ q. let never : _≡_ {A = ℕ} 0 1 = cc in omega arith)
-    (never-need _ _ _ (λ q. let never : _≡_ {A = ℕ} 0 1 = cc in omega arith)
-    (never-need _ _ _ (λ q. let never : _≡_ {A = ℕ} 0 1 = cc in omega arith) (never-passed _)))
-
-never-follow : (b : ℕ) (w : World) (at : Location) (fs : List FieldName) → Never (follow b w at fs)
-unfolding follow
-never-follow b w at [] = never-passed at
-never-follow b w at (f ∷ fs) = never-bind _ _ (never-link w (contents b w at) f) (λ next. never-follow b w next fs)
-
-never-locate : (b : ℕ) (w : World) (p : Pair) → Never (locate b w p)
-unfolding locate
-never-locate b w p = never-follow b w _ _
 
 -- a delivery is refused for want of storage exactly when there is no run
 refused-without-run : {A : Type 0} (rs : List ℕ) (rest : ℕ → Checked A) → ((a : ℕ) → Never (rest a))
@@ -95,12 +65,12 @@ module _ (b : ℕ) (g : Given) (w : Wanted) where
       rest : (a : ℕ) (t : Bool) → Never (cond t (passed (delivering b w a (g .engine .state)))
           (locate b (world (engineAfter b (delivering b w a (g .engine .state)) (g .engine))) (g .row .third)
           >>= λ a2. passed (andStoring b a2 (contents b (world (g .engine)) (w .a)) (delivering b w a (g .engine .state)))))
-      rest a true = never-passed _
-      rest a false = never-bind _ _ (never-locate b _ (g .row .third)) (λ a2. never-passed _)
+      rest a true = never fine
+      rest a false = never (bind-fine (locate-fine b _ (g .row .third)) (λ a2. fine))
 
   duplicate-refused : duplicateWants b g ≡ passed w → duplicate b g ≡ refused NoRun ↔ found ≡ []
   unfolding duplicate lowestRun _>>=_
-  duplicate-refused k = rw (k, _>>=_) (refused-without-run found _ (λ a. never-passed _))
+  duplicate-refused k = rw (k, _>>=_) (refused-without-run found _ (λ a. never fine))
 
 -- the answer is a refusal for want of storage exactly when the plan is
 never-carried : (t : Bool) → cond t Finished Running ≡ Refused NoRun → ⊥
@@ -110,7 +80,7 @@ never-carried false e = let never : _≡_ {A = ℕ} 0 1 = cc in omega arith
 outcome-refused : (b : ℕ) (p : Checked Effects) (l : Lent) (e : Engine) → outcome b p l e .stepped .answer ≡ Refused NoRun ↔ p ≡ refused NoRun
 unfolding outcome unchanged carriedOut
 outcome-refused b (refused r) l e = (λ k. let same : r ≡ NoRun = cc in ap refused same, λ k. let same : r ≡ NoRun = cc in ap Refused same)
-outcome-refused b (passed x) l e = (λ k. absurd (never-carried (isFinished (x .state .core .place)) k), λ k. absurd (never-passed x k))
+outcome-refused b (passed x) l e = (λ k. absurd (never-carried (isFinished (x .state .core .place)) k), λ k. absurd (never (fine {x = x}) k))
 
 both-ways : {A B C : Type 0} → A ↔ B → B ↔ C → A ↔ C
 both-ways f g = (λ a. g .0 (f .0 a), λ c. f .1 (g .1 c))
@@ -189,13 +159,7 @@ module _ (b : ℕ) (l : Lent) (e : Engine) (w : Wanted) (h : Wants b l e w) wher
     positive = let (j, _, same) = wanted-size facts in rw same (size-pos j)
 
     pub numbers-fit : fitting (length (e .storage)) (e .state .core .setup) ≡ true
-    unfolding isSetUp
-    numbers-fit = go (or-parts _ _ (facts .storage .numbers))
-      where
-        go : (fitting (length (e .storage)) (e .state .core .setup) ≡ true) ⊎ (absent (e .state .core .setup) ≡ true)
-            → fitting (length (e .storage)) (e .state .core .setup) ≡ true
-        go (inl f) = f
-        go (inr a) = absurd (nonzero (e .state .core .setup .d) (h .inTurn) (absent-facts (e .state .core .setup) a .largest))
+    numbers-fit = set-up-fits b e facts (h .inTurn)
 
     pub first-aligned : e .state .core .setup .s1 % w .words ≡ 0
     first-aligned =
@@ -229,3 +193,90 @@ module _ (b : ℕ) (l : Lent) (e : Engine) (w : Wanted) (h : Wants b l e w) wher
 
     pub served : step b l e .stepped .answer ≡ Refused NoRun ↔ ((at : ℕ) → AlignedRun (e .state .core .setup) events (w .words) at → ⊥)
     served = both-ways (answered (meant .0)) (both-ways (meant .1) no-run)
+
+-- a check before a refusal for want of storage has passed
+need-cleared : {A : Type 0} (t : Bool) (r : Refusal) (m : Checked A) → Other r → (need t r >> m) ≡ refused NoRun
+    → (t ≡ true) × (m ≡ refused NoRun)
+unfolding need _>>_
+need-cleared true r m h k = (refl, k)
+need-cleared false r m h k = absurd (h cc)
+
+-- what went on for want of storage has passed first
+bind-cleared : {A B : Type 0} (m : Checked A) (f : A → Checked B) → Never m → (m >>= f) ≡ refused NoRun → (x : A) × (m ≡ passed x)
+unfolding _>>=_
+bind-cleared (passed x) f h k = (x, refl)
+bind-cleared (refused r) f h k = absurd (h (let same : r ≡ NoRun = cc in ap refused same))
+
+-- a get that is refused for want of storage has found no run
+module _ (b : ℕ) (l : Lent) (e : Engine) (k : step b l e .stepped .answer ≡ Refused NoRun) where
+  abbrev there : ℕ
+  there = e .state .core .place .row
+
+  is-sound : sound b l e ≡ true
+  unfolding step unchanged
+  is-sound =
+      by-test (λ t. cond t (cond (isFinished (e .state .core .place)) (unchanged Finished l e) (outcome b (plan b l e) l e))
+      (unchanged (Refused Unsound) l e) .stepped .answer ≡ Refused NoRun → t ≡ true) (sound b l e)
+      (λ s r. refl) (λ s r. let never : _≡_ {A = ℕ} 0 1 = cc in absurd (omega arith)) k
+
+  module _ (atOperation : e .state .core .place .kind ≡ 1) where
+    planned-so : plan b l e ≡ refused NoRun
+    unfolding step isFinished
+    planned-so =
+        outcome-refused b (plan b l e) l e .0
+        (rw (is-sound, ne-eqb (e .state .core .place .kind) 3 (λ q. absurd (omega (arith, atOperation)))) at k)
+
+    stepped-so : operationStep b l e ≡ refused NoRun
+    unfolding plan
+    stepped-so =
+        rw (ne-eqb (e .state .core .place .kind) 0 (λ q. absurd (omega (arith, atOperation))), eq-eqb (e .state .core .place .kind) 1 atOperation)
+        at (need-cleared _ _ _ (λ q. let never : _≡_ {A = ℕ} 0 1 = cc in omega arith) planned-so .1)
+
+    turned-so : (rowAt (l .table) there .code ≡ 1 → ⊥)
+        → (isSetUp (e .state .core) ≡ true) × (meaning (rowAt (l .table) there .code) b (given l e) ≡ refused NoRun)
+    unfolding operationStep inTurn
+    turned-so other =
+        let turn = rw (ne-eqb (rowAt (l .table) there .code) 1 other)
+        at (need-cleared _ _ _ (λ q. let never : _≡_ {A = ℕ} 0 1 = cc in omega arith) stepped-so .1) in
+        need-cleared _ _ _ (λ q. let never : _≡_ {A = ℕ} 0 1 = cc in omega arith) turn
+
+    pub without-run : (w : Wanted) → rowAt (l .table) there .code ≡ 3 → getWants b (given l e) ≡ passed w
+        → runs (w .words) (e .state .core .setup) (liveBlocks e) ≡ []
+    unfolding meaning meaningOf operationOf operations given onCore movedTo
+    without-run w code wants =
+        get-refused b (given l e) w wants .0 (subst (λ n. meaning n b (given l e) ≡ refused NoRun) code (turned-so (λ q. absurd (omega arith)) .1))
+
+    abbrev IsCleared : Wanted → Type 0
+    IsCleared w = ((rowAt (l .table) there .code ≡ 3) × (getWants b (given l e) ≡ passed w)) ⊎ ((rowAt (l .table) there .code ≡ 5) × (duplicateWants b (given l e) ≡ passed w))
+
+    cleared-wants : (w : Wanted) → (rowAt (l .table) there .code ≡ 1 → ⊥) → IsCleared w → Wants b l e w
+    unfolding plan operationStep
+    cleared-wants w other cleared =
+        record {
+          isSound = is-sound;
+          atOperation = atOperation;
+          hasTable = need-cleared _ _ _ (λ q. let never : _≡_ {A = ℕ} 0 1 = cc in omega arith) planned-so .0;
+          hasRow = need-cleared _ _ _ (λ q. let never : _≡_ {A = ℕ} 0 1 = cc in omega arith) stepped-so .0;
+          inTurn = turned-so other .0;
+          cleared = cleared;
+        }
+
+    wants-get : rowAt (l .table) there .code ≡ 3 → (w : Wanted) × Wants b l e w
+    unfolding meaning meaningOf operationOf operations get
+    wants-get code =
+        let other : rowAt (l .table) there .code ≡ 1 → ⊥ = λ q. omega arith in
+        let (w, k₁) = bind-cleared (getWants b (given l e)) _ (never (get-wants-fine b (given l e))) (subst (λ n. meaning n b (given l e) ≡ refused NoRun) code (turned-so other .1)) in
+        (w, cleared-wants w other (inl (code, k₁)))
+
+    wants-duplicate : rowAt (l .table) there .code ≡ 5 → (w : Wanted) × Wants b l e w
+    unfolding meaning meaningOf operationOf operations duplicate
+    wants-duplicate code =
+        let other : rowAt (l .table) there .code ≡ 1 → ⊥ = λ q. omega arith in
+        let (w, k₁) = bind-cleared (duplicateWants b (given l e)) _ (never (duplicate-wants-fine b (given l e))) (subst (λ n. meaning n b (given l e) ≡ refused NoRun) code (turned-so other .1)) in
+        (w, cleared-wants w other (inr (code, k₁)))
+
+-- so a step that is refused for want of storage is a get or a duplicate that has cleared its earlier checks
+pub refused-wants : (b : ℕ) (l : Lent) (e : Engine) → step b l e .stepped .answer ≡ Refused NoRun → (w : Wanted) × Wants b l e w
+refused-wants b l e k =
+    let (at, codes) = no-run-delivers b l e k in
+    ⊎-elim (wants-get b l e k at) (wants-duplicate b l e k at) codes

@@ -1,31 +1,39 @@
 -- What the claim shuts out: a get that is refused where nothing is live, a free that does nothing, a store that touches another
 -- bit, and a rejoining of neighbours that are not halves of one block.
 -- Assumes nothing.
-use Prim.Native.Nat.{ℕ, zero, suc, _+_, _*_, _/_, _%_, _≤_, _<_}
-use native.Mathlib.Nat.{div-add-mod'}
+use Prim.Native.Nat.{ℕ, zero, suc, _+_, _-_, _*_, _/_, _%_, _≤_, _<_}
+use native.Mathlib.Nat.{div-add-mod', add-mod, zero-mod}
 use native.Mathlib.Omega.{arith}
-use mathlib.Core.Bool.{and-false}
-use mathlib.Core.List.{List, _∷_, Memᴰ·append-right}
+use mathlib.Core.Bool.{true, and-false}
+use mathlib.Core.List.{List, _∷_, Memᴰ·append-left, Memᴰ·append-right}
 use mathlib.Core.Logic.{_⊎_, inl, inr, ⊎-elim}
-use mathlib.Core.Path.{_≡_, refl, sym, subst, _∙_}
+use mathlib.Core.Path.{_≡_, refl, sym, ap, subst, _∙_}
 use borrow.Author.Tests.{ne-eqb, lt-leb}
+use Rattle.block.specs.declared.SetUp.{SetUp}
 use Rattle.block.specs.Blocks.{Block, size}
-use Rattle.block.specs.SetUp.{words}
+use lib.ListN.{length}
+use Rattle.block.specs.SetUp.{top, words}
 use Rattle.block.specs.Map.{free}
-use Rattle.block.proofs.Size.{size-mono, fitting-facts}
+use Rattle.block.proofs.Size.{size-mono, aligned-smaller, fitting-facts}
 use Rattle.machine.specs.declared.Answer.the-variants.{Refused}
 use Rattle.machine.specs.declared.Refusal.the-variants.{NoRun}
 use Rattle.machine.specs.declared.Store.{Store}
 use Rattle.machine.specs.Sound.{Lent, Engine}
+use Rattle.machine.specs.State.{isSetUp, withSetUp, onCore, withMap}
+use Rattle.machine.specs.Extend.{Extension, isDone, notExtended, engineExtended, extendedBy, extend, engineLeft}
+use Rattle.machine.proofs.Facts.{Facts}
+use Rattle.machine.proofs.Extend.{Extends, refusing, growing, extends, set-up-fits}
+use Rattle.block.specs.Extension.{extendedTo, extending}
+use Rattle.block.proofs.Extension.{extending-facts, extended-words, first-added}
 use Rattle.machine.specs.Locate.{liveBlocks}
 use Rattle.machine.specs.Operations.{Wanted}
 use Rattle.machine.specs.Step.{step, engineOf}
 use Rattle.machine.proofs.Steps.{sound-engine}
-use Rattle.book.specs.Book.{LiveBlock, storedBits}
-use Rattle.book.specs.Steps.{Event, stepped, Leads, after, reportOf, LiveBy}
+use Rattle.book.specs.Book.{Book, LiveBlock, blocks, storedBits, enterExtension}
+use Rattle.book.specs.Steps.{Event, stepped, extended, Leads, after, after-extension, reportOf, bookAfter, LiveBy}
 use Rattle.book.specs.Claim.{_∈_, AlignedRun, Wants, Served}
 use Rattle.book.proofs.Reported.{live-cases}
-use Rattle.book.proofs.Served.{wanted-size, numbers-fit, first-aligned}
+use Rattle.book.proofs.Served.{refused-wants, wanted-size, numbers-fit, first-aligned}
 use Rattle.book.proofs.Demand3.{demand-3}
 
 -- a multiple of d that is not zero is d or more
@@ -58,7 +66,9 @@ pub never-refused : (b : ℕ) (ws : List ℕ) (events : List Event) (e : Engine)
 unfolding Served
 never-refused b ws events e leads none l w wants k =
     let d = demand-3 b ws (stepped l e (step b l e) ∷ events) (engineOf (step b l e)) (after leads l) in
-    d .served .0 w wants .0 k _ (first-run b ws events e leads none l w wants)
+    d .served .0 w wants .0 k _
+    (subst (λ u. AlignedRun u events (w .words) (e .state .core .setup .s1)) (demand-3 b ws events e leads .setup)
+    (first-run b ws events e leads none l w wants))
 
 -- a block that a step reports freed, and delivers none, is not live after it
 pub freed-is-gone : (b : ℕ) (ws : List ℕ) (event : Event) (events : List Event) (e : Engine) → Leads b ws (event ∷ events) e
@@ -81,3 +91,63 @@ pub no-false-join : (b : ℕ) (ws : List ℕ) (events : List Event) (e : Engine)
     → (address % (n + n) ≡ 0 → ⊥) → record { address = address; size = n + n } ∈ free (e .state .core .setup) (e .state .map) → ⊥
 no-false-join b ws events e leads address n odd m =
     odd (demand-3 b ws events e leads .tiled .aligned _ (Memᴰ·append-right (liveBlocks e) m))
+
+module _ (b : ℕ) (ws : List ℕ) (events : List Event) (e : Engine) (leads : Leads b ws events e) (last : ℕ) where
+  abbrev wider : Engine
+  wider = engineLeft (extend b last e)
+
+  abbrev now : List Event
+  now = extended last e (extend b last e) ∷ events
+
+  -- the words that an extension added hold a run of any size, aligned and outside all live blocks
+  added-run : Facts b e → isSetUp (e .state .core) ≡ true → extending (length (e .storage)) last (e .state .core .setup) ≡ true
+      → extend b last e ≡ extendedBy last e → (n j : ℕ) → j ≤ top (e .state .core .setup .d) → n ≡ size j
+      → AlignedRun (bookAfter now .setup) now n (suc (e .state .core .setup .s2))
+  unfolding extendedBy engineLeft engineExtended onCore withMap withSetUp extendedTo bookAfter isDone enterExtension
+  added-run facts up taken is n j low same =
+      let u = e .state .core .setup in
+      let lent = length (e .storage) in
+      let fits = set-up-fits b e facts up in
+      let f = fitting-facts lent u fits in
+      let g = extending-facts lent last u taken in
+      let next : u .s1 + words u ≡ suc (u .s2) = first-added lent lent last u fits taken in
+      let all : words (extendedTo last u) ≡ words u + (last - u .s2) = extended-words lent lent last u fits taken in
+      let large : u .d ≤ last - u .s2 = at-least (u .d) (last - u .s2) ((last - u .s2) / u .d) (omega (arith, div-add-mod' (last - u .s2) (u .d), g .whole)) (omega (arith, g .later)) in
+      let small : n ≤ u .d = rw same (subst (λ d. size j ≤ d) (f .largest) (size-mono low)) in
+      let d = demand-3 b ws now wider (after-extension leads last) in
+      let before = demand-3 b ws events e leads in
+      let numbers : bookAfter now .setup ≡ extendedTo last u = sym (d .setup) ∙ ap (λ (x : Extension). x .extended .state .core .setup) is in
+      let done : isDone (extend b last e .extended .answer) ≡ true = ap (λ (x : Extension). isDone (x .extended .answer)) is in
+      let book : bookAfter now ≡ enterExtension last (bookAfter events) = rw done in
+      let kept : liveBlocks wider ≡ liveBlocks e = d .live ∙ ap (λ (k : Book). blocks (k .live)) book ∙ sym (before .live) in
+      let whole : suc (u .s2) % u .d ≡ 0
+      = ap (λ (a : ℕ). a % u .d) (sym next) ∙ add-mod (u .s1) (words u) (u .d) ∙ rw (f .aligned, f .whole) (zero-mod (u .d)) in
+      subst (λ (v : SetUp). AlignedRun v now n (suc (u .s2))) (sym numbers)
+      (record {
+        aligned = rw same (aligned-smaller low (suc (u .s2)) (rw (f .largest) whole));
+        first = omega (arith, f .order);
+        last = omega (arith, f .order);
+        outside = λ x h.
+            let m : x ∈ liveBlocks e = subst (λ (bs : List Block). x ∈ bs) kept (d .reported x .1 h) in
+            inl (omega (arith, before .tiled .inside x (Memᴰ·append-left _ m) .1, ap (λ (v : SetUp). v .s1 + words v) (before .setup)));
+      })
+
+  -- so a get or duplicate that clears its earlier checks is not refused for want of storage right after an extension
+  extended-wants : isDone (extend b last e .extended .answer) ≡ true → (l : Lent) (w : Wanted) → Wants b l wider w
+      → step b l wider .stepped .answer ≡ Refused NoRun → ⊥
+  unfolding Served notExtended extendedBy engineLeft engineExtended onCore withMap withSetUp extendedTo isDone
+  extended-wants done l w wants k = go (extends b last e)
+    where
+      go : Extends b last e (extend b last e) → ⊥
+      go (refusing answer f x) =
+          let same : isDone (extend b last e .extended .answer) ≡ isDone answer = ap (λ (y : Extension). isDone (y .extended .answer)) x in
+          let z : _≡_ {A = ℕ} 0 1 = cc in
+          omega arith
+      go (growing facts up taken x) =
+          let d = demand-3 b ws (stepped l wider (step b l wider) ∷ now) (engineOf (step b l wider)) (after (after-extension leads last) l) in
+          let (j, low, same) = wanted-size b l wider w wants (sound-engine b l wider (wants .isSound)) in
+          d .served .0 w wants .0 k _ (added-run facts up taken x (w .words) j (rw (ap (λ (y : Extension). y .extended .state .core .setup .d) x) at low) same)
+
+  -- right after an extension no step is refused for want of storage, whatever was refused before it
+  pub extended-served : isDone (extend b last e .extended .answer) ≡ true → (l : Lent) → step b l wider .stepped .answer ≡ Refused NoRun → ⊥
+  extended-served done l k = let (w, wants) = refused-wants b l wider k in extended-wants done l w wants k

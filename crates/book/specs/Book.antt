@@ -1,14 +1,16 @@
 -- The book: live blocks with their bits, and free blocks, both in the order of their addresses.
--- It is fed what steps report, and the numbers of the set-up; its entries take nothing else, as their types show.
--- Document 01: "The book". Assumes nothing.
+-- It is fed what steps report, the numbers of the set-up and the new last address of an extension; its entries take nothing else, as
+-- their types show.
+-- Document 01: "The book"; document 02, ticket 11. Assumes nothing.
 use Prim.Native.Nat.{ℕ, zero, suc, _+_, _-_, _/_, _%_, _^_}
 use mathlib.Core.Bool.{Bool, _&&_, cond}
-use mathlib.Core.List.{List, [], _∷_, map}
+use mathlib.Core.List.{List, [], _∷_, _++_, map}
 use lib.Dec.{eqb, leb, ltb}
 use lib.ListN.{length}
 use Rattle.block.specs.declared.SetUp.{SetUp}
 use Rattle.block.specs.Blocks.{Block, sizeAt}
 use Rattle.block.specs.SetUp.{words}
+use Rattle.block.specs.Extension.{extendedTo}
 use Rattle.machine.specs.declared.Store.{Store}
 use Rattle.machine.specs.declared.Report.{Report}
 use Rattle.machine.specs.State.{noSetUp}
@@ -104,6 +106,15 @@ unfoldable pub enterSetUp : SetUp → Book → Book
 enterSetUp u k =
     cond (eqb (u .d) 0) k
     (record { setup = u; live = k .live; free = blocksFrom (u .d) (u .s1) (words u / u .d) })
+
+-- extension: the words after the last one so far, up to a new last address, become free blocks of size d
+unfoldable pub enterExtension : ℕ → Book → Book
+enterExtension last k =
+    record {
+      setup = extendedTo last (k .setup);
+      live = k .live;
+      free = k .free ++ blocksFrom (k .setup .d) (suc (k .setup .s2)) ((last - k .setup .s2) / k .setup .d);
+    }
 
 -- freed: the live block at that address becomes free and its bits are dropped. As long as two free blocks are the halves of
 -- one block no larger than d, they become that block

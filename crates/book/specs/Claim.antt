@@ -1,5 +1,6 @@
 -- The claim of demand 3 about a whole list of events, part by part.
--- Document 01: demand 3, "Blocks" and "The book". Assumes nothing.
+-- The set-up words are the book's: those of the set-up and of all extensions so far, and 17 is judged against those of its moment.
+-- Document 01: demand 3, "Blocks" and "The book"; document 02, ticket 11. Assumes nothing.
 use Prim.Native.Nat.{ℕ, suc, _+_, _%_, _≤_, _<_}
 use mathlib.Core.Bool.{true, false, cond}
 use mathlib.Core.List.{List, [], _∷_, _++_, List·Memᴰ}
@@ -22,7 +23,7 @@ use Rattle.machine.specs.Locate.{liveBlocks}
 use Rattle.machine.specs.Operations.{Wanted, getWants, duplicateWants}
 use Rattle.machine.specs.Step.{given}
 use Rattle.book.specs.Book.{LiveBlock, blocks, halves, around}
-use Rattle.book.specs.Steps.{Event, stepped, Leads, LiveBy, bookAfter}
+use Rattle.book.specs.Steps.{Event, stepped, extended, Leads, LiveBy, bookAfter}
 
 infix 30 _∈_
 abbrev pub _∈_ : {A : Type 0} → A → List A → Type 0
@@ -69,8 +70,9 @@ Served b [] = Unit {0}
 Served b (stepped l e o ∷ events) =
     ((w : Wanted) → Wants b l e w
     → (o .stepped .answer ≡ Refused NoRun)
-    ↔ ((at : ℕ) → AlignedRun (e .state .core .setup) events (w .words) at → ⊥))
+    ↔ ((at : ℕ) → AlignedRun (bookAfter events .setup) events (w .words) at → ⊥))
     × Served b events
+Served b (extended last e x ∷ events) = Served b events
 
 -- demand 3
 pub record Demand3 (b : ℕ) (events : List Event) (e : Engine) : Type 0 where
@@ -79,11 +81,12 @@ pub record Demand3 (b : ℕ) (events : List Event) (e : Engine) : Type 0 where
   -- 2: its live and free blocks are those of the book
   pub live : liveBlocks e ≡ blocks (bookAfter events .live)
   pub free : free (e .state .core .setup) (e .state .map) ≡ bookAfter events .free
-  -- 3: together they tile the set-up words
-  pub tiled : Tiled (e .state .core .setup) (liveBlocks e) (Rattle.block.specs.Map.free (e .state .core .setup) (e .state .map))
+  -- 3: the engine's set-up numbers are the book's, and together the blocks tile the words that these set up
+  pub setup : e .state .core .setup ≡ bookAfter events .setup
+  pub tiled : Tiled (bookAfter events .setup) (liveBlocks e) (Rattle.block.specs.Map.free (e .state .core .setup) (e .state .map))
   -- 4: each bit of a live block in the storage is the book's
   pub bits : (x : LiveBlock) → x ∈ bookAfter events .live → (i p : ℕ) → i < x .block .size → p < b
-      → bit b (wordAt (e .state .core .setup .s1) (x .block .address + i) (e .storage)) p ≡ x .bits i p
+      → bit b (wordAt (bookAfter events .setup .s1) (x .block .address + i) (e .storage)) p ≡ x .bits i p
   -- 5: no get or duplicate is refused by 17 but for want of a run
   pub served : Served b events
 

@@ -4,7 +4,7 @@ use mathlib.Core.List.{List, _++_}
 use Prim.Native.Nat.{ℕ, _+_, _-_, _/_, _≤_, _<_}
 use native.Mathlib.Omega.{arith}
 use lib.ListN.{length, take, drop, length-drop}
-use lib.Seq.{length-take-le}
+use lib.Seq.{take-all, length-take-le}
 use Rattle.word.proofs.Pred.{one-less}
 use Rattle.block.specs.Blocks.{size}
 use Rattle.block.proofs.Size.{size-suc}
@@ -16,6 +16,10 @@ size-pred = one-less (λ k j. size k ≡ size j + size j) size-suc
 -- half of the length of a block
 pub half-size : (k n : ℕ) → 0 < k → n ≡ size k → n / 2 ≡ size (k - 1)
 half-size k n h e = let p = size-pred k h in omega arith
+
+-- what stands from a place to the end
+pub upper : (n : ℕ) (l : List ℕ) → take (length l - n) (drop n l) ≡ drop n l
+upper n l = take-all (length l - n) (drop n l) (rw length-drop (omega arith))
 
 -- a part of a slice is as long as asked for
 pub part-length : (i n : ℕ) (m : List ℕ) → i + n ≤ length m → length (take (i + n - i) (drop i m)) ≡ n

@@ -20,3 +20,4 @@ pub mod Count
 pub mod Delivered
 pub mod Judged
 pub mod FreeTrees
+pub mod Added

@@ -24,7 +24,7 @@ fn zero_all(map: &mut [u8])
 }
 
 // So many free blocks of the k-th size, in zeros.
-fn free_trees(k: u8, count: usize, map: &mut [u8])
+pub(crate) fn free_trees(k: u8, count: usize, map: &mut [u8])
     requires { ⌜ (k ≤ 7) × (count * size k ≤ length (now map)) × (now map ≡ replicate (length (now map)) 0) ⌝ }
     ensures { λ _. ⌜ now (map .exit) ≡ allWritten k (replicate count Free) ++ replicate (length (now (map .entry)) - count * size k) 0 ⌝ }
 {

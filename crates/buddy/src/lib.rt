@@ -1,4 +1,5 @@
 // The buddy allocator on a block map. What its functions give stands in the crate block, and in specs/ what those inside it give.
+pub mod extension;
 pub mod fresh;
 pub mod section;
 pub mod setup;

@@ -1,6 +1,6 @@
 -- What follows of the engine's own step and run from their contracts, the equations o ≡ step 36 l e and r ≡ run 36 limit l e,
 -- which are demand 2: a refused step and a finished engine change nothing, what is delivered is the lowest aligned run, and demand 3
--- holds after every list of calls, of the steps inside runs too. Assumes nothing.
+-- holds after every list of calls, extensions among them, of the steps inside runs too. Assumes nothing.
 use mathlib.Core.Bool.{true}
 use mathlib.Core.List.{List, _∷_}
 use mathlib.Core.Path.{_≡_, sym, ap, subst, _∙_}
@@ -11,12 +11,13 @@ use Rattle.machine.specs.State.{isFinished}
 use Rattle.machine.specs.Sound.{Lent, Engine, sound}
 use Rattle.machine.specs.Step.{Outcome, RunOutcome, step, run, engineOf, engineRan}
 use Rattle.machine.proofs.Steps.{AsBefore, DeliversRun, refused-changes-nothing, finished-stays, delivered-run}
-use Rattle.book.specs.Steps.{Event, stepped, Leads, begin, after}
+use Rattle.machine.specs.Extend.{Extension, engineLeft}
+use Rattle.book.specs.Steps.{Event, stepped, extended, Leads, begin, after, after-extension}
 use Rattle.book.specs.Claim.{Demand3}
 use Rattle.book.proofs.Demand3.{demand-3}
 use Rattle.book.proofs.Runs.{run-leads}
 use Rattle.engine.specs.Calls as calls
-use Rattle.engine.specs.Calls.{Called, step-called, run-called}
+use Rattle.engine.specs.Calls.{Called, step-called, run-called, extend-called}
 
 module _ (l : Lent) (e : Engine) (o : Outcome) (is : o ≡ step 36 l e) where
   -- demand 1: a refused step changes no state, storage word or output byte, and reports zeros
@@ -40,7 +41,10 @@ calls-lead ws events e (step-called {events = before} {e = from} c l o is) =
 calls-lead ws events e (run-called c limit l r is) =
     subst (λ (r : RunOutcome). Leads 36 ws events (engineRan r)) (sym is)
     (run-leads 36 ws limit l _ (calls-lead ws _ _ c))
+calls-lead ws events e (extend-called {events = before} {e = from} c last x is) =
+    subst (λ (x : Extension). Leads 36 ws (extended last from x ∷ before) (engineLeft x)) (sym is)
+    (after-extension (calls-lead ws _ _ c) last)
 
--- demand 3, of every list of calls of the engine's own step and run: of all their steps
+-- demand 3, of every list of calls of the engine's own step and run and of extend: of all their steps and extensions
 pub demand-3-of-calls : (ws : List ℕ) (events : List Event) (e : Engine) → Called ws events e → Demand3 36 events e
 demand-3-of-calls ws events e c = demand-3 36 ws events e (calls-lead ws events e c)

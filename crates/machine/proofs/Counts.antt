@@ -22,7 +22,7 @@ use Rattle.machine.specs.Effects.{Effects, quietly, reporting, assigned,
 use Rattle.machine.specs.Operations.{Given, Meaning, operations, operationOf, makes, Wanted, setUp, computing, interchange, andStoring, delivering, get, free, duplicate, input, print, define, saveContents, restoreContents, saveDefinition, restoreDefinition, do-line, meaning}
 use Rattle.machine.specs.Step.{nextLine, goingTo, testsStep, given, operationStep, return, exitStep, plan}
 use Rattle.machine.proofs.Checks.{need-passed, then-passed, bind-passed, passed-same}
-use Rattle.machine.proofs.Codes.{Own, ownFrom, Each, end, _⨾_, at-code}
+use Rattle.machine.proofs.Codes.{ownFrom, Each, end, _⨾_, at-code}
 
 -- the counts after the effects, with this input and output lent
 pub record Counted (l : Lent) (before : ℕ) (x : Effects) : Type 0 where

@@ -10,7 +10,7 @@ use lib.Pow.{pow-pos}
 use Rattle.block.specs.SetUp.{words, fitting, absent}
 use Rattle.block.proofs.Map.{keeps-absent}
 use Rattle.machine.specs.State.{fresh, noSetUp, undefined, testsOf}
-use Rattle.machine.specs.Sound.{Lent, Engine, sound, isDefinition, soundPlace, isPlace, isRow}
+use Rattle.machine.specs.Sound.{Lent, sound, isDefinition, soundPlace, isPlace, isRow}
 use Rattle.machine.proofs.Checks.{and-true}
 use Rattle.machine.proofs.Every.{below, every-none, every-replicate}
 use Rattle.machine.proofs.Facts.{CoreFacts, StorageFacts, Facts, facts-sound}

@@ -18,3 +18,5 @@ pub mod Keeps
 pub mod Counts
 pub mod Fresh
 pub mod Soundness
+pub mod Extend
+pub mod Wanting

@@ -3,7 +3,6 @@
 use Prim.Native.Nat.{ℕ, _-_, _≤_}
 use native.Mathlib.Omega.{arith}
 use mathlib.Core.Bool.{true, false, not, _&&_, cond}
-use mathlib.Core.List.{List}
 use mathlib.Core.Logic.{inl, inr}
 use mathlib.Core.Path.{_≡_, refl, subst, sym}
 use borrow.Author.Tests.{ltb-true, eqb-true, eqb-false, eq-eqb, ne-eqb, not-true}
@@ -26,7 +25,7 @@ use Rattle.machine.proofs.Checks.{need-passed, then-passed, need-alone,
 use Rattle.machine.proofs.Facts.{CoreFacts, Facts, moved-facts, calls-facts, setup-facts, pop-facts, top-fact}
 use Rattle.machine.proofs.Live.{live-size}
 use Rattle.machine.proofs.Moves.{SetsUp, Done}
-use Rattle.machine.proofs.Codes.{Own, ownFrom, Each, end, _⨾_, at-code}
+use Rattle.machine.proofs.Codes.{ownFrom, Each, end, _⨾_, at-code}
 use Rattle.machine.proofs.Meanings.{silent, computing-done, interchange-done, input-done, print-done, define-done, saveContents-done, restoreContents-done, saveDefinition-done, restoreDefinition-done, do-line-done}
 use Rattle.machine.proofs.Blocks.{free-done, get-done, duplicate-done}
 use Rattle.machine.proofs.Places.{RowOrNone, place-there, place-line, place-sound, end-sound, next-sound, operation-or-exit, tests-place, stack-sound, next-row, do-row, has-code, line-operation, line-goes}

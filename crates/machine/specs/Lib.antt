@@ -9,4 +9,5 @@ pub mod Test
 pub mod Effects
 pub mod Operations
 pub mod Step
+pub mod Extend
 pub mod Bench

@@ -118,3 +118,17 @@ pub struct Ran {
     pub answer: Answer,
     pub count: u64,
 }
+
+// What an extension answers: that it is done, or why it is refused (11, 12, and 32 of ticket 11).
+pub enum ExtensionAnswer {
+    Done,
+    Unsound,
+    BeforeSetUp,
+    LastAddress,
+}
+
+// What an extension returns.
+pub struct Extended {
+    pub state: State,
+    pub answer: ExtensionAnswer,
+}

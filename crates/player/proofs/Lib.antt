@@ -1,6 +1,7 @@
 -- Laws of the library's calls.
 pub mod Moving
 pub mod Leaving
+pub mod Longer
 pub mod Blocks
 pub mod Corollaries
 pub mod Alone

@@ -1,6 +1,7 @@
 -- What the library's calls answer and leave.
 pub mod Calls
 pub mod Defined
+pub mod Extending
 pub mod Hours
 pub mod Keeping
 pub mod Playing

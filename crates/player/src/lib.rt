@@ -1,6 +1,7 @@
 // The engine as a library for players in C and Rust: numbers and slices alone.
 pub mod correcting;
 pub mod defining;
+pub mod extending;
 pub mod keeping;
 pub mod opening;
 

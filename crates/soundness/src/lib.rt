@@ -6,7 +6,7 @@ ghost use Prim.Native.Nat.{_^_, _≤_, _<_};
 ghost use lib.Dec.{eqb, ltb};
 ghost use lib.ListN.{length, take};
 ghost use Rattle.block.specs.SetUp.{words};
-ghost use Rattle.machine.specs.Sound.{every, isRow, isPlace, isDefinition, soundPlace, soundStack, soundStacks, soundCore, soundStorage, sound};
+ghost use Rattle.machine.specs.Sound.{every, isRow, isPlace, isDefinition, soundPlace, soundStack, soundStacks, soundCore, soundStorage, soundEngine, sound};
 use block::SetUp;
 use buddy::section::keeps_section;
 use buddy::section::words_of;
@@ -186,7 +186,16 @@ fn is_sound_storage(b: u64, setup: SetUp, map: &[u8], storage: &[u64]) -> bool
     keeps_section(setup, map) & are_set_up_words(b, setup, storage)
 }
 
-// A sound engine: core and storage, and counts not past the input's or the output's length.
+// What of soundness no lent input or output bears on: core and storage.
+pub fn is_sound_engine(b: u64, core: Core, map: &[u8], storage: &[u64]) -> bool
+    requires { ⌜ b < 64 ⌝ }
+    ensures { λ r. ⌜ r ≡ soundEngine b (record { state = record { core = core; map = now (map .entry) }; storage = now (storage .entry) }) ⌝ }
+{
+    let setup = core.setup;
+    is_sound_core(b, core) & is_sound_storage(b, setup, map, storage)
+}
+
+// A sound engine, with counts not past the input's or the output's length.
 pub fn is_sound(
     b: u64,
     core: Core,
@@ -198,9 +207,7 @@ pub fn is_sound(
     requires { ⌜ b < 64 ⌝ }
     ensures { λ r. ⌜ r ≡ sound b (record { table = []; input = now (input .entry); output = now (output .entry) }) (record { state = record { core = core; map = now (map .entry) }; storage = now (storage .entry) }) ⌝ }
 {
-    let setup = core.setup;
-    is_sound_core(b, core)
-        & is_sound_storage(b, setup, map, storage)
+    is_sound_engine(b, core, map, storage)
         & (core.taken <= input.len())
         & (core.written <= output.len())
 }

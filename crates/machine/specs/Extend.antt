@@ -1,0 +1,67 @@
+-- More storage while a tour runs: between steps a host gives a new last address. What it comes to is determined by the address and the
+-- engine; no table, input or output bears on it.
+-- Document 02: ticket 11. Assumes nothing.
+use Prim.Native.Nat.{ℕ, _-_}
+use mathlib.Core.Bool.{Bool, true, false, cond}
+use mathlib.Core.List.{List}
+use lib.ListN.{length, replicate}
+use Rattle.block.specs.SetUp.{words}
+use Rattle.block.specs.Extension.{extendedTo, extending, extendedMap}
+use Rattle.machine.specs.declared.ExtensionAnswer.{ExtensionAnswer}
+use Rattle.machine.specs.declared.ExtensionAnswer.the-variants.{Done, Unsound, BeforeSetUp, LastAddress}
+use Rattle.machine.specs.declared.Extended.{Extended}
+use Rattle.machine.specs.State.{isSetUp, withSetUp, onCore, withMap}
+use Rattle.machine.specs.Storage.{placed}
+use Rattle.machine.specs.Sound.{Engine, soundEngine}
+
+-- the number of the refusal, 0 where it is none
+unfoldable pub extensionNumber : ExtensionAnswer → ℕ
+extensionNumber Done = 0
+extensionNumber Unsound = 11
+extensionNumber BeforeSetUp = 12
+extensionNumber LastAddress = 32
+
+unfoldable pub isDone : ExtensionAnswer → Bool
+isDone Done = true
+isDone Unsound = false
+isDone BeforeSetUp = false
+isDone LastAddress = false
+
+-- what an extension leaves: what it returns, and the lent storage
+pub record Extension : Type 0 where
+  pub extended : Extended
+  pub storage : List ℕ
+
+-- one that is refused changes nothing
+unfoldable pub notExtended : ExtensionAnswer → Engine → Extension
+notExtended answer e = record { extended = record { state = e .state; answer = answer }; storage = e .storage }
+
+-- the engine with more words: those added are zeroed and become free blocks of size d, and all else stays
+unfoldable pub engineExtended : ℕ → Engine → Engine
+engineExtended last e =
+    let u = e .state .core .setup in
+    record {
+      state = withMap (extendedMap last u (e .state .map)) (onCore (withSetUp (extendedTo last u)) (e .state));
+      storage = placed (words u) (replicate (last - u .s2) 0) (e .storage);
+    }
+
+-- any other leaves that engine
+unfoldable pub extendedBy : ℕ → Engine → Extension
+extendedBy last e =
+    record {
+      extended = record { state = engineExtended last e .state; answer = Done };
+      storage = engineExtended last e .storage;
+    }
+
+-- an extension to a new last address, in the order 11 (input and output counts aside), 12, 32; in a finished engine too
+unfoldable pub extend : ℕ → ℕ → Engine → Extension
+extend b last e =
+    cond (soundEngine b e)
+    (cond (isSetUp (e .state .core))
+    (cond (extending (length (e .storage)) last (e .state .core .setup)) (extendedBy last e) (notExtended LastAddress e))
+    (notExtended BeforeSetUp e))
+    (notExtended Unsound e)
+
+-- the engine that an extension leaves
+unfoldable pub engineLeft : Extension → Engine
+engineLeft x = record { state = x .extended .state; storage = x .storage }

@@ -1,0 +1,33 @@
+-- l6_extend: what it answers, and what it leaves in the memory lent to it. Document 02, ticket 11. Assumes nothing.
+use Prim.Native.Nat.{ℕ}
+use mathlib.Core.Bool.{cond}
+use mathlib.Core.List.{List}
+use lib.Dec.{eqb}
+use lib.ListN.{length}
+use Rattle.machine.specs.Sound.{Engine}
+use Rattle.machine.specs.Extend.{Extension, extensionNumber, isDone, extend}
+use Rattle.layout.specs.Layout.{stateLength, bytesOfState}
+use Rattle.player.specs.Calls.{wrongState, engineAt}
+
+-- an extension of the engine
+unfoldable pub extendCall : ℕ → Engine → Extension
+extendCall = extend 36
+
+pub record ExtendLeft : Type 0 where
+  pub answer : ℕ
+  pub storage : List ℕ
+  pub state : List ℕ
+
+-- 0, or the number of the refusal; the state's bytes are written anew only where nothing is refused
+unfoldable pub afterExtension : List ℕ → Extension → ExtendLeft
+afterExtension bytes x =
+    record {
+      answer = extensionNumber (x .extended .answer);
+      storage = x .storage;
+      state = cond (isDone (x .extended .answer)) (bytesOfState (x .extended .state)) bytes;
+    }
+
+unfoldable pub extendLeft : ℕ → List ℕ → List ℕ → ExtendLeft
+extendLeft last storage bytes =
+    cond (eqb (length bytes) stateLength) (afterExtension bytes (extendCall last (engineAt bytes storage)))
+    (record { answer = wrongState; storage = storage; state = bytes })

@@ -1,0 +1,32 @@
+// More storage while a tour runs, for players in C and Rust.
+ghost use mathlib.Core.Path.{_≡_};
+ghost use lib.ListN.{length};
+ghost use Rattle.layout.specs.Layout.{stateLength, stateOf};
+ghost use Rattle.player.specs.Extending.{extendCall, extendLeft};
+ghost use Rattle.player.specs.Calls.{engineAt};
+use extension::extend;
+use extension::number_of;
+use layout::reading::read_state;
+use layout::writing::write_state;
+
+// A new last address for the words set up.
+#[no_mangle]
+pub extern "C" fn l6_extend(storage: &mut [u64], state: &mut [u8], last: u64) -> u64
+    ensures { λ r. ⌜ record { answer = r; storage = now (storage .exit); state = now (state .exit) }
+        ≡ extendLeft last (now (storage .entry)) (now (state .entry)) ⌝ }
+    ensures back { λ _. ⌜ (length (now (state .entry)) ≡ stateLength → stateOf (now (state .exit))
+        ≡ extendCall last (engineAt (now (state .entry)) (now (storage .entry))) .extended .state) ⌝ }
+{
+    if state.len() != 6675 {
+        return 101;
+    }
+    let extended = extend(storage, read_state(&*state), last);
+    let after = extended.state;
+    let answer = extended.answer;
+    let number = number_of(answer);
+    if number != 0 {
+        return number;
+    }
+    write_state(state, after);
+    0
+}
