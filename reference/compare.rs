@@ -3,6 +3,7 @@
 //! compared: each is stepped and run from its start, and again from places on its way after damages of its state's bytes, storage,
 //! table, input or lengths. Calls go through the header and through the Rust module in turn; wrong lengths are tried with both.
 //! With each tour go drawn opening hours, and between steps storage is extended, to drawn last addresses, refused ones among them.
+//! Pairs of tours free the same blocks in two orders and then get the same sizes (ticket 14).
 //! Before the generated tours, 20,000 lists of words and bytes are saved and loaded by bit columns, and as many lists of corrections
 //! answered, damaged ones among them, with both and with the safe calls.
 //! Before these, 40,000 drafts of tables are checked for fields that are used before they are defined, and those that got a yes are run.
@@ -58,6 +59,17 @@ fn gets_and_frees(rng: &mut Rng) -> Case {
     operations.push(row(3, 3, 0, &[(2, 11), (1, rng.pick(&[0, d, d + 1, 2 * d]))]));
     let lines = vec![Line { operations, ..Line::default() }];
     Case { lines, storage: (n + rng.pick(&[2, d, 2 * d, 16 * d])) as usize, limit: 310, ..Case::default() }
+}
+/// Rooms that are built, closed in an order, and then others built: gets of sizes, frees of some of them, gets of other sizes.
+fn closing(sizes: &[u64], order: &[u64], wanted: &[u64]) -> Given {
+    let bug = |i: u64| (2, 11 + i);
+    let get = |(i, &size): (u64, &u64)| row(3, 3, 0, &[bug(i), (1, size)]);
+    let mut operations = vec![row(3, 1, 0, &[(1, 16), (1, 16), (1, 111)])];
+    operations.extend((0..).zip(sizes).map(get));
+    operations.extend(order.iter().map(|&i| row(3, 4, 0, &[bug(i), (1, 0)])));
+    operations.extend((12..).zip(wanted).map(get));
+    let lines = vec![Line { operations, ..Line::default() }];
+    Given { table: Case { lines, ..Case::default() }.table(), input: vec![] }
 }
 /// The reference engine on what is lent.
 fn engine_of(given: &Given, tour: &Tour) -> Engine {
@@ -334,6 +346,26 @@ impl Compared {
         self.same("safe corrections", (safe, output), (expected, wanted));
     }
 
+    /// Ticket 14: rooms closed in two drawn orders. What is delivered afterwards, and where there is no room, is the same.
+    fn rooms(&mut self, rng: &mut Rng) -> Vec<u64> {
+        let sizes: Vec<u64> = (0..12).map(|_| 1 + rng.below(8)).collect();
+        let wanted: Vec<u64> = (0..12).map(|_| 1 + rng.below(16)).collect();
+        let mut order: Vec<u64> = (0..12).filter(|_| rng.chance(60)).collect();
+        let mut answers = [vec![], vec![]];
+        for (turn, calls) in [&HEADER, &MODULE].into_iter().enumerate() {
+            (1..order.len()).for_each(|i| order.swap(i, rng.below(i as u64 + 1) as usize));
+            let (given, mut tour, mut report) = (closing(&sizes, &order, &wanted), Tour::fresh(vec![0; 96], vec![]), [0; 12]);
+            let mut answer = 0;
+            while answer == 0 {
+                answer = calls.step(&given, &mut tour, &mut report);
+                self.answered(answer, 1);
+                answers[turn].push(if report[2] == 0 { answer } else { report[1] });
+            }
+        }
+        self.same("rooms closed in either order", &answers[0], &answers[1]);
+        answers[0].split_off(14 + order.len())
+    }
+
     // ------------------------------------------------------------ storage kept by bit columns
 
     /// What a call left in a buffer of 77s, and what the reference says: answer, and what is written at the start.
@@ -473,6 +505,11 @@ fn main() {
         compared.columns(&mut rng);
         compared.corrected(&mut rng);
     }
+    let mut rooms = vec![];
+    for i in 0..1000 {
+        compared.label = format!("rooms {i} of seed {seed}");
+        rooms = compared.rooms(&mut rng);
+    }
     let mut i = 0;
     while compared.steps < steps {
         compared.label = format!("tour {i} of seed {seed}");
@@ -481,6 +518,7 @@ fn main() {
     }
     println!("{} steps in {} calls, {i} generated tours of seed {seed}", compared.steps, compared.calls);
     println!("{} extensions of storage that were not refused", compared.extensions);
+    println!("1,000 pairs of tours that close rooms in two orders; the last two both go on at {rooms:?}");
     println!("{LISTS} lists saved, as many loaded, and as many of corrections, each by three calls");
     let [yes, no, length, rows, kinds] = compared.checked;
     println!("{DRAFTS} drafts checked: {yes} yes ({} in a hundred), {no} no, {kinds} by 30, {rows} ill-formed, {length} by 1; {} runs of those with a yes, {} of them with references to fields", 100 * yes / DRAFTS, compared.runs, compared.used);

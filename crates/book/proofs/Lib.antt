@@ -14,3 +14,4 @@ pub mod Entered
 pub mod Demand3
 pub mod Shuts
 pub mod Runs
+pub mod Alike

@@ -14,6 +14,8 @@ use Rattle.machine.proofs.Steps.{AsBefore, DeliversRun, refused-changes-nothing
 use Rattle.machine.specs.Extend.{Extension, engineLeft}
 use Rattle.book.specs.Steps.{Event, stepped, extended, Leads, begin, after, after-extension}
 use Rattle.book.specs.Claim.{Demand3}
+use Rattle.book.specs.Alike.{Alike, GoingOn}
+use Rattle.book.proofs.Alike.{either-order}
 use Rattle.book.proofs.Demand3.{demand-3}
 use Rattle.book.proofs.Runs.{run-leads}
 use Rattle.engine.specs.Calls as calls
@@ -48,3 +50,7 @@ calls-lead ws events e (extend-called {events = before} {e = from} c last x is) 
 -- demand 3, of every list of calls of the engine's own step and run and of extend: of all their steps and extensions
 pub demand-3-of-calls : (ws : List ℕ) (events : List Event) (e : Engine) → Called ws events e → Demand3 36 events e
 demand-3-of-calls ws events e c = demand-3 36 ws events e (calls-lead ws events e c)
+
+-- ticket 14, of any two lists of such calls
+pub either-order-of-calls : (ws vs : List ℕ) (xs ys : List Event) (e f : Engine) → Called ws xs e → Called vs ys f → Alike e f → GoingOn 36 36 e f
+either-order-of-calls ws vs xs ys e f c d = either-order 36 36 ws vs xs ys e f (calls-lead ws xs e c) (calls-lead vs ys f d)

@@ -2,6 +2,7 @@
 pub mod Moving
 pub mod Leaving
 pub mod Longer
+pub mod Hosts
 pub mod Blocks
 pub mod Corollaries
 pub mod Alone

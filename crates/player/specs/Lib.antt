@@ -2,6 +2,7 @@
 pub mod Calls
 pub mod Defined
 pub mod Extending
+pub mod Hosting
 pub mod Hours
 pub mod Keeping
 pub mod Playing
