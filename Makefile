@@ -3,23 +3,24 @@ SHELL = /bin/bash
 .SHELLFLAGS = -o pipefail -c
 .PHONY: tour tours tourrun libplayer player compare test fmt wrong bench expected
 
-# Proves tourrun and tourcheck and builds them (minutes the first time), then checks and plays the sample museum.
+# Proves tourread, tourcheck and tourrun and builds them (minutes the first time), then reads, checks and plays the sample museum.
 tour: tourrun
-	tours/play tours/museum.tour
+	tours/play tours/museum.l6
 
-# Plays every sample tour and compares what it prints with what its text says.
+# Plays every sample tour and the examples of docs/TOURS.md and compares what they print, tries a text for each kind of fault, and reads back
+# what tours/print prints of each table.
 tours: tourrun
-	tours/play --check tours/*.tour
+	tours/try
 
 tourrun:
-	rt check tourrun tourcheck | grep '^rt:'
+	rt check tourread tourcheck tourrun | grep '^rt:'
 
 # Proves the library for players and writes target/staticlib/libplayer.a (minutes the first time).
 libplayer:
 	rt staticlib player | grep '^rt:'
 
 # Builds the example hosts in C and in Rust, plays the sample museum with both, in one go and in two processes, and compares what they print.
-player: libplayer
+player: libplayer tourrun
 	host/run
 
 # Holds libplayer.a against the reference engine on generated and damaged tours, by step and by run: make compare SEED=7 STEPS=50000.
@@ -46,18 +47,19 @@ bench:
 	bench/run
 
 # Writes again what the programs must print, computed independently, the cases that comparison reads and the tables that tourrun and laps read.
-expected:
+expected: tourrun
 	mkdir -p target
 	rustc -O --edition 2021 -o target/leaves-reference reference/leaves.rs
 	for name in leaves allocations triples openings corrections cards; do target/leaves-reference $$name > crates/$$name/stdout; done
 	rustc -O --edition 2021 -o target/reference reference/main.rs
 	for file in stdin stdout; do target/reference comparison 7094 480 $$file > crates/comparison/$$file; done
+	for file in stdin stdout; do target/reference scripts 23 600 $$file > crates/scripts/$$file; done
 	for file in stdin stdout; do target/reference drafts 14 600 $$file > crates/drafts/$$file; done
-	tours/play --files tours/example.tour crates/tourrun/data
+	tours/play --files tours/example.l6 crates/tourrun/data
 	rm crates/tourrun/data/stops.in
-	tours/play --files tours/refusal-14.tour crates/tourcheck/data
+	tours/play --files tours/refusal-14.l6 crates/tourcheck/data
 	rm crates/tourcheck/data/stops.in
-	tours/play --files bench/lists.tour crates/laps/data
+	tours/play --files bench/lists.l6 crates/laps/data
 	rm crates/laps/data/stops.in
 	rustc -O --edition 2021 -o target/rival bench/main.rs
 	cd crates/laps/data && ../../../target/rival $$(cat ../args) > ../stdout

@@ -46,7 +46,10 @@ pub enum Refusal {
     StackEmpty,
     OutputFull,
     SubtrahendGreater,
-    Corrections = 26,
+    TypedLine,
+    TypedLabel,
+    TypedTooLong,
+    Corrections,
     CorrectionsLoop,
     CorrectionsShort,
     Hours,
@@ -56,7 +59,7 @@ pub enum Refusal {
 use Refusal::*;
 
 /// Every refusal, and what it means.
-pub const REFUSALS: [(Refusal, &str); 28] = [
+pub const REFUSALS: [(Refusal, &str); 31] = [
     (TableLength, "the table has fewer than 20 numbers, more than 8,000, or no multiple of ten"),
     (BadRow, "the row, or a test of it, is missing, ill-formed or of another kind than is needed here"),
     (SetUpNumbers, "the set-up's numbers are not allowed, or ask for more words than there are"),
@@ -79,6 +82,9 @@ pub const REFUSALS: [(Refusal, &str); 28] = [
     (StackEmpty, "a stack has no entry to restore or to return to"),
     (OutputFull, "there is no room for more output"),
     (SubtrahendGreater, "a subtraction below zero"),
+    (TypedLine, "this line breaks the grammar"),
+    (TypedLabel, "a label that this line uses is missing, or its own is declared again"),
+    (TypedTooLong, "with this line the table has too many rows"),
     (Corrections, "the list of corrections has a wrong length, a wrong row 0 or a next index outside"),
     (CorrectionsLoop, "the chain of corrections reaches a row a second time"),
     (CorrectionsShort, "there is no room for the corrected stops"),
@@ -363,6 +369,15 @@ pub fn hours(windows: &[u64], exceptions: &[u64], day: u64, minute: u64) -> Open
     }
 }
 
+/// A tour typed as L6 lines (docs/TOURS.md): its table at the start of the one lent, and how many rows it has, ten numbers each. The other
+/// numbers stay; all do where it is refused, and then the line of the fault is told, counted from 1.
+pub fn read(text: &[u8], table: &mut [u64]) -> Result<usize, (Refusal, u64)> {
+    let (mut count, mut line) = (0, 0);
+    done(unsafe { raw::l6_read(text.as_ptr(), text.len(), table.as_mut_ptr(), table.len(), &mut count, &mut line) })
+        .map_err(|refusal| (refusal, line))?;
+    Ok(count as usize)
+}
+
 /// Re-recorded stops: stop and recording of each row of a list of corrections that stands (l6.h), at the start of the output, and how many
 /// rows they are. The other numbers stay; all do where it is refused. Two numbers for each row of the list are room enough.
 pub fn recordings(list: &[u64], output: &mut [u64]) -> Result<usize, Refusal> {
@@ -468,6 +483,9 @@ pub mod raw {
             row: *mut u64,
         ) -> u64;
         pub fn l6_extend(storage: *mut u64, storage_length: usize, state: *mut u8, state_length: usize, last: u64) -> u64;
+        pub fn l6_read(
+            text: *const u8, text_length: usize, table: *mut u64, table_length: usize, count: *mut u64, line: *mut u64,
+        ) -> u64;
         pub fn l6_recordings(list: *const u64, list_length: usize, output: *mut u64, output_length: usize, count: *mut u64) -> u64;
         pub fn l6_save(width: u64, words: *const u64, words_length: usize, bytes: *mut u8, bytes_length: usize, count: *mut u64) -> u64;
         pub fn l6_load(width: u64, bytes: *const u8, bytes_length: usize, n: usize, words: *mut u64, words_length: usize) -> u64;

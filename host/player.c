@@ -1,9 +1,9 @@
 /* An example host: plays the tour of a folder.   player FOLDER [--stop-after STEPS]
- * It reads the table tour.tab and the stop list stops.in, and prints what the guide says; progress goes to standard error. Where there
- * are opening hours, windows.tab and exceptions.tab, the tour starts at the entry line for the time (of UTC), or not at all. Where there
- * are corrections, corrections.tab, the recordings that stand are put into the stop list (that of tours/museum.tour). With --stop-after
- * it stops after so many steps and saves the tour as tour.saved; the next call goes on from there. Where a tour has no room for a block,
- * its storage is extended once to all the words there are, and it goes on. */
+ * It reads the table tour.tab, or where there is none the typed lines tour.l6, and the stop list stops.in, and prints what the guide says;
+ * progress goes to standard error. Where there are opening hours, windows.tab and exceptions.tab, the tour starts at the entry line for the
+ * time (of UTC), or not at all. Where there are corrections, corrections.tab, the recordings that stand are put into the stop list (that of
+ * tours/museum.l6). With --stop-after it stops after so many steps and saves the tour as tour.saved; the next call goes on from there. Where
+ * a tour has no room for a block, its storage is extended once to all the words there are, and it goes on. */
 #include <inttypes.h>
 #include <stdio.h>
 #include <stdlib.h>
@@ -12,10 +12,10 @@
 #include <unistd.h>
 #include "l6.h"
 
-enum { WORDS = 4096, ENTRY = 16 }; /* the go-to of row 1, where a tour starts */
+enum { WORDS = 4096, ENTRY = 16, LONG = 1000 }; /* the go-to of row 1, where a tour starts; a text that is not taken */
 static uint64_t table[8001], windows[4097], exceptions[4097]; /* one number more than is taken, so that a longer file is refused */
 static uint64_t list[4097], standing[2048];
-static uint8_t input[4096];
+static uint8_t input[4096], typed[65536]; /* one byte more than is taken */
 /* What the tour goes on with: these three are saved together, with the entry. */
 static uint8_t state[L6_STATE_LENGTH], output[4096];
 static uint64_t storage[WORDS];
@@ -62,6 +62,14 @@ static int extend(void) {
     fprintf(stderr, "no room for a block: extended to address %" PRIu64 "\n", last);
     return 1;
 }
+/* The table of the typed lines of tour.l6, where there is no tour.tab: the answer of l6_read, and its line. */
+static uint64_t type(size_t *length, uint64_t *line) {
+    size_t given = access("tour.tab", F_OK) == 0 ? 0 : load("tour.l6", typed, sizeof typed);
+    if (given == sizeof typed) return LONG;
+    uint64_t rows = 0, answer = given == 0 ? 0 : l6_read(typed, given, table, 8000, &rows, line);
+    if (rows != 0) *length = 10 * rows;
+    return answer;
+}
 static int end(int status, const char *why) {
     fprintf(stderr, "%s\n", why);
     return status;
@@ -71,6 +79,9 @@ int main(int count, char **arguments) {
     if (count != 2 && !stops) return end(2, "usage: player FOLDER [--stop-after STEPS]");
     if (chdir(arguments[1]) != 0) return end(2, "there is no such folder");
     size_t length = numbers("tour.tab", table, sizeof table), given = load("stops.in", input, sizeof input);
+    uint64_t line, fault = type(&length, &line);
+    if (fault == LONG) return end(1, "tour.l6 has more than 65535 bytes");
+    if (fault != 0) return fprintf(stderr, "tour.l6: %" PRIu64 " %" PRIu64 " %s\n", line, fault, l6_words(fault)), 1;
     FILE *file = fopen("tour.saved", "rb");
     if (file && !EACH(fread)) return end(1, "tour.saved is no saved tour");
     uint64_t row, answer = correct(given);

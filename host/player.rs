@@ -1,9 +1,9 @@
 //! An example host: plays the tour of a folder.   player FOLDER [--stop-after STEPS]
-//! It reads the table tour.tab and the stop list stops.in, and prints what the guide says; progress goes to standard error. Where there
-//! are opening hours, windows.tab and exceptions.tab, the tour starts at the entry line for the time (of UTC), or not at all. Where there
-//! are corrections, corrections.tab, the recordings that stand are put into the stop list (that of tours/museum.tour). With --stop-after
-//! it stops after so many steps and saves the tour as tour.saved; the next call goes on from there. Where a tour has no room for a block,
-//! its storage is extended once to all the words there are, and it goes on.
+//! It reads the table tour.tab, or where there is none the typed lines tour.l6, and the stop list stops.in, and prints what the guide says;
+//! progress goes to standard error. Where there are opening hours, windows.tab and exceptions.tab, the tour starts at the entry line for the
+//! time (of UTC), or not at all. Where there are corrections, corrections.tab, the recordings that stand are put into the stop list (that of
+//! tours/museum.l6). With --stop-after it stops after so many steps and saves the tour as tour.saved; the next call goes on from there.
+//! Where a tour has no room for a block, its storage is extended once to all the words there are, and it goes on.
 mod l6;
 
 use l6::{numbers, Answer, Lent, Refusal, State, STATE_LENGTH};
@@ -58,11 +58,27 @@ fn correct(list: &[u64], input: &mut [u8]) -> Result<(), String> {
     Ok(())
 }
 
+/// The table of tour.tab, or where there is none that of the typed lines of tour.l6. A text of more than 65,535 bytes is not taken.
+fn table() -> Result<Vec<u64>, String> {
+    let typed = std::fs::read("tour.l6").unwrap_or_default();
+    match std::fs::read("tour.tab") {
+        Ok(bytes) => Ok(numbers(&bytes)),
+        Err(_) if typed.is_empty() => Ok(vec![]),
+        Err(_) if typed.len() > 65535 => Err("tour.l6 has more than 65535 bytes".into()),
+        Err(_) => {
+            let mut table = vec![0; 8000];
+            let rows = l6::read(&typed, &mut table).map_err(|(refusal, line)| format!("tour.l6: {line} {} {refusal}", refusal.number()))?;
+            table.truncate(10 * rows);
+            Ok(table)
+        }
+    }
+}
+
 /// Plays the tour of a folder: how it ended, or why it did not.
 fn play(folder: &str, mut left: u64) -> Result<&str, String> {
     std::env::set_current_dir(folder).map_err(|_| "there is no such folder")?;
     let load = |name| std::fs::read(name).unwrap_or_default(); // a missing file counts as empty
-    let (mut table, windows, exceptions) = (numbers(&load("tour.tab")), numbers(&load("windows.tab")), numbers(&load("exceptions.tab")));
+    let (mut table, windows, exceptions) = (table()?, numbers(&load("windows.tab")), numbers(&load("exceptions.tab")));
     let mut input: Vec<u8> = load("stops.in").into_iter().take(4096).collect();
     correct(&numbers(&load("corrections.tab")), &mut input)?;
     let own = table.get(ENTRY).copied().unwrap_or(0);

@@ -56,6 +56,11 @@ enum {
     L6_OUTPUT_FULL = 21,      /* the output has no room for the characters */
     L6_SUBTRAHEND_GREATER = 22, /* a subtraction below zero */
 
+    /* l6_read */
+    L6_TYPED_LINE = 23,       /* a line, or an empty text, breaks the grammar */
+    L6_TYPED_LABEL = 24,      /* a label that the line uses is missing, or its own is declared again */
+    L6_TYPED_TOO_LONG = 25,   /* with this line the table has more than 800 rows, or more numbers than are lent */
+
     /* l6_recordings */
     L6_CORRECTIONS = 26,      /* a list of corrections of a wrong length, whose row 0 breaks its form, or with a next index outside */
     L6_CORRECTIONS_LOOP = 27, /* the chain of corrections reaches a row a second time */
@@ -229,6 +234,13 @@ uint64_t l6_hours(const uint64_t *windows, size_t windows_length, const uint64_t
  * order of the tests, each over the whole list. */
 uint64_t l6_recordings(const uint64_t *list, size_t list_length, uint64_t *output, size_t output_length, uint64_t *count);
 
+/* Tours typed as L6 lines (docs/TOURS.md).
+ * Reads text, all of it. Writes the table at the start of table, row 0 as zeros, and into count how many rows it has, ten numbers each; the
+ * numbers past them stay, and line. Every table that is read passes l6_check.
+ * Answers 0, L6_TYPED_LINE, L6_TYPED_LABEL or L6_TYPED_TOO_LONG; then line is the line of the fault, counted from 1, and nothing else is
+ * written. The lowest line with a fault decides, and on it the lower number. */
+uint64_t l6_read(const uint8_t *text, size_t text_length, uint64_t *table, size_t table_length, uint64_t *count, uint64_t *line);
+
 /* Words kept by bit columns, for a card. They are taken in groups of eight, the last filled up with zero words; for each bit place,
  * leftmost first, one byte holds that bit of the eight words, the first word highest. The width is 36, that of the storage, or 48; a
  * group has so many bytes, and no words have none. */
@@ -276,6 +288,9 @@ static inline const char *l6_words(uint64_t answer) {
     case L6_STACK_EMPTY: return "a stack has no entry to restore or to return to";
     case L6_OUTPUT_FULL: return "there is no room for more output";
     case L6_SUBTRAHEND_GREATER: return "a subtraction below zero";
+    case L6_TYPED_LINE: return "this line breaks the grammar";
+    case L6_TYPED_LABEL: return "a label that this line uses is missing, or its own is declared again";
+    case L6_TYPED_TOO_LONG: return "with this line the table has too many rows";
     case L6_CORRECTIONS: return "the list of corrections has a wrong length, a wrong row 0 or a next index outside";
     case L6_CORRECTIONS_LOOP: return "the chain of corrections reaches a row a second time";
     case L6_CORRECTIONS_SHORT: return "there is no room for the corrected stops";

@@ -12,6 +12,7 @@ type Run = unsafe extern "C" fn(
 ) -> u64;
 type Hours = unsafe extern "C" fn(*const u64, usize, *const u64, usize, u64, u64, *mut u64) -> u64;
 type Recordings = unsafe extern "C" fn(*const u64, usize, *mut u64, usize, *mut u64) -> u64;
+type Read = unsafe extern "C" fn(*const u8, usize, *mut u64, usize, *mut u64, *mut u64) -> u64;
 type Save = unsafe extern "C" fn(u64, *const u64, usize, *mut u8, usize, *mut u64) -> u64;
 type Load = unsafe extern "C" fn(u64, *const u8, usize, usize, *mut u64, usize) -> u64;
 
@@ -25,6 +26,7 @@ pub struct Calls {
     list_blocks: unsafe extern "C" fn(*const u8, usize, u64, *mut u64, usize) -> u64,
     hours: Hours,
     recordings: Recordings,
+    read: Read,
     save: Save,
     load: Load,
     extend: unsafe extern "C" fn(*mut u64, usize, *mut u8, usize, u64) -> u64,
@@ -48,6 +50,7 @@ extern "C" {
         windows: *const u64, n: usize, exceptions: *const u64, m: usize, day: u64, minute: u64, row: *mut u64,
     ) -> u64;
     fn header_recordings(list: *const u64, given: usize, output: *mut u64, room: usize, count: *mut u64) -> u64;
+    fn header_read(text: *const u8, given: usize, table: *mut u64, room: usize, count: *mut u64, line: *mut u64) -> u64;
     fn header_save(width: u64, words: *const u64, given: usize, bytes: *mut u8, room: usize, count: *mut u64) -> u64;
     fn header_load(width: u64, bytes: *const u8, given: usize, n: usize, words: *mut u64, room: usize) -> u64;
     fn header_extend(storage: *mut u64, words: usize, state: *mut u8, length: usize, last: u64) -> u64;
@@ -60,18 +63,19 @@ extern "C" {
     pub static header_constants: [u64; 35];
     pub fn header_saved_length(width: u64, words: usize) -> usize;
     pub static header_kept: [u64; 4];
+    pub static header_typed: [u64; 3];
 }
 
 pub static HEADER: Calls = Calls {
     fresh: header_fresh, step: header_step, run: header_run, check: header_check, defined: header_defined,
     count_blocks: header_count_blocks,
     list_blocks: header_list_blocks, hours: header_hours, recordings: header_recordings,
-    save: header_save, load: header_load, extend: header_extend,
+    read: header_read, save: header_save, load: header_load, extend: header_extend,
 };
 pub static MODULE: Calls = Calls {
     fresh: module::l6_fresh, step: module::l6_step, run: module::l6_run, check: module::l6_check, defined: module::l6_defined,
     count_blocks: module::l6_count_blocks, list_blocks: module::l6_list_blocks, hours: module::l6_hours,
-    recordings: module::l6_recordings, save: module::l6_save, load: module::l6_load, extend: module::l6_extend,
+    recordings: module::l6_recordings, read: module::l6_read, save: module::l6_save, load: module::l6_load, extend: module::l6_extend,
 };
 
 /// What is lent and only read.
@@ -117,6 +121,9 @@ impl Calls {
     }
     pub fn recordings(&self, list: &[u64], output: &mut [u64], count: &mut u64) -> u64 {
         unsafe { (self.recordings)(list.as_ptr(), list.len(), output.as_mut_ptr(), output.len(), count) }
+    }
+    pub fn read(&self, text: &[u8], table: &mut [u64], count: &mut u64, line: &mut u64) -> u64 {
+        unsafe { (self.read)(text.as_ptr(), text.len(), table.as_mut_ptr(), table.len(), count, line) }
     }
     pub fn save(&self, width: u64, words: &[u64], bytes: &mut [u8], count: &mut u64) -> u64 {
         unsafe { (self.save)(width, words.as_ptr(), words.len(), bytes.as_mut_ptr(), bytes.len(), count) }

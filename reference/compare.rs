@@ -7,6 +7,8 @@
 //! Before the generated tours, 20,000 lists of words and bytes are saved and loaded by bit columns, and as many lists of corrections
 //! answered, damaged ones among them, with both and with the safe calls.
 //! Before these, 40,000 drafts of tables are checked for fields that are used before they are defined, and those that got a yes are run.
+//! Before these, 20,000 texts of L6 lines are read, damaged ones among them, into tables of drawn lengths; each table passes the table check,
+//! and printed as typed lines it is read again.
 //! Prints how many steps and answers of each number there were, and how many differences.
 #![allow(dead_code)]
 mod bytes;
@@ -22,8 +24,11 @@ mod hours;
 #[path = "../host/l6.rs"]
 mod l6;
 mod lists;
+mod printed;
 mod raw;
 mod recordings;
+mod texts;
+mod typed;
 
 use bytes::*;
 use calls::*;
@@ -35,6 +40,9 @@ use std::ffi::CStr;
 /// How many lists are saved and loaded by bit columns, and how many lists of corrections are answered.
 const LISTS: u64 = 20_000;
 
+/// How many texts of L6 lines are read.
+const TEXTS: u64 = 20_000;
+
 /// How many drafts of tables are checked for fields that are used before they are defined.
 const DRAFTS: u64 = 40_000;
 
@@ -42,6 +50,7 @@ const DRAFTS: u64 = 40_000;
 #[derive(Default)]
 struct Compared {
     steps: u64, calls: u64, extensions: u64, answers: Vec<u64>, differences: u64, label: String, checked: [u64; 5], runs: u64, used: u64,
+    read: [u64; 4],
 }
 
 /// Gets and frees in a drawn order, so that live blocks come to stand between free ones.
@@ -365,6 +374,38 @@ impl Compared {
         self.same("rooms closed in either order", &answers[0], &answers[1]);
         answers[0].split_off(14 + order.len())
     }
+    /// A drawn text of L6 lines, read into a drawn length of table; what is read passes the table check.
+    fn typed(&mut self, rng: &mut Rng) {
+        let text = texts::text(rng);
+        let room = texts::room(rng, &text);
+        let expected = typed::read(&text, room);
+        let (answer, line) = expected.as_ref().err().copied().unwrap_or((0, 77));
+        let rows = expected.as_ref().map_or(77, |rows| rows.len() as u64 / 10);
+        let mut wanted = expected.unwrap_or_default();
+        let read = wanted.len();
+        wanted.resize(room, 77);
+        for calls in [&HEADER, &MODULE] {
+            let (mut table, mut count, mut at) = (vec![77; room], 77, 77);
+            let found = calls.read(&text, &mut table, &mut count, &mut at);
+            self.answered(found, 0);
+            self.same("typed lines", (found, count, at), (answer, rows, line));
+            self.same("the table of typed lines", &table, &wanted);
+            if found != 0 { continue; }
+            let mut lowest = 77;
+            let checked = calls.check(&table[..read], &mut lowest);
+            self.same("the check of a table that was typed", (checked, lowest), (0, 0));
+        }
+        if answer == 0 {
+            let mut again = vec![77; room];
+            let back = l6::read(printed::printed(&wanted[..read]).as_bytes(), &mut again).ok();
+            self.same("a table printed as typed lines and read again", (back, &again), (Some(rows as usize), &wanted));
+        }
+        let mut table = vec![77; room];
+        let safe = l6::read(&text, &mut table).map_err(|(refusal, line)| (refusal.number(), line));
+        self.same("typed lines read safely", safe, if answer == 0 { Ok(rows as usize) } else { Err((answer, line)) });
+        self.same("the table of typed lines read safely", table, wanted);
+        self.read[if answer == 0 { 0 } else { answer as usize - 22 }] += 1;
+    }
 
     // ------------------------------------------------------------ storage kept by bit columns
 
@@ -494,6 +535,12 @@ fn main() {
     }
     compared.kept_constants();
     compared.defined_constants();
+    compared.same("the header's numbers of typed lines", unsafe { header_typed }, [23, 24, 25]);
+    let mut rng = Rng(seed ^ 23);
+    for i in 0..TEXTS {
+        compared.label = format!("text {i} of seed {seed}");
+        compared.typed(&mut rng);
+    }
     let mut rng = Rng(seed ^ 14);
     for i in 0..DRAFTS {
         compared.label = format!("draft {i} of seed {seed}");
@@ -522,6 +569,8 @@ fn main() {
     println!("{LISTS} lists saved, as many loaded, and as many of corrections, each by three calls");
     let [yes, no, length, rows, kinds] = compared.checked;
     println!("{DRAFTS} drafts checked: {yes} yes ({} in a hundred), {no} no, {kinds} by 30, {rows} ill-formed, {length} by 1; {} runs of those with a yes, {} of them with references to fields", 100 * yes / DRAFTS, compared.runs, compared.used);
+    let [tables, lines, labels, lengths] = compared.read;
+    println!("{TEXTS} texts read, each by three calls: {tables} tables, {lines} by 23, {labels} by 24, {lengths} by 25; the tables printed and read again");
     for (answer, count) in compared.answers.iter().enumerate() {
         match answer {
             0 => println!("running, or done: {count} calls"),
@@ -531,7 +580,7 @@ fn main() {
             105 => println!("no width, 105: {count}"),
             106 => println!("a field not defined: {count}"),
             107 => println!("an ill-formed row: {count}"),
-            1..=22 | 26..=30 | 32..=35 => println!("refusal {answer}: {count}"),
+            1..=30 | 32..=35 => println!("refusal {answer}: {count}"),
             _ if *count > 0 => println!("an unknown answer, {answer}: {count}"),
             _ => {}
         }

@@ -149,14 +149,15 @@ fn all(seed: u64, drawn: u64) -> Vec<(&'static str, Vec<u64>)> {
     labelled.chain((0..drawn).map(|_| ("", draft(&mut rng)))).collect()
 }
 
-/// What the program reads: numbers in groups of seven bits, the lowest first, every byte but the last with 128 added.
+/// A number in groups of seven bits, the lowest first, every byte but the last with 128 added.
+pub fn put(bytes: &mut Vec<u8>, mut n: u64) {
+    while n > 127 { bytes.push(n as u8 | 128); n >>= 7 }
+    bytes.push(n as u8);
+}
+/// What the program reads: numbers so written.
 pub fn stdin(seed: u64, drawn: u64) -> Vec<u8> {
     let tables = all(seed, drawn);
     let mut bytes = vec![];
-    let put = |bytes: &mut Vec<u8>, mut n: u64| {
-        while n > 127 { bytes.push(n as u8 | 128); n >>= 7 }
-        bytes.push(n as u8);
-    };
     put(&mut bytes, tables.len() as u64);
     for (label, table) in tables {
         put(&mut bytes, table.len() as u64);
@@ -168,7 +169,7 @@ pub fn stdin(seed: u64, drawn: u64) -> Vec<u8> {
 }
 
 /// The program's checksum after one more result: a shift register of 64 bits.
-fn fold(sum: u64, result: u64) -> u64 {
+pub fn fold(sum: u64, result: u64) -> u64 {
     let mut x = sum ^ result;
     x ^= x << 13;
     x ^= x >> 7;

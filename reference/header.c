@@ -32,6 +32,9 @@ uint64_t header_hours(const uint64_t *windows, size_t windows_length, const uint
 uint64_t header_recordings(const uint64_t *list, size_t list_length, uint64_t *output, size_t output_length, uint64_t *count) {
     return l6_recordings(LENT(list), LENT(output), count);
 }
+uint64_t header_read(const uint8_t *text, size_t text_length, uint64_t *table, size_t table_length, uint64_t *count, uint64_t *line) {
+    return l6_read(LENT(text), LENT(table), count, line);
+}
 uint64_t header_save(uint64_t width, const uint64_t *words, size_t words_length, uint8_t *bytes, size_t bytes_length, uint64_t *count) {
     return l6_save(width, LENT(words), LENT(bytes), count);
 }
@@ -72,3 +75,6 @@ const uint64_t header_undefined[3] = {L6_KINDS, L6_NOT_DEFINED, L6_ILL_FORMED};
 
 /* The answers of l6_save and l6_load. */
 const uint64_t header_kept[4] = {L6_WORD_TOO_WIDE, L6_NOT_SAVED, L6_OUTPUT_SHORT, L6_BAD_WIDTH};
+
+/* The answers of l6_read. */
+const uint64_t header_typed[3] = {L6_TYPED_LINE, L6_TYPED_LABEL, L6_TYPED_TOO_LONG};

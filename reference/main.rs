@@ -1,5 +1,5 @@
 //! Commands over the reference engine.
-//! Usage: reference gen|cover SEED N | comparison|drafts SEED N stdin|stdout | bench | tourrun
+//! Usage: reference gen|cover SEED N | comparison|drafts|scripts SEED N stdin|stdout | bench | tourrun
 #[allow(dead_code)]
 mod bytes;
 mod comparison;
@@ -9,6 +9,9 @@ mod drafts;
 mod engine;
 mod generator;
 mod raw;
+mod scripts;
+mod texts;
+mod typed;
 
 use engine::*;
 use generator::*;
@@ -142,10 +145,14 @@ fn main() {
         Some("drafts") if arguments.get(4).is_some_and(|a| a == "stdin") => {
             std::io::stdout().write_all(&drafts::stdin(number(2), number(3))).unwrap()
         }
+        Some("scripts") if arguments.get(4).is_some_and(|a| a == "stdin") => {
+            std::io::stdout().write_all(&scripts::stdin(number(2), number(3))).unwrap()
+        }
+        Some("scripts") => print!("{}", scripts::stdout(number(2), number(3))),
         Some("drafts") => print!("{}", drafts::stdout(number(2), number(3))),
         Some("comparison") => print!("{}", comparison::stdout(number(2), number(3))),
         Some("bench") => bench(),
         Some("tourrun") => print!("{}", tour(&file("tour.tab"), &file("stops.in"))),
-        _ => eprintln!("usage: reference gen|cover SEED N | comparison|drafts SEED N stdin|stdout | bench | tourrun"),
+        _ => eprintln!("usage: reference gen|cover SEED N | comparison|drafts|scripts SEED N stdin|stdout | bench | tourrun"),
     }
 }

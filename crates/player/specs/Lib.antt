@@ -7,3 +7,4 @@ pub mod Hours
 pub mod Keeping
 pub mod Playing
 pub mod Recordings
+pub mod Typed

@@ -1,0 +1,11 @@
+pub mod Walking
+pub mod Steps
+pub mod Checked
+pub mod Onward
+pub mod Taking
+pub mod Walked
+pub mod Texting
+pub mod Using
+pub mod Faults
+pub mod Judged
+pub mod Naming

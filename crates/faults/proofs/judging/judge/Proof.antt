@@ -1,0 +1,94 @@
+-- `faults::judging::judge` meets its contract. The loop's invariant: the refusal is that of the lines left, after those passed. Assumes nothing.
+use Prim.Native.Nat.{ℕ, _-_, _+_}
+use native.Mathlib.Omega.{arith}
+use mathlib.Core.Path.{_≡_, refl, sym, ap, _∙_}
+use mathlib.Core.List.{List}
+use lib.ListN.{length}
+use Rattle.lines.specs.Reading.{readLine}
+use Rattle.lines.specs.Program.{faultOf}
+use Rattle.faults.specs.Checking.{lineRead}
+use Rattle.faults.specs.Places.{sizeOf, linesIn, linesBefore}
+use Rattle.lines.proofs.Parts.{part-slice}
+use Rattle.faults.proofs.Texting.{line-inside}
+use Rattle.faults.proofs.Judged.{Judging, nothing-typed, judging-none, judging-all, judging-count, judging-stop, judging-small, judging-more}
+use borrow.Author.Needs.{needs}
+use Rattle.faults.proofs.judging.judge.Statement.{statement}
+use Rattle.faults.proofs.judging.judge.Tie as tie
+
+abbrev Inv-loop : tie.InvT-loop
+Inv-loop b text keys rows lent from₀ lines₀ count₀ from lines count = Judging b lent text from lines count
+
+abbrev μ-loop : tie.MeasureT-loop
+μ-loop b text keys rows lent from₀ lines₀ count₀ from lines count = length text - from
+
+returns : tie.Need-returns Inv-loop μ-loop
+returns c = (nothing-typed (c .before .before .before .before .args .b) (c .before .before .before .before .args .lent) (c .before .before .before .before .args .text .now) (c .if1 .taken), λ e. absurd (omega arith))
+
+loop-holds : tie.Need-loop-holds Inv-loop μ-loop
+loop-holds c = judging-none _ _ _ (c .if1 .left)
+
+line-end-requires : tie.Need-line-end-requires Inv-loop μ-loop
+line-end-requires c κs = search needs
+
+sub-fault-of : tie.Need-sub-fault-of Inv-loop μ-loop
+sub-fault-of c = let inside = line-inside (c .before .before .before .before .before .before .before .args .text .now) _ _ (c .before .loop-test .taken) (c .line-end .ensures) in omega arith
+
+part-fault-of-start : tie.Need-part-fault-of-start Inv-loop μ-loop
+part-fault-of-start c = let inside = line-inside (c .before .before .before .before .before .before .before .args .text .now) _ _ (c .before .loop-test .taken) (c .line-end .ensures) in omega arith
+
+part-fault-of-end : tie.Need-part-fault-of-end Inv-loop μ-loop
+part-fault-of-end c = let inside = line-inside (c .before .before .before .before .before .before .before .args .text .now) _ _ (c .before .loop-test .taken) (c .line-end .ensures) in omega arith
+
+fault-of-requires : tie.Need-fault-of-requires Inv-loop μ-loop
+fault-of-requires c κs = ((c .before .before .before .before .before .before .before .before .pre, c .before .before .before .loop .inv .counted), c .before .before .before .loop .inv .small)
+
+add-t18 : tie.Need-add-t18 Inv-loop μ-loop
+add-t18 c = omega (arith, c .before .before .before .before .before .before .loop .inv .few, c .before .before .before .before .before .loop-test .taken)
+
+returns-2 : tie.Need-returns-2 Inv-loop μ-loop
+returns-2 c =
+    let number = c .before .before .fault-of .ensures .0 ∙ ap (λ (s : List ℕ). faultOf (c .before .before .before .before .before .before .before .before .before .before .before .args .b) (c .before .before .before .before .before .before .before .before .before .before .before .args .lent) (linesIn (c .before .before .before .before .before .before .before .before .before .before .before .args .b) (c .before .before .before .before .before .before .before .before .before .before .before .args .text .now)) (linesBefore (c .before .before .before .before .before .before .before .before .before .before .before .args .b) (c .before .before .before .before .before .before .before .before .before .before .before .args .text .now) (c .before .before .before .before .before .before .loop .lines)) (readLine (c .before .before .before .before .before .before .before .before .before .before .before .args .b) s)) (part-slice (c .before .before .before .before .before .before .loop .from) (c .before .before .before .before .line-end .result) (c .before .before .before .before .before .before .before .before .before .before .before .args .text .now)) in
+    (judging-stop _ _ _ (c .before .before .before .before .before .before .loop .inv) _ (c .before .before .before .before .before .loop-test .taken) (c .before .before .before .before .line-end .ensures) number (c .if2 .taken), λ e. absurd (c .if2 .taken e))
+
+add-count : tie.Need-add-count Inv-loop μ-loop
+add-count c =
+    let number = c .before .before .before .fault-of .ensures .0 ∙ ap (λ (s : List ℕ). faultOf (c .before .before .before .before .before .before .before .before .before .before .before .before .args .b) (c .before .before .before .before .before .before .before .before .before .before .before .before .args .lent) (linesIn (c .before .before .before .before .before .before .before .before .before .before .before .before .args .b) (c .before .before .before .before .before .before .before .before .before .before .before .before .args .text .now)) (linesBefore (c .before .before .before .before .before .before .before .before .before .before .before .before .args .b) (c .before .before .before .before .before .before .before .before .before .before .before .before .args .text .now) (c .before .before .before .before .before .before .before .loop .lines)) (readLine (c .before .before .before .before .before .before .before .before .before .before .before .before .args .b) s)) (part-slice (c .before .before .before .before .before .before .before .loop .from) (c .before .before .before .before .before .line-end .result) (c .before .before .before .before .before .before .before .before .before .before .before .before .args .text .now)) in
+    let size = c .before .before .before .fault-of .ensures .1 ∙ ap (λ (s : List ℕ). sizeOf (lineRead (readLine (c .before .before .before .before .before .before .before .before .before .before .before .before .args .b) s))) (part-slice (c .before .before .before .before .before .before .before .loop .from) (c .before .before .before .before .before .line-end .result) (c .before .before .before .before .before .before .before .before .before .before .before .before .args .text .now)) in
+    let few = judging-small _ _ _ (c .before .before .before .before .before .before .before .loop .inv) _ (c .before .before .before .before .before .before .loop-test .taken) (c .before .before .before .before .before .line-end .ensures) (sym number ∙ c .before .if2 .left) in
+    omega arith
+
+add-lines : tie.Need-add-lines Inv-loop μ-loop
+add-lines c = let few = c .before .before .before .before .before .before .before .loop .inv .few in omega (arith, c .before .before .before .before .before .before .loop-test .taken)
+
+loop-less : tie.Need-loop-less Inv-loop μ-loop
+loop-less c = let inside = line-inside (c .before .before .before .before .before .before .before .before .before .before .before .before .args .text .now) _ _ (c .before .before .before .before .before .before .loop-test .taken) (c .before .before .before .before .before .line-end .ensures) in omega arith
+
+loop-again : tie.Need-loop-again Inv-loop μ-loop
+loop-again c =
+    let number = c .before .before .before .fault-of .ensures .0 ∙ ap (λ (s : List ℕ). faultOf (c .before .before .before .before .before .before .before .before .before .before .before .before .args .b) (c .before .before .before .before .before .before .before .before .before .before .before .before .args .lent) (linesIn (c .before .before .before .before .before .before .before .before .before .before .before .before .args .b) (c .before .before .before .before .before .before .before .before .before .before .before .before .args .text .now)) (linesBefore (c .before .before .before .before .before .before .before .before .before .before .before .before .args .b) (c .before .before .before .before .before .before .before .before .before .before .before .before .args .text .now) (c .before .before .before .before .before .before .before .loop .lines)) (readLine (c .before .before .before .before .before .before .before .before .before .before .before .before .args .b) s)) (part-slice (c .before .before .before .before .before .before .before .loop .from) (c .before .before .before .before .before .line-end .result) (c .before .before .before .before .before .before .before .before .before .before .before .before .args .text .now)) in
+    let size = c .before .before .before .fault-of .ensures .1 ∙ ap (λ (s : List ℕ). sizeOf (lineRead (readLine (c .before .before .before .before .before .before .before .before .before .before .before .before .args .b) s))) (part-slice (c .before .before .before .before .before .before .before .loop .from) (c .before .before .before .before .before .line-end .result) (c .before .before .before .before .before .before .before .before .before .before .before .before .args .text .now)) in
+    rw size (judging-more _ _ _ (c .before .before .before .before .before .before .before .loop .inv) _ (c .before .before .before .before .before .before .loop-test .taken) (c .before .before .before .before .before .line-end .ensures) (sym number ∙ c .before .if2 .left))
+
+returns-3 : tie.Need-returns-3 Inv-loop μ-loop
+returns-3 c = (judging-all _ _ _ (c .before .loop .inv) (c .loop-test .left), λ e. judging-count _ _ _ (c .before .loop .inv) (c .loop-test .left))
+
+pub judge-spec : {M : Type 1} → statement M
+judge-spec =
+    tie.close
+    (tie.spec
+    Inv-loop
+    μ-loop
+    returns
+    loop-holds
+    line-end-requires
+    sub-fault-of
+    part-fault-of-start
+    part-fault-of-end
+    fault-of-requires
+    add-t18
+    returns-2
+    add-count
+    add-lines
+    loop-less
+    loop-again
+    returns-3)

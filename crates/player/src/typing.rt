@@ -1,0 +1,31 @@
+// Tours typed as L6 lines, read for players in C and Rust.
+ghost use mathlib.Core.Path.{_≡_};
+ghost use Rattle.player.specs.Typed.{readLeft};
+use lines::Read;
+use typed::read;
+
+// The table of a text and how many rows it has, or the line of its fault.
+#[no_mangle]
+pub extern "C" fn l6_read(text: &[u8], table: &mut [u64], count: &mut u64, line: &mut u64) -> u64
+    ensures { λ r. ⌜ record { answer = r; table = now (table .exit); count = now (count .exit); line = now (line .exit) } ≡ readLeft (now (text .entry)) (now (table .entry)) (now (count .entry)) (now (line .entry)) ⌝ }
+{
+    let answer = read(text, table);
+    match answer {
+        Read::Rows(n) => {
+            *count = n;
+            0
+        }
+        Read::BadLine(n) => {
+            *line = n;
+            23
+        }
+        Read::BadLabel(n) => {
+            *line = n;
+            24
+        }
+        Read::TooLong(n) => {
+            *line = n;
+            25
+        }
+    }
+}

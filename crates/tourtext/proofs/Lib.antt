@@ -1,0 +1,2 @@
+-- Laws of what tourread writes and prints.
+pub mod Filing

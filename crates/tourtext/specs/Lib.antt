@@ -1,0 +1,2 @@
+-- tourread: what it writes and prints.
+pub mod Translation

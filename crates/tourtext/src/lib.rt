@@ -1,0 +1,111 @@
+// tourread over slices: what it writes and prints of the bytes that it reads.
+ghost use mathlib.Core.Path.{_≡_};
+ghost use mathlib.Core.List.{_++_};
+ghost use Prim.Native.Nat.{_+_, _*_, _≤_};
+ghost use lib.ListN.{length, take, drop};
+ghost use Rattle.tour.specs.Put.{putBefore};
+ghost use Rattle.tourtext.specs.Translation.{filed, meaning, faultLine, fileOf, printedOf};
+use lines::Read;
+use octets::put_number;
+use tour::text::put;
+use tour::text::put_decimal;
+use tour::text::put_word;
+use typed::read;
+
+const NEWLINE: u8 = 10;
+
+const BLANK: u8 = 32;
+
+// How many bytes tour.tab has, and where in the buffer the printed line starts.
+pub struct Translated {
+    pub bytes: usize,
+    pub start: usize,
+}
+
+// The numbers of a table as bytes.
+fn put_table(table: &[u64], tab: &mut [u8])
+    requires { ⌜ 8 * length (now table) ≤ length (now tab) ⌝ }
+    ensures { λ _. ⌜ now (tab .exit) ≡ filed (now (table .entry)) ++ drop (8 * length (now (table .entry))) (now (tab .entry)) ⌝ }
+{
+    let mut i = 0;
+    while i < table.len() {
+        put_number(tab, 8 * i, 8, table[i]);
+        i += 1;
+    }
+}
+
+// What a refusal means.
+fn put_meaning(text: &mut [u8], at: usize, number: u64) -> usize
+    requires { ⌜ (80 ≤ at) × (at ≤ length (now text)) ⌝ }
+    ensures { λ r. ⌜ r + length (meaning number) ≡ at ⌝ }
+    ensures { λ _. ⌜ now (text .exit) ≡ putBefore at (meaning number) (now (text .entry)) ⌝ }
+    ensures { λ r. ⌜ at ≤ r + 80 ⌝ }
+{
+    if number == 23 {
+        return put_word(text, at, b"this line breaks the grammar");
+    }
+    if number == 24 {
+        return put_word(
+            text,
+            at,
+            b"a label that this line uses is missing, or its own is declared again",
+        );
+    }
+    put_word(text, at, b"with this line the table has too many rows")
+}
+
+// The line of a fault, at the end of the text.
+fn put_fault(text: &mut [u8], number: u64, line: u64) -> usize
+    requires { ⌜ 128 ≤ length (now text) ⌝ }
+    ensures { λ r. ⌜ r + length (faultLine number line) ≡ length (now (text .entry)) ⌝ }
+    ensures { λ _. ⌜ now (text .exit) ≡ putBefore (length (now (text .entry))) (faultLine number line) (now (text .entry)) ⌝ }
+{
+    let all = text.len();
+    let end = put(text, all, NEWLINE);
+    let words = put_meaning(text, end, number);
+    let between = put(text, words, BLANK);
+    let refusal = put_decimal(text, between, number);
+    let before = put(text, refusal, BLANK);
+    put_decimal(text, before, line)
+}
+
+// The bytes of a table of so many rows.
+fn put_rows(table: &[u64], tab: &mut [u8; 64000], rows: u64) -> Translated
+    requires { ⌜ (rows ≤ 800) × (length (now table) ≡ 8000) ⌝ }
+    ensures { λ r. ⌜ (r .bytes ≡ 80 * rows) × (r .start ≡ 128) ⌝ }
+    ensures { λ _. ⌜ now (tab .exit) ≡ filed (take (10 * rows) (now (table .entry))) ++ drop (80 * rows) (now (tab .entry)) ⌝ }
+    ensures within { λ r. ⌜ r .bytes ≤ length (now (tab .exit)) ⌝ }
+{
+    let count = (10 * rows) as usize;
+    put_table(&table[..count], tab);
+    Translated {
+        bytes: 8 * count,
+        start: 128,
+    }
+}
+
+// Nothing for the file, and a line to print.
+fn fault(printed: &mut [u8; 128], number: u64, line: u64) -> Translated
+    ensures { λ r. ⌜ (r .bytes ≡ 0) × (r .start + length (faultLine number line) ≡ 128) ⌝ }
+    ensures { λ _. ⌜ now (printed .exit) ≡ putBefore 128 (faultLine number line) (now (printed .entry)) ⌝ }
+{
+    let start = put_fault(printed, number, line);
+    Translated { bytes: 0, start }
+}
+
+// Reads a text: the bytes of tour.tab at the start of tab, and what is printed at the end of printed.
+pub fn translate(text: &[u8], tab: &mut [u8; 64000], printed: &mut [u8; 128]) -> Translated
+    ensures { λ r. ⌜ (r .bytes ≡ length (fileOf (now (text .entry)))) × (r .start + length (printedOf (now (text .entry))) ≡ 128) ⌝ }
+    ensures { λ _. ⌜ now (tab .exit) ≡ fileOf (now (text .entry)) ++ drop (length (fileOf (now (text .entry)))) (now (tab .entry)) ⌝ }
+    ensures { λ _. ⌜ now (printed .exit) ≡ putBefore 128 (printedOf (now (text .entry))) (now (printed .entry)) ⌝ }
+    ensures within { λ r. ⌜ r .bytes ≤ length (now (tab .exit)) ⌝ }
+{
+    let mut table = [0u64; 8000];
+    let answer = read(text, &mut table);
+    match answer {
+        Read::Rows(rows) => put_rows(&table, tab, rows),
+        Read::BadLine(line) => fault(printed, 23, line),
+        Read::BadLabel(line) => fault(printed, 24, line),
+        Read::TooLong(line) => fault(printed, 25, line),
+    }
+}

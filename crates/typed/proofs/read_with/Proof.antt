@@ -1,0 +1,67 @@
+-- `typed::read_with` meets its contract. Assumes nothing.
+use native.Mathlib.Omega.{arith}
+use mathlib.Core.Path.{_≡_, ap₂, sym, subst, _∙_}
+use mathlib.Core.List.{List}
+use Prim.Native.Nat.{ℕ}
+use Rattle.faults.specs.Names.{Known}
+use Rattle.lines.proofs.Parts.{part-slice}
+use Rattle.typed.proofs.Answers.{known-parts}
+use borrow.Author.Needs.{needs}
+use Rattle.typed.proofs.read_with.Statement.{statement}
+use Rattle.typed.proofs.read_with.Tie as tie
+
+collect-requires : tie.Need-collect-requires
+collect-requires c κs = search needs
+
+sub-read-known : tie.Need-sub-read-known
+sub-read-known c = search needs
+
+part-read-known-start : tie.Need-part-read-known-start
+part-read-known-start c = search needs
+
+part-read-known-end : tie.Need-part-read-known-end
+part-read-known-end c = search needs
+
+sub-read-known-2 : tie.Need-sub-read-known-2
+sub-read-known-2 c = search needs
+
+part-read-known-start-2 : tie.Need-part-read-known-start-2
+part-read-known-start-2 c = search needs
+
+part-read-known-end-2 : tie.Need-part-read-known-end-2
+part-read-known-end-2 c = search needs
+
+read-known-requires : tie.Need-read-known-requires
+read-known-requires c κs =
+    let at-collect = c .before .before .before .before .before .before .before .before .before in
+    let entry = at-collect .before .before .before .before .before .before .before in
+    (entry .pre .0, known-parts (entry .args .b) (entry .args .text .now) (at-collect .collect .result) _ _ (at-collect .collect .ensures .1 .1))
+
+same-length : tie.Need-same-length
+same-length c = search needs
+
+same-length-2 : tie.Need-same-length-2
+same-length-2 c = search needs
+
+same-length-3 : tie.Need-same-length-3
+same-length-3 c = search needs
+
+returns : tie.Need-returns
+returns c = c .before .before .read-known .ensures
+
+pub read-with-spec : {M : Type 1} → statement M
+read-with-spec =
+    tie.close
+    (tie.spec
+    collect-requires
+    sub-read-known
+    part-read-known-start
+    part-read-known-end
+    sub-read-known-2
+    part-read-known-start-2
+    part-read-known-end-2
+    read-known-requires
+    same-length
+    same-length-2
+    same-length-3
+    returns)

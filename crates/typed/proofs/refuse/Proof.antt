@@ -1,0 +1,26 @@
+-- `typed::refuse` meets its contract. Assumes nothing.
+use borrow.Author.Tests.{eq-eqb, ne-eqb}
+use Rattle.lines.specs.Program.{refused}
+use borrow.Author.Needs.{needs}
+use Rattle.typed.proofs.refuse.Statement.{statement}
+use Rattle.typed.proofs.refuse.Tie as tie
+
+returns : tie.Need-returns
+unfolding refused
+returns c = rw (eq-eqb (c .before .args .number) 23 (c .if1 .taken))
+
+returns-2 : tie.Need-returns-2
+unfolding refused
+returns-2 c = rw (ne-eqb (c .before .before .args .number) 23 (c .before .if1 .left), eq-eqb (c .before .before .args .number) 24 (c .if2 .taken))
+
+returns-3 : tie.Need-returns-3
+unfolding refused
+returns-3 c = rw (ne-eqb (c .before .before .args .number) 23 (c .before .if1 .left), ne-eqb (c .before .before .args .number) 24 (c .if2 .left))
+
+pub refuse-spec : {M : Type 1} → statement M
+refuse-spec =
+    tie.close
+    (tie.spec
+    returns
+    returns-2
+    returns-3)

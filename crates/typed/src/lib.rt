@@ -1,0 +1,82 @@
+// Tours typed as L6 lines, read into a lent table: document 02, ticket 3. What a text says stands in the specs of crate lines.
+ghost use mathlib.Core.Path.{_≡_};
+ghost use Prim.Native.Nat.{_≤_};
+ghost use lib.ListN.{length};
+ghost use Rattle.lines.specs.Program.{reading, refused, Numbered};
+ghost use Rattle.faults.specs.Names.{Known};
+
+pub mod pairs;
+pub mod values;
+pub mod writing;
+
+use faults::judging::judge;
+use faults::names::collect;
+use lines::Read;
+use writing::put_text;
+
+// Tests or operations of a line: where they begin, how many they are, and the row of the first.
+pub struct Group {
+    pub tests: bool,
+    pub from: usize,
+    pub count: usize,
+    pub row: usize,
+}
+
+// The answer that a refusal gives.
+fn refuse(number: u64, line: u64) -> Read
+    ensures { λ r. ⌜ r ≡ refused (record { number = number; line = line }) ⌝ }
+{
+    if number == 23 {
+        return Read::BadLine(line);
+    }
+    if number == 24 {
+        return Read::BadLabel(line);
+    }
+    Read::TooLong(line)
+}
+
+// Room for the labels of a text.
+fn no_labels() -> [u64; 800] {
+    [0; 800]
+}
+
+// Reads a text whose labels are put by.
+fn read_known(b: u64, text: &[u8], keys: &[u64], rows: &[u64], table: &mut [u64]) -> Read
+    requires { ⌜ (b ≤ 48) × Known b (now text) (now keys) (now rows) ⌝ }
+    ensures { λ r. ⌜ record { answer = r; table = now (table .exit) } ≡ reading b (now (text .entry)) (now (table .entry)) ⌝ }
+{
+    let verdict = judge(b, text, keys, rows, table.len() as u64);
+    let number = verdict.number;
+    if number != 0 {
+        return refuse(number, verdict.line);
+    }
+    put_text(b, text, keys, rows, table);
+    Read::Rows(verdict.count)
+}
+
+// Reads a text, with room for its labels.
+fn read_with(b: u64, text: &[u8], keys: &mut [u64], rows: &mut [u64], table: &mut [u64]) -> Read
+    requires { ⌜ (b ≤ 48) × (length (now keys) ≡ length (now rows)) ⌝ }
+    ensures { λ r. ⌜ record { answer = r; table = now (table .exit) } ≡ reading b (now (text .entry)) (now (table .entry)) ⌝ }
+{
+    let n = collect(b, text, keys, rows);
+    read_known(b, text, &keys[0..n], &rows[0..n], table)
+}
+
+// Reads a text at a width.
+pub fn read_at(b: u64, text: &[u8], table: &mut [u64]) -> Read
+    requires { ⌜ b ≤ 48 ⌝ }
+    ensures { λ r. ⌜ record { answer = r; table = now (table .exit) } ≡ reading b (now (text .entry)) (now (table .entry)) ⌝ }
+{
+    let mut keys = no_labels();
+    let mut rows = no_labels();
+    read_with(b, text, &mut keys, &mut rows, table)
+}
+
+// Reads a text into the lent table.
+pub fn read(text: &[u8], table: &mut [u64]) -> Read
+    ensures { λ r. ⌜ record { answer = r; table = now (table .exit) } ≡ reading 36 (now (text .entry)) (now (table .entry)) ⌝ }
+    ensures numbered { λ r. ⌜ Numbered 36 (now (text .entry)) (now (table .entry)) r ⌝ }
+{
+    read_at(36, text, table)
+}
