@@ -1,121 +1,169 @@
--- A row entered into the pairs of an output. Assumes nothing.
-use Prim.Native.Nat.{ℕ, zero, suc, _+_, _*_, _<_, _≤_}
+-- A row entered into the pairs of an output: the rows that it holds then, and the chains of their places. Assumes nothing.
+use Prim.Native.Nat.{ℕ, zero, suc, _+_, _*_, _%_, _<_, _≤_}
 use native.Mathlib.Omega.{arith}
-use mathlib.Core.Bool.{cond}
+use mathlib.Core.Bool.{true, false}
 use mathlib.Core.List.{List, [], _∷_, _++_}
 use mathlib.Core.Path.{_≡_, refl, sym, ap, _∙_}
-use borrow.Author.Tests.{le-leb, lt-leb}
 use lib.Dec.{leb}
-use lib.ListN.{length, drop, getD, set, length-append, length-drop, length-set}
-use lib.Seq.{drop-drop, set-getD}
-use Rattle.recordings.specs.Recordings.{rowCount, numberOf, stopOf, dayOf, pairs}
-use Rattle.recordings.specs.Walking.{entered, noted, heldRows, Entering, Noted, Place}
-use Rattle.recordings.proofs.Pairs.{length-pairs, pairs-first, pairs-second, pairs-set, pairs-put}
+use lib.ListN.{length, drop, getD, set, length-append, length-set}
+use lib.Seq.{lt-length-set, getD-set-same, getD-set-other, drop-set-lt}
+use Rattle.word.proofs.Tests.{by-eqb, either-way}
+use Rattle.recordings.specs.Recordings.{rowCount, numberOf, stopOf, dayOf, member, hasTwice}
+use Rattle.recordings.specs.Walking.{standingOf, entered, rowAt, linkAt, stopAt, stops, heldRows, Holds, Entering, Enters, Linked, Place}
+use Rattle.recordings.proofs.Counting.{or-false, member-first, member-more, no-both}
+use Rattle.recordings.proofs.Chain.{number-inside}
 use Rattle.recordings.proofs.Standing.{entered-last, entered-at}
+use Rattle.recordings.proofs.Held.{length-held, held-at, held-set, held-more}
+use Rattle.recordings.proofs.Links.{linked-same, linked-more}
 
-pub length-held : (count : ℕ) (output : List ℕ) → length (heldRows count output) ≡ count
-unfolding heldRows
-length-held zero output = refl
-length-held (suc count) output = ap suc (length-held count (drop 2 output))
+-- the numbers of a pair that holds a row, and of the row
+module _ {xs : List ℕ} {count : ℕ} {output : List ℕ} (h : Holds xs count output) {k : ℕ} (few : k < count) where
+  pub pair-room : 2 * k + 2 ≤ length output
+  pair-room = omega (arith, h .room)
 
+  pub row-number : (i : ℕ) → i < 4 → 4 * rowAt output k + i < length xs
+  row-number i small = number-inside xs (h .is-list) (rowAt output k) i (h .inside k few) small
+
+-- where no stop stands twice, those of two rows are not the same
 module _ (xs : List ℕ) where
-  -- the rows that were noted are held
-  pub held-noted : (rows rest : List ℕ) → heldRows (length rows) (noted xs rows ++ rest) ≡ rows
-  unfolding heldRows pairs
-  held-noted [] rest = refl
-  held-noted (row ∷ rows) rest = ap (λ (l : List ℕ). row ∷ l) (held-noted rows rest)
+  member-at : (rows : List ℕ) (k : ℕ) → k < length rows → member (stopOf xs (getD rows k 0)) (stops xs rows) ≡ true
+  member-at [] k h = absurd (omega arith)
+  member-at (row ∷ rows) zero h = member-first (stopOf xs row) (stopOf xs row) (stops xs rows) refl
+  member-at (row ∷ rows) (suc k) h = member-more (stopOf xs (getD rows k 0)) (stopOf xs row) (stops xs rows) (member-at rows k (omega arith))
 
-module _ (xs : List ℕ) (row count : ℕ) (before : List ℕ) (e : Entering xs row count before) where
+  two-differ : (rows : List ℕ) → hasTwice (stops xs rows) ≡ false → (j k : ℕ) → j < k → k < length rows
+      → stopOf xs (getD rows j 0) ≡ stopOf xs (getD rows k 0) → ⊥
+  unfolding hasTwice
+  two-differ [] once j k less h same = absurd (omega arith)
+  two-differ (row ∷ rows) once j zero less h same = absurd (omega arith)
+  two-differ (row ∷ rows) once zero (suc k) less h same =
+      no-both (ap (λ (s : ℕ). member s (stops xs rows)) same ∙ member-at rows k (omega arith))
+      (or-false (member (stopOf xs row) (stops xs rows)) (hasTwice (stops xs rows)) once .0)
+  two-differ (row ∷ rows) once (suc j) (suc k) less h same =
+      two-differ rows (or-false (member (stopOf xs row) (stops xs rows)) (hasTwice (stops xs rows)) once .1) j k (omega arith) (omega arith) same
+
+module _ {xs : List ℕ} {row count : ℕ} {before : List ℕ} (e : Entering xs row count before) where
   abbrev rows : List ℕ
   rows = heldRows count before
 
   long : length rows ≡ count
   long = length-held count before
 
-  abbrev rest : List ℕ
-  rest = drop (2 * count) before
-
-  as-noted : before ≡ noted xs rows ++ rest
-  as-noted = e .holds .as-noted
-
-  stop-at : (k : ℕ) → k < count → getD before (2 * k) 0 ≡ stopOf xs (getD rows k 0)
-  stop-at k h = ap (λ (l : List ℕ). getD l (2 * k) 0) as-noted ∙ pairs-first (stopOf xs) (λ r. r) rows k (omega (arith, long)) rest
-
-  row-at : (k : ℕ) → k < count → getD before (2 * k + 1) 0 ≡ getD rows k 0
-  row-at k h = ap (λ (l : List ℕ). getD l (2 * k + 1) 0) as-noted ∙ pairs-second (stopOf xs) (λ r. r) rows k (omega (arith, long)) rest
-
-  -- there are at least as many numbers as those of the rows
-  pub holds-room : 2 * count ≤ length before
-  holds-room = omega (arith, ap length as-noted, length-append (noted xs rows) rest, length-pairs (stopOf xs) (λ r. r) rows, long)
+  stop-at : (k : ℕ) → k < count → stopOf xs (getD rows k 0) ≡ stopAt xs before k
+  stop-at k h = ap (stopOf xs) (held-at count k before h)
 
   -- the place at which its stop was found, or their count
-  module _ {k stop : ℕ} (is : stop ≡ numberOf xs row 1) (p : Place before count stop k) where
+  module _ {k stop : ℕ} (is : stop ≡ numberOf xs row 1) (p : Place xs before count stop k) where
     same-stop : stop ≡ stopOf xs row
     unfolding stopOf
     same-stop = is
 
-    pub place-room : 2 * k ≤ length before
-    place-room = omega (arith, holds-room, p .most)
-
-    none : (j : ℕ) → j < k → stopOf xs (getD rows j 0) ≡ stopOf xs row → ⊥
-    none j h same = p .none-before j h (stop-at j (omega (arith, p .most)) ∙ same ∙ sym same-stop)
-
     -- a new stop
     module _ (new : k ≡ count) where
       entered-new : entered xs row rows ≡ rows ++ (row ∷ [])
-      entered-new = entered-last xs row rows (λ j h. none j (omega (arith, long)))
+      entered-new = entered-last xs row rows λ j h same.
+          let few : j < count = omega (arith, long) in p .none new j few (sym (stop-at j few) ∙ same ∙ sym same-stop)
 
-      pub new-room : 2 * k + 2 ≤ length before
+      pub new-room : 2 * count + 2 ≤ length before
       new-room = omega (arith, e .room, ap length entered-new, length-append rows (row ∷ []), long)
 
-      pub enter-new : Noted xs (entered xs row rows) (count + 1) before (set (set before (2 * k) stop) (2 * k + 1) row)
-      enter-new =
-          record {
-            count = omega (arith, ap length entered-new, length-append rows (row ∷ []), long);
-            output =
-                ap (λ (s : ℕ). set (set before (2 * k) s) (2 * k + 1) row) same-stop
-                ∙ ap (λ (m : ℕ). set (set before (2 * m) (stopOf xs row)) (2 * m + 1) row) (new ∙ sym long)
-                ∙ ap (λ (l : List ℕ). set (set l (2 * length rows) (stopOf xs row)) (2 * length rows + 1) row) as-noted
-                ∙ pairs-put (stopOf xs) (λ r. r) rows row rest (omega (arith, new-room, new, length-drop (2 * count) before))
-                ∙ ap (λ (l : List ℕ). noted xs (rows ++ (row ∷ [])) ++ l) (drop-drop 2 (2 * count) before)
-                ∙ ap (λ (m : ℕ). noted xs (rows ++ (row ∷ [])) ++ drop m before) later
-                ∙ ap (λ (l : List ℕ). noted xs l ++ drop (2 * (count + 1)) before) (sym entered-new);
-          }
-        where
-          later : 2 * count + 2 ≡ 2 * (count + 1)
-          later = omega arith
+      -- its pair after the others
+      module _ (link : ℕ) where
+        with-row : List ℕ
+        with-row = set before (2 * count) row
+
+        after : List ℕ
+        after = set with-row (2 * count + 1) link
+
+        row-before : (j : ℕ) → j < count → rowAt after j ≡ rowAt before j
+        unfolding after with-row
+        row-before j h =
+            getD-set-other with-row (2 * count + 1) (2 * j) link 0 (omega arith) ∙ getD-set-other before (2 * count) (2 * j) row 0 (omega arith)
+
+        link-before : (j : ℕ) → j < count → linkAt after j ≡ linkAt before j
+        unfolding after with-row
+        link-before j h =
+            getD-set-other with-row (2 * count + 1) (2 * j + 1) link 0 (omega arith)
+            ∙ getD-set-other before (2 * count) (2 * j + 1) row 0 (omega arith)
+
+        row-here : rowAt after count ≡ row
+        unfolding after with-row
+        row-here =
+            getD-set-other with-row (2 * count + 1) (2 * count) link 0 (omega arith)
+            ∙ getD-set-same before (2 * count) row 0 (omega (arith, new-room))
+
+        link-here : linkAt after count ≡ link
+        unfolding after with-row
+        link-here = getD-set-same with-row (2 * count + 1) link 0 (lt-length-set before (2 * count) row (omega (arith, new-room)))
+
+        same-long : length after ≡ length before
+        unfolding after with-row
+        same-long = length-set with-row (2 * count + 1) link ∙ length-set before (2 * count) row
+
+        same-past : drop (2 * (count + 1)) after ≡ drop (2 * (count + 1)) before
+        unfolding after with-row
+        same-past =
+            drop-set-lt (2 * (count + 1)) with-row (2 * count + 1) link (omega arith)
+            ∙ drop-set-lt (2 * (count + 1)) before (2 * count) row (omega arith)
+
+        pub enters-new : {heads now : List ℕ} → Linked xs heads before count → link ≡ getD heads (stop % length heads) 0
+            → now ≡ set heads (stop % length heads) (count % 4294967295 + 1)
+            → Enters xs row count (count + 1) before (set (set before (2 * count) row) (2 * count + 1) link) heads now
+        unfolding after with-row
+        enters-new {heads} l tail head =
+            record {
+              noted = record {
+                held = held-more count before row after row-before row-here ∙ sym entered-new;
+                room = omega (arith, same-long, new-room);
+                past = same-past;
+                same-long = same-long;
+              };
+              linked = linked-more (linked-same l (λ j h. ap (stopOf xs) (row-before j h)) link-before)
+                  (ap (stopOf xs) row-here ∙ sym same-stop) (link-here ∙ tail) head;
+              same-long = ap length head ∙ length-set heads _ _;
+            }
 
     -- a stop that stands there
     module _ (old : k ≡ count → ⊥) where
-      inside : k < count
-      inside = omega (arith, p .most)
+      pub old-inside : k < count
+      old-inside = omega (arith, p .most)
 
-      entered-old : entered xs row rows ≡ set rows k (cond (leb (dayOf xs (getD rows k 0)) (dayOf xs row)) row (getD rows k 0))
-      entered-old = entered-at xs row rows k (omega (arith, long)) (sym (stop-at k inside) ∙ p .found inside ∙ same-stop) none
+      row-standing : ℕ
+      row-standing = standingOf xs (rowAt before k) row
 
-      pub held-inside : getD before (2 * k + 1) 0 < rowCount xs
-      held-inside = e .holds .inside k inside
+      entered-old : entered xs row rows ≡ set rows k row-standing
+      unfolding row-standing
+      entered-old =
+          entered-at xs row rows k (omega (arith, long, old-inside)) (here ∙ same-stop)
+          (λ j less same. two-differ xs rows (e .differ) j k less (omega (arith, long, old-inside)) (same ∙ sym same-stop ∙ sym here))
+          ∙ ap (λ (x : ℕ). set rows k (standingOf xs x row)) (held-at count k before old-inside)
+        where
+          here : stopOf xs (getD rows k 0) ≡ stop
+          here = stop-at k old-inside ∙ p .found old-inside
 
-      pub old-room : 2 * k + 2 ≤ length before
-      old-room = omega (arith, holds-room)
+      stop-standing : stopOf xs row-standing ≡ stopAt xs before k
+      unfolding row-standing
+      stop-standing =
+          either-way (λ x. stopOf xs x ≡ stopAt xs before k) (leb (dayOf xs (rowAt before k)) (dayOf xs row))
+          (sym same-stop ∙ sym (p .found old-inside)) refl
 
-      pub enter-keep : numberOf xs row 2 < numberOf xs (getD before (2 * k + 1) 0) 2 → Noted xs (entered xs row rows) count before before
-      unfolding dayOf
-      enter-keep less =
-          let same : entered xs row rows ≡ rows = entered-old ∙ rw (lt-leb (dayOf xs (getD rows k 0)) (dayOf xs row) (rw (← row-at k inside) less)) (set-getD rows k 0) in
+      stop-after : (j : ℕ) → j < count → stopAt xs (set before (2 * k) row-standing) j ≡ stopAt xs before j
+      stop-after j h =
+          by-eqb (λ _. stopAt xs (set before (2 * k) row-standing) j ≡ stopAt xs before j) j k
+          (λ same. rw same (ap (stopOf xs) (getD-set-same before (2 * k) row-standing 0 (omega (arith, e .holds .room, old-inside))) ∙ stop-standing))
+          (λ other. ap (stopOf xs) (getD-set-other before (2 * k) (2 * j) row-standing 0 (omega arith)))
+
+      pub enters-old : {heads : List ℕ} → Linked xs heads before count
+          → Enters xs row count count before (set before (2 * k) (standingOf xs (rowAt before k) row)) heads heads
+      unfolding row-standing
+      enters-old l =
           record {
-            count = sym long ∙ ap length (sym same);
-            output = as-noted ∙ ap (λ (l : List ℕ). noted xs l ++ rest) (sym same);
-          }
-
-      pub enter-over : numberOf xs (getD before (2 * k + 1) 0) 2 ≤ numberOf xs row 2 → Noted xs (entered xs row rows) count before (set before (2 * k + 1) row)
-      unfolding dayOf
-      enter-over late =
-          let same : entered xs row rows ≡ set rows k row = entered-old ∙ rw (le-leb (dayOf xs (getD rows k 0)) (dayOf xs row) (rw (← row-at k inside) late)) in
-          record {
-            count = sym long ∙ sym (length-set rows k row) ∙ ap length (sym same);
-            output =
-                ap (λ (l : List ℕ). set l (2 * k + 1) row) as-noted
-                ∙ pairs-set (stopOf xs) (λ r. r) rows k (omega (arith, long)) rest row (sym same-stop ∙ sym (p .found inside) ∙ stop-at k inside)
-                ∙ ap (λ (l : List ℕ). noted xs l ++ rest) (sym same);
+            noted = record {
+              held = held-set count before k row-standing old-inside (e .holds .room) ∙ sym entered-old;
+              room = omega (arith, length-set before (2 * k) row-standing, e .holds .room);
+              past = drop-set-lt (2 * count) before (2 * k) row-standing (omega (arith, old-inside));
+              same-long = length-set before (2 * k) row-standing;
+            };
+            linked = linked-same l stop-after (λ j h. getD-set-other before (2 * k) (2 * j + 1) row-standing 0 (omega arith));
+            same-long = refl;
           }

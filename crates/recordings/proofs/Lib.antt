@@ -5,10 +5,11 @@ pub mod Standing
 pub mod Pairs
 pub mod Stops
 pub mod Loops
+pub mod Held
+pub mod Links
 pub mod Entering
 pub mod Growing
 pub mod Putting
 pub mod Calls
 pub mod Order
 pub mod Laws
-pub mod Hints

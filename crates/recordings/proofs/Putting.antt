@@ -1,4 +1,4 @@
--- The recordings put in the places of the rows that were noted. Assumes nothing.
+-- Stops and recordings put in the places of the rows that were noted. Assumes nothing.
 use Prim.Native.Nat.{ℕ, suc, _+_, _*_, _<_, _≤_}
 use native.Mathlib.Numerals.{add-one}
 use native.Mathlib.Omega.{arith}
@@ -6,88 +6,76 @@ use mathlib.Core.Bool.{true}
 use mathlib.Core.List.{List, _∷_, _++_}
 use mathlib.Core.Path.{_≡_, refl, sym, ap, _∙_}
 use lib.ListN.{length, take, drop, getD, set, length-append, length-drop}
-use lib.Seq.{take-suc, drop-cons, length-take-le, take-length, drop-length}
+use lib.Seq.{take-suc, drop-cons, drop-drop, length-take-le, take-length, getD-at}
 use Rattle.recordings.specs.Recordings.{rowCount, numberOf, stopOf, recordingOf, isList, allStanding, pairs}
-use Rattle.recordings.specs.Walking.{noted, Noted}
+use Rattle.recordings.specs.Walking.{rowAt, Noted}
 use Rattle.recordings.proofs.Counting.{each-at}
-use Rattle.recordings.proofs.Growing.{standing-inside}
-use Rattle.recordings.proofs.Pairs.{second-at, second-set, before-long, length-pairs, pairs-last}
+use Rattle.recordings.proofs.Held.{held-at}
+use Rattle.recordings.proofs.Growing.{noted-count, standing-inside}
+use Rattle.recordings.proofs.Pairs.{length-pairs, pairs-put}
 
--- the recordings of the first k rows in their places, and the others noted still
-abbrev pub partly : List ℕ → List ℕ → List ℕ → ℕ → List ℕ
-partly xs rows rest k = pairs (stopOf xs) (recordingOf xs) (take k rows) ++ (noted xs (drop k rows) ++ rest)
+-- stops and recordings of the first k standing rows in their places, and the others noted still
+abbrev pub partly : List ℕ → List ℕ → ℕ → List ℕ
+partly xs before k = pairs (stopOf xs) (recordingOf xs) (take k (allStanding xs)) ++ drop (2 * k) before
 
-module _ (xs rows rest : List ℕ) where
-  pub partly-none : noted xs rows ++ rest ≡ partly xs rows rest 0
+module _ (xs : List ℕ) {count : ℕ} {before : List ℕ} (is : Noted (allStanding xs) count before before) where
+  abbrev rows : List ℕ
+  rows = allStanding xs
+
+  abbrev front : ℕ → List ℕ
+  front k = pairs (stopOf xs) (recordingOf xs) (take k rows)
+
+  pub puts-none : before ≡ partly xs before 0
   unfolding pairs
-  partly-none = refl
+  puts-none = refl
 
-  pub partly-all : (k : ℕ) → k ≡ length rows → partly xs rows rest k ≡ pairs (stopOf xs) (recordingOf xs) rows ++ rest
-  unfolding pairs
-  partly-all k e = rw (e, take-length, drop-length)
+  front-long : (k : ℕ) → k ≤ count → length (front k) ≡ 2 * k
+  front-long k h =
+      length-pairs (stopOf xs) (recordingOf xs) (take k rows) ∙ ap (λ (n : ℕ). 2 * n) (length-take-le k rows (omega (arith, noted-count is)))
 
-  module _ (k : ℕ) (more : k < length rows) where
-    row : ℕ
-    row = getD rows k 0
-
-    before : List ℕ
-    before = pairs (stopOf xs) (recordingOf xs) (take k rows)
-
-    long : length before ≡ 2 * k
-    unfolding before
-    long = before-long (stopOf xs) (recordingOf xs) rows k more rest
-
-    here : partly xs rows rest k ≡ before ++ stopOf xs row ∷ row ∷ (noted xs (drop (suc k) rows) ++ rest)
-    unfolding before row pairs
-    here = ap (λ (l : List ℕ). before ++ (noted xs l ++ rest)) (drop-cons rows k 0 more)
-
-    pub partly-row : getD (partly xs rows rest k) (2 * k + 1) 0 ≡ getD rows k 0
-    unfolding row
-    partly-row = ap (λ (l : List ℕ). getD l (2 * k + 1) 0) here ∙ second-at before _ _ _ (2 * k) long
-
-    pub partly-next : set (partly xs rows rest k) (2 * k + 1) (recordingOf xs (getD rows k 0)) ≡ partly xs rows rest (k + 1)
-    unfolding row before
-    partly-next =
-        ap (λ (l : List ℕ). set l (2 * k + 1) (recordingOf xs row)) here
-        ∙ second-set before (stopOf xs row) row (noted xs (drop (suc k) rows) ++ rest) (2 * k) long (recordingOf xs row)
-        ∙ sym (pairs-last (stopOf xs) (recordingOf xs) (take k rows) row (noted xs (drop (suc k) rows) ++ rest))
-        ∙ ap (λ (l : List ℕ). pairs (stopOf xs) (recordingOf xs) l ++ (noted xs (drop (suc k) rows) ++ rest)) (sym (take-suc rows k 0 more))
-        ∙ ap (partly xs rows rest) (sym (add-one k))
-
-  pub length-partly : (k : ℕ) → k ≤ length rows → length (partly xs rows rest k) ≡ 2 * length rows + length rest
-  length-partly k h =
-      simp (length-append, length-pairs, length-drop)
-      (omega (arith, length-take-le k rows h))
-
--- the standing rows' recordings, one after the other
-module _ {xs : List ℕ} {count : ℕ} {before : List ℕ} (is : Noted xs (allStanding xs) count before before) where
-  abbrev pub puts : ℕ → List ℕ
-  puts = partly xs (allStanding xs) (drop (2 * count) before)
-
-  pub puts-none : before ≡ puts 0
-  puts-none = is .output ∙ partly-none xs (allStanding xs) (drop (2 * count) before)
-
-  pub puts-length : (k : ℕ) → k ≤ count → length (puts k) ≡ length before
+  pub puts-length : (k : ℕ) → k ≤ count → length (partly xs before k) ≡ length before
   puts-length k h =
-      length-partly xs (allStanding xs) (drop (2 * count) before) k (omega (arith, is .count))
-      ∙ sym (length-partly xs (allStanding xs) (drop (2 * count) before) 0 (omega arith))
-      ∙ ap length (sym puts-none)
+      length-append (front k) (drop (2 * k) before) ∙ omega (arith, front-long k h, length-drop (2 * k) before, is .room)
 
   module _ {k : ℕ} (more : k < count) where
-    few : k < length (allStanding xs)
-    few = omega (arith, is .count)
+    few : k < length rows
+    few = omega (arith, noted-count is)
 
-    pub puts-room : 2 * k + 2 ≤ length (puts k)
-    puts-room = omega (arith, length-partly xs (allStanding xs) (drop (2 * count) before) k (omega (arith, few)), few)
+    pub puts-room : 2 * k + 2 ≤ length (partly xs before k)
+    puts-room = omega (arith, puts-length k (omega arith), is .room)
 
-    pub puts-inside : isList xs ≡ true → getD (puts k) (2 * k + 1) 0 < rowCount xs
-    puts-inside list =
-        rw (partly-row xs (allStanding xs) (drop (2 * count) before) k few) (each-at (allStanding xs) (standing-inside xs list) k few)
+    -- the row of the next place
+    pub puts-row : rowAt (partly xs before k) k ≡ getD rows k 0
+    puts-row =
+        ap (λ (l : List ℕ). getD (front k ++ l) (2 * k) 0) (drop-cons before (2 * k) 0 (omega (arith, is .room)))
+        ∙ getD-at (front k) (rowAt before k) (drop (suc (2 * k)) before) 0 (2 * k) (front-long k (omega arith))
+        ∙ sym (held-at count k before more)
+        ∙ ap (λ (l : List ℕ). getD l k 0) (is .held)
 
-    pub puts-next : set (puts k) (2 * k + 1) (numberOf xs (getD (puts k) (2 * k + 1) 0) 3) ≡ puts (k + 1)
-    unfolding recordingOf
-    puts-next =
-        rw (partly-row xs (allStanding xs) (drop (2 * count) before) k few) (partly-next xs (allStanding xs) (drop (2 * count) before) k few)
+    pub puts-inside : isList xs ≡ true → rowAt (partly xs before k) k < rowCount xs
+    puts-inside list = rw puts-row (each-at rows (standing-inside xs list) k few)
 
-  pub puts-all : (k : ℕ) → k ≡ count → puts k ≡ pairs (stopOf xs) (recordingOf xs) (allStanding xs) ++ drop (2 * count) before
-  puts-all k e = partly-all xs (allStanding xs) (drop (2 * count) before) k (e ∙ is .count)
+    pub puts-next : {row : ℕ} → row ≡ rowAt (partly xs before k) k
+        → set (set (partly xs before k) (2 * k) (numberOf xs row 1)) (2 * k + 1) (numberOf xs row 3) ≡ partly xs before (k + 1)
+    unfolding stopOf recordingOf
+    puts-next {row} e =
+        ap put (e ∙ puts-row)
+        ∙ ap (λ (n : ℕ). set (set (partly xs before k) (2 * n) (stopOf xs last)) (2 * n + 1) (recordingOf xs last))
+        (sym (length-take-le k rows (omega (arith, few))))
+        ∙ pairs-put (stopOf xs) (recordingOf xs) (take k rows) last (drop (2 * k) before) (omega (arith, length-drop (2 * k) before, is .room))
+        ∙ ap (λ (l : List ℕ). pairs (stopOf xs) (recordingOf xs) l ++ drop 2 (drop (2 * k) before)) (sym (take-suc rows k 0 few))
+        ∙ ap (λ (l : List ℕ). front (suc k) ++ l) (drop-drop 2 (2 * k) before)
+        ∙ ap (λ (n : ℕ). front (suc k) ++ drop n before) two
+        ∙ ap (partly xs before) (sym (add-one k))
+      where
+        last : ℕ
+        last = getD rows k 0
+
+        put : ℕ → List ℕ
+        put r = set (set (partly xs before k) (2 * k) (numberOf xs r 1)) (2 * k + 1) (numberOf xs r 3)
+
+        two : 2 * k + 2 ≡ 2 * suc k
+        two = omega arith
+
+  pub puts-all : (k : ℕ) → k ≡ count → partly xs before k ≡ pairs (stopOf xs) (recordingOf xs) rows ++ drop (2 * count) before
+  puts-all k e = rw (e, noted-count is, take-length)

@@ -1,73 +1,102 @@
--- What the contracts of inner functions name besides: the chain walked, rows entered one after the other, the least stop from a bound on.
--- Assumes nothing.
+-- What the contracts of inner functions name besides: the chain walked, rows entered one after the other, the chains of places by which a
+-- stop is found again, the least stop from a bound on. Assumes nothing.
 use Prim.Native.Nat.{ℕ, zero, suc, _+_, _*_, _%_, _<_, _≤_}
-use mathlib.Core.Bool.{true, _&&_, cond}
-use mathlib.Core.List.{List, [], _∷_, _++_, map}
+use mathlib.Core.Bool.{true, false, _&&_, cond}
+use mathlib.Core.List.{List, [], _∷_, map}
 use mathlib.Core.Path.{_≡_}
 use lib.Dec.{eqb, leb, ltb}
 use lib.ListN.{length, drop, getD}
 use Rattle.recordings.specs.declared.Least.{Least}
 use Rattle.recordings.specs.declared.Least.the-variants.{Stop, Nothing}
-use Rattle.recordings.specs.Recordings.{stopOf, dayOf, rowCount, isList, chain, member, pairs}
+use Rattle.recordings.specs.Recordings.{stopOf, dayOf, rowCount, isList, chain, member, hasTwice}
 
 -- a list that is not refused by 26, with the length of its chain
 pub record Walked (xs : List ℕ) (steps : ℕ) : Type 0 where
   pub is-list : isList xs ≡ true
   pub all-steps : steps ≡ length (chain xs)
 
+-- of two rows of a stop the one that stands: the later one, unless its issue day is smaller
+abbrev pub standingOf : List ℕ → ℕ → ℕ → ℕ
+standingOf xs row later = cond (leb (dayOf xs row) (dayOf xs later)) later row
+
 -- one row more: in place of the row of its stop, unless its issue day is smaller, or after the others
 unfoldable pub entered : List ℕ → ℕ → List ℕ → List ℕ
 entered xs later [] = later ∷ []
 entered xs later (row ∷ rows) =
-    cond (eqb (stopOf xs later) (stopOf xs row)) (cond (leb (dayOf xs row) (dayOf xs later)) later row ∷ rows) (row ∷ entered xs later rows)
+    cond (eqb (stopOf xs later) (stopOf xs row)) (standingOf xs row later ∷ rows) (row ∷ entered xs later rows)
 
--- rows noted in an output: stop and row of each
-abbrev pub noted : List ℕ → List ℕ → List ℕ
-noted xs rows = pairs (stopOf xs) (λ (row : ℕ). row) rows
+-- the two numbers at a place of an output while rows are noted: a row of the list and a link
+abbrev pub rowAt : List ℕ → ℕ → ℕ
+rowAt output k = getD output (2 * k) 0
 
--- the rows of the first so many pairs of an output
+abbrev pub linkAt : List ℕ → ℕ → ℕ
+linkAt output k = getD output (2 * k + 1) 0
+
+-- the stop of the row there
+abbrev pub stopAt : List ℕ → List ℕ → ℕ → ℕ
+stopAt xs output k = stopOf xs (rowAt output k)
+
+-- the rows at the first so many places of an output
 unfoldable pub heldRows : ℕ → List ℕ → List ℕ
 heldRows zero output = []
-heldRows (suc count) output = getD output 1 0 ∷ heldRows count (drop 2 output)
+heldRows (suc count) output = getD output 0 0 ∷ heldRows count (drop 2 output)
 
 -- an output that holds so many rows of the list
 pub record Holds (xs : List ℕ) (count : ℕ) (output : List ℕ) : Type 0 where
-  pub as-noted : output ≡ noted xs (heldRows count output) ++ drop (2 * count) output
-  pub inside : (k : ℕ) → k < count → getD output (2 * k + 1) 0 < rowCount xs
-
--- what entering a row asks: that it is one of the list's, and that there is room for the rows with it
-pub record Entering (xs : List ℕ) (row count : ℕ) (output : List ℕ) : Type 0 where
   pub is-list : isList xs ≡ true
-  pub inside : row < rowCount xs
-  pub holds : Holds xs count output
-  pub room : 2 * length (entered xs row (heldRows count output)) ≤ length output
+  pub room : 2 * count ≤ length output
+  pub inside : (k : ℕ) → k < count → rowAt output k < rowCount xs
 
 -- the rows noted in an output, n of them; what stands past them is as before
-pub record Noted (xs rows : List ℕ) (n : ℕ) (before after : List ℕ) : Type 0 where
-  pub count : n ≡ length rows
-  pub output : after ≡ noted xs rows ++ drop (2 * n) before
-
--- the stop of a pair is found at a place, or at none of the first so many
-pub record Place (output : List ℕ) (count stop place : ℕ) : Type 0 where
-  pub most : place ≤ count
-  pub none-before : (k : ℕ) → k < place → getD output (2 * k) 0 ≡ stop → ⊥
-  pub found : place < count → getD output (2 * place) 0 ≡ stop
-
--- hints at the places of stops by their remainders: none are zero of those that stand in the first so many pairs, whose stops differ
-pub record Hinted (hints output : List ℕ) (count : ℕ) : Type 0 where
-  pub long : length hints ≡ 8192
-  pub some : (k : ℕ) → k < count → getD hints (getD output (2 * k) 0 % 8192) 0 ≡ 0 → ⊥
-  pub differ : (j k : ℕ) → j < k → k < count → getD output (2 * j) 0 ≡ getD output (2 * k) 0 → ⊥
-
--- there is a hint for a stop, and there are those that there were
-pub record Marked (stop : ℕ) (before after : List ℕ) : Type 0 where
+pub record Noted (rows : List ℕ) (n : ℕ) (before after : List ℕ) : Type 0 where
+  pub held : heldRows n after ≡ rows
+  pub room : 2 * n ≤ length after
+  pub past : drop (2 * n) after ≡ drop (2 * n) before
   pub same-long : length after ≡ length before
-  pub here : getD after (stop % 8192) 0 ≡ 0 → ⊥
-  pub others : (h : ℕ) → getD after h 0 ≡ 0 → getD before h 0 ≡ 0
+
+-- one more than the last of the first so many places whose stop has a remainder; 0 where there is none
+unfoldable pub newest : List ℕ → List ℕ → ℕ → ℕ → ℕ → ℕ
+newest xs output size remainder zero = 0
+newest xs output size remainder (suc k) =
+    cond (eqb (stopAt xs output k % size) remainder) (suc k) (newest xs output size remainder k)
+
+-- a chain of places for each remainder: from its head, and from each place to the one before it
+pub record Chains (xs heads output : List ℕ) (count : ℕ) : Type 0 where
+  pub first : (r : ℕ) → r < length heads → getD heads r 0 ≡ newest xs output (length heads) r count
+  pub next : (k : ℕ) → k < count → linkAt output k ≡ newest xs output (length heads) (stopAt xs output k % length heads) k
+
+-- the same as far as a head of 32 bits names a place
+pub record Linked (xs heads output : List ℕ) (count : ℕ) : Type 0 where
+  pub some : 0 < length heads
+  pub chains : count < 4294967296 → Chains xs heads output count
+
+-- heads of no chains
+pub record Fresh (heads : List ℕ) : Type 0 where
+  pub some : 0 < length heads
+  pub zeros : (r : ℕ) → r < length heads → getD heads r 0 ≡ 0
+
+-- the place of a stop, or the count where it is at none of the first so many
+pub record Place (xs output : List ℕ) (count stop place : ℕ) : Type 0 where
+  pub most : place ≤ count
+  pub found : place < count → stopAt xs output place ≡ stop
+  pub none : place ≡ count → (k : ℕ) → k < count → stopAt xs output k ≡ stop → ⊥
 
 -- the stops of rows
 abbrev pub stops : List ℕ → List ℕ → List ℕ
 stops xs rows = map (stopOf xs) rows
+
+-- what entering a row asks: that it is one of the list's, that no stop was noted twice, and that there is room for the rows with it
+pub record Entering (xs : List ℕ) (row count : ℕ) (output : List ℕ) : Type 0 where
+  pub inside : row < rowCount xs
+  pub holds : Holds xs count output
+  pub differ : hasTwice (stops xs (heldRows count output)) ≡ false
+  pub room : 2 * length (entered xs row (heldRows count output)) ≤ length output
+
+-- what it leaves: the rows noted, n of them, and their chains
+pub record Enters (xs : List ℕ) (row count n : ℕ) (before after heads now : List ℕ) : Type 0 where
+  pub noted : Noted (entered xs row (heldRows count before)) n before after
+  pub linked : Linked xs now after n
+  pub same-long : length now ≡ length heads
 
 -- the least number that is greater than what was found before, where there was something
 unfoldable pub from : Least → ℕ

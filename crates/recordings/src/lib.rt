@@ -5,8 +5,10 @@ ghost use mathlib.Core.List.{_++_};
 ghost use Prim.Native.Nat.{_+_, _*_, _%_, _≤_, _<_};
 ghost use lib.Dec.{leb};
 ghost use lib.ListN.{length, getD, set, drop};
-ghost use Rattle.recordings.specs.Recordings.{rowCount, numberOf, stopOf, recordingOf, zerosAfter, nextsInside, isList, chain, allStanding, pairs, correcting, Numbered};
-ghost use Rattle.recordings.specs.Walking.{Walked, Place, Entering, Noted, Hinted, Marked, entered, heldRows, stops, from, lesser, LeastOf};
+ghost use Rattle.recordings.specs.Recordings.{rowCount, numberOf, stopOf, recordingOf, zerosAfter, nextsInside, isList, chain};
+ghost use Rattle.recordings.specs.Recordings.{allStanding, pairs, correcting, Numbered};
+ghost use Rattle.recordings.specs.Walking.{Walked, Place, Holds, Entering, Enters, Noted, Linked, Fresh, standingOf};
+ghost use Rattle.recordings.specs.Walking.{rowAt, linkAt, stopAt, stops, from, lesser, LeastOf};
 
 // What the call answers: how many stops it wrote, or why it wrote none: 26, 27, 28.
 pub enum Written {
@@ -126,11 +128,18 @@ fn next_stop(list: &[u64], steps: usize, last: Least) -> Least
     found
 }
 
-// No hints.
-fn no_hints() -> [u16; 8192]
-    ensures { λ r. ⌜ length r ≡ 8192 ⌝ }
+// Heads of no chains yet.
+fn no_heads() -> [u32; 8191]
+    ensures { λ r. ⌜ (length r ≡ 8191) × Fresh r ⌝ }
 {
-    [0u16; 8192]
+    [0u32; 8191]
+}
+
+// The same for few pairs.
+fn few_heads() -> [u32; 1021]
+    ensures { λ r. ⌜ (length r ≡ 1021) × Fresh r ⌝ }
+{
+    [0u32; 1021]
 }
 
 // Room for 1,024 pairs.
@@ -141,15 +150,15 @@ fn no_pairs() -> [u64; 2048]
 }
 
 // Whether there is room for the stops of the chain, whose standing rows are noted until there are more.
-fn count_few(list: &[u64], steps: usize, room: usize, pairs: &mut [u64], hints: &mut [u16]) -> bool
-    requires { ⌜ Walked (now list) steps × (2 * room + 2 ≤ length (now pairs)) × (length (now hints) ≡ 8192) ⌝ }
+fn count_few(list: &[u64], steps: usize, room: usize, pairs: &mut [u64], heads: &mut [u32]) -> bool
+    requires { ⌜ Walked (now list) steps × (2 * room + 2 ≤ length (now pairs)) × Fresh (now heads) ⌝ }
     ensures { λ r. ⌜ r ≡ leb (length (allStanding (now (list .entry)))) room ⌝ }
 {
     let mut count = 0;
     let mut row = number_of(list, 0, 0);
     let mut i = 0;
     while i < steps {
-        count = enter(list, row as usize, count, pairs, hints);
+        count = enter(list, row as usize, count, pairs, heads);
         if room < count {
             return false;
         }
@@ -165,12 +174,12 @@ fn fits_few(list: &[u64], steps: usize, room: usize) -> bool
     ensures { λ r. ⌜ r ≡ leb (length (allStanding (now (list .entry)))) room ⌝ }
 {
     let mut pairs = no_pairs();
-    let mut hints = no_hints();
-    count_few(list, steps, room, &mut pairs, &mut hints)
+    let mut heads = few_heads();
+    count_few(list, steps, room, &mut pairs, &mut heads)
 }
 
-// Whether there is room for the stops of the chain, which are counted only where the chain has more rows than there is room for. Where the
-// room is small their rows are noted in other memory; else they are counted in the order of their numbers, by a pass for each.
+// Whether there is room for the stops of the chain, which are counted only where the chain has more rows than there is room for. Where
+// the room is small their rows are noted in other memory; else they are counted in the order of their numbers, by a pass for each.
 fn has_room(list: &[u64], steps: usize, room: usize) -> bool
     requires { ⌜ Walked (now list) steps ⌝ }
     ensures { λ r. ⌜ r ≡ leb (length (allStanding (now (list .entry)))) room ⌝ }
@@ -195,62 +204,28 @@ fn has_room(list: &[u64], steps: usize, room: usize) -> bool
     }
 }
 
-// The place of a stop among the first so many pairs, or their count where it is not there.
-fn place_of(output: &[u64], count: usize, stop: u64) -> usize
-    requires { ⌜ 2 * count ≤ length (now output) ⌝ }
-    ensures { λ r. ⌜ Place (now (output .entry)) count stop r ⌝ }
+// The first number of pair k.
+fn first_of(output: &[u64], k: usize) -> u64
+    requires { ⌜ 2 * k + 2 ≤ length (now output) ⌝ }
+    ensures { λ r. ⌜ r ≡ rowAt (now (output .entry)) k ⌝ }
 {
-    let mut k = 0;
-    while k < count {
-        if output[2 * k] == stop {
-            return k;
-        }
-        k += 1;
-    }
-    k
-}
-
-// The same by a hint at the place that a stop with this remainder had. Where there is no hint there is no such stop.
-fn find(hints: &[u16], output: &[u64], count: usize, stop: u64) -> usize
-    requires { ⌜ (2 * count ≤ length (now output)) × Hinted (now hints) (now output) count ⌝ }
-    ensures { λ r. ⌜ Place (now (output .entry)) count stop r ⌝ }
-{
-    let hint = hints[(stop % 8192) as usize] as usize;
-    if hint == 0 {
-        return count;
-    }
-    if count < hint {
-        return place_of(output, count, stop);
-    }
-    let k = hint - 1;
-    if output[2 * k] == stop {
-        return k;
-    }
-    place_of(output, count, stop)
-}
-
-// Leaves a hint at the place of a stop. It is never zero, and right up to place 65,534.
-fn mark(hints: &mut [u16], stop: u64, k: usize)
-    requires { ⌜ length (now hints) ≡ 8192 ⌝ }
-    ensures { λ _. ⌜ now (hints .exit) ≡ set (now (hints .entry)) (stop % 8192) (k % 65535 + 1) ⌝ }
-{
-    hints[(stop % 8192) as usize] = (k % 65535 + 1) as u16;
+    output[2 * k]
 }
 
 // The second number of pair k.
 fn second_of(output: &[u64], k: usize) -> u64
     requires { ⌜ 2 * k + 2 ≤ length (now output) ⌝ }
-    ensures { λ r. ⌜ r ≡ getD (now (output .entry)) (2 * k + 1) 0 ⌝ }
+    ensures { λ r. ⌜ r ≡ linkAt (now (output .entry)) k ⌝ }
 {
     output[2 * k + 1]
 }
 
-// Writes the second number of pair k.
-fn put_second(output: &mut [u64], k: usize, second: u64)
+// Writes the first number of pair k.
+fn put_first(output: &mut [u64], k: usize, first: u64)
     requires { ⌜ 2 * k + 2 ≤ length (now output) ⌝ }
-    ensures { λ _. ⌜ now (output .exit) ≡ set (now (output .entry)) (2 * k + 1) second ⌝ }
+    ensures { λ _. ⌜ now (output .exit) ≡ set (now (output .entry)) (2 * k) first ⌝ }
 {
-    output[2 * k + 1] = second;
+    output[2 * k] = first;
 }
 
 // Writes both numbers of pair k.
@@ -258,64 +233,138 @@ fn put_pair(output: &mut [u64], k: usize, first: u64, second: u64)
     requires { ⌜ 2 * k + 2 ≤ length (now output) ⌝ }
     ensures { λ _. ⌜ now (output .exit) ≡ set (set (now (output .entry)) (2 * k) first) (2 * k + 1) second ⌝ }
 {
-    output[2 * k] = first;
-    put_second(output, k, second);
+    put_first(output, k, first);
+    output[2 * k + 1] = second;
 }
 
-// Enters a row into the pairs of stop and row: over the one of its stop, unless its issue day is smaller, or after them. Their count then.
-fn enter(list: &[u64], row: usize, count: usize, output: &mut [u64], hints: &mut [u16]) -> usize
-    requires { ⌜ Entering (now list) row count (now output) × Hinted (now hints) (now output) count ⌝ }
-    ensures { λ r. ⌜ Noted (now (list .entry)) (entered (now (list .entry)) row (heldRows count (now (output .entry)))) r (now (output .entry)) (now (output .exit)) × Marked (stopOf (now (list .entry)) row) (now (hints .entry)) (now (hints .exit)) ⌝ }
+// The stop of the row in pair k.
+fn stop_at(list: &[u64], output: &[u64], k: usize) -> u64
+    requires { ⌜ (2 * k + 2 ≤ length (now output)) × (4 * rowAt (now output) k + 1 < length (now list)) ⌝ }
+    ensures { λ r. ⌜ r ≡ stopAt (now (list .entry)) (now (output .entry)) k ⌝ }
 {
-    let stop = number_of(list, row, 1);
-    let k = find(&*hints, &*output, count, stop);
-    mark(hints, stop, k);
-    if k == count {
-        put_pair(output, k, stop, row as u64);
-        return count + 1;
+    number_of(list, first_of(output, k) as usize, 1)
+}
+
+// The place of a stop among the first so many pairs, or their count where it is not there.
+fn place_of(list: &[u64], output: &[u64], count: usize, stop: u64) -> usize
+    requires { ⌜ Holds (now list) count (now output) ⌝ }
+    ensures { λ r. ⌜ Place (now (list .entry)) (now (output .entry)) count stop r ⌝ }
+{
+    let mut k = 0;
+    while k < count {
+        if stop_at(list, output, k) == stop {
+            return k;
+        }
+        k += 1;
     }
-    let held = second_of(&*output, k) as usize;
-    if number_of(list, row, 2) < number_of(list, held, 2) {
-        return count;
+    k
+}
+
+// Which chain a stop belongs to: that of its remainder.
+fn chain_of(heads: &[u32], stop: u64) -> usize
+    requires { ⌜ 0 < length (now heads) ⌝ }
+    ensures { λ r. ⌜ (r ≡ stop % length (now (heads .entry))) × (r < length (now (heads .entry))) ⌝ }
+{
+    (stop % heads.len() as u64) as usize
+}
+
+// The same along the chain of its remainder, from the head back from place to place by the links; each is one more than a place, and 0
+// at the end. Where there are more pairs than a head can tell, all are looked through.
+fn find(list: &[u64], heads: &[u32], output: &[u64], count: usize, stop: u64) -> usize
+    requires { ⌜ Holds (now list) count (now output) × Linked (now list) (now heads) (now output) count ⌝ }
+    ensures { λ r. ⌜ Place (now (list .entry)) (now (output .entry)) count stop r ⌝ }
+{
+    if 4294967295 < count {
+        return place_of(list, output, count, stop);
     }
-    put_second(output, k, row as u64);
+    let mut at = heads[chain_of(heads, stop)] as usize;
+    while 0 < at {
+        let k = at - 1;
+        if stop_at(list, output, k) == stop {
+            return k;
+        }
+        at = second_of(output, k) as usize;
+    }
     count
 }
 
-// Notes stop and row of each standing row at the start of the output, and counts them.
-fn note_standing(list: &[u64], steps: usize, output: &mut [u64], hints: &mut [u16]) -> usize
-    requires { ⌜ Walked (now list) steps × (2 * length (allStanding (now list)) ≤ length (now output)) × (length (now hints) ≡ 8192) ⌝ }
-    ensures { λ r. ⌜ Noted (now (list .entry)) (allStanding (now (list .entry))) r (now (output .entry)) (now (output .exit)) ⌝ }
+// Puts a place at the head of its stop's chain, and gives the head before. It is never zero, and right up to place 4,294,967,294.
+fn push(heads: &mut [u32], stop: u64, k: usize) -> u64
+    requires { ⌜ 0 < length (now heads) ⌝ }
+    ensures { λ r. ⌜ (r ≡ getD (now (heads .entry)) (stop % length (now (heads .entry))) 0)
+        × (now (heads .exit) ≡ set (now (heads .entry)) (stop % length (now (heads .entry))) (k % 4294967295 + 1)) ⌝ }
+{
+    let chain = chain_of(&*heads, stop);
+    let before = heads[chain] as u64;
+    heads[chain] = (k % 4294967295 + 1) as u32;
+    before
+}
+
+// Of two rows of a stop the one that stands: the one that came later, unless its issue day is smaller.
+fn standing_of(list: &[u64], held: usize, row: usize) -> usize
+    requires { ⌜ (4 * held + 2 < length (now list)) × (4 * row + 2 < length (now list)) ⌝ }
+    ensures { λ r. ⌜ r ≡ standingOf (now (list .entry)) held row ⌝ }
+{
+    if number_of(list, row, 2) < number_of(list, held, 2) {
+        return held;
+    }
+    row
+}
+
+// Enters a row into the pairs of row and link: in that of its stop, if it stands for it now, or after them. Their count then.
+fn enter(list: &[u64], row: usize, count: usize, output: &mut [u64], heads: &mut [u32]) -> usize
+    requires { ⌜ Entering (now list) row count (now output) × Linked (now list) (now heads) (now output) count ⌝ }
+    ensures { λ r. ⌜ Enters (now (list .entry)) row count r
+        (now (output .entry)) (now (output .exit)) (now (heads .entry)) (now (heads .exit)) ⌝ }
+{
+    let stop = number_of(list, row, 1);
+    let k = find(list, &*heads, &*output, count, stop);
+    if k == count {
+        let link = push(heads, stop, count);
+        put_pair(output, count, row as u64, link);
+        return count + 1;
+    }
+    let held = first_of(&*output, k) as usize;
+    put_first(output, k, standing_of(list, held, row) as u64);
+    count
+}
+
+// Notes row and link of each standing row at the start of the output, and counts them.
+fn note_standing(list: &[u64], steps: usize, output: &mut [u64], heads: &mut [u32]) -> usize
+    requires { ⌜ Walked (now list) steps × (2 * length (allStanding (now list)) ≤ length (now output)) × Fresh (now heads) ⌝ }
+    ensures { λ r. ⌜ Noted (allStanding (now (list .entry))) r (now (output .entry)) (now (output .exit)) ⌝ }
 {
     let mut count = 0;
     let mut row = number_of(list, 0, 0);
     let mut i = 0;
     while i < steps {
-        count = enter(list, row as usize, count, output, hints);
+        count = enter(list, row as usize, count, output, heads);
         row = number_of(list, row as usize, 0);
         i += 1;
     }
     count
 }
 
-// The same with hints of its own.
+// The same with heads of its own.
 fn note(list: &[u64], steps: usize, output: &mut [u64]) -> usize
     requires { ⌜ Walked (now list) steps × (2 * length (allStanding (now list)) ≤ length (now output)) ⌝ }
-    ensures { λ r. ⌜ Noted (now (list .entry)) (allStanding (now (list .entry))) r (now (output .entry)) (now (output .exit)) ⌝ }
+    ensures { λ r. ⌜ Noted (allStanding (now (list .entry))) r (now (output .entry)) (now (output .exit)) ⌝ }
 {
-    let mut hints = no_hints();
-    note_standing(list, steps, output, &mut hints)
+    let mut heads = no_heads();
+    note_standing(list, steps, output, &mut heads)
 }
 
-// Puts each noted row's recording in its place.
+// Puts each noted row's stop and recording in its place.
 fn put_recordings(list: &[u64], count: usize, output: &mut [u64])
-    requires { ⌜ isList (now list) ≡ true × Noted (now list) (allStanding (now list)) count (now output) (now output) ⌝ }
-    ensures { λ _. ⌜ now (output .exit) ≡ pairs (stopOf (now (list .entry))) (recordingOf (now (list .entry))) (allStanding (now (list .entry))) ++ drop (2 * count) (now (output .entry)) ⌝ }
+    requires { ⌜ isList (now list) ≡ true × Noted (allStanding (now list)) count (now output) (now output) ⌝ }
+    ensures { λ _. ⌜ now (output .exit)
+        ≡ pairs (stopOf (now (list .entry))) (recordingOf (now (list .entry))) (allStanding (now (list .entry)))
+        ++ drop (2 * count) (now (output .entry)) ⌝ }
 {
     let mut k = 0;
     while k < count {
-        let row = second_of(&*output, k) as usize;
-        put_second(output, k, number_of(list, row, 3));
+        let row = first_of(&*output, k) as usize;
+        put_pair(output, k, number_of(list, row, 1), number_of(list, row, 3));
         k += 1;
     }
 }

@@ -4,14 +4,17 @@ use borrow.Author.Needs.{needs}
 use Rattle.recordings.proofs.note.Statement.{statement}
 use Rattle.recordings.proofs.note.Tie as tie
 
-no-hints-requires : tie.Need-no-hints-requires
-no-hints-requires c κs = search needs
+no-heads-requires : tie.Need-no-heads-requires
+no-heads-requires c κs = search needs
 
 slice-aggregate-note-standing : tie.Need-slice-aggregate-note-standing
-slice-aggregate-note-standing c = sym (c .before .before .no-hints .ensures)
+slice-aggregate-note-standing c = sym (c .before .before .no-heads .ensures .0)
 
 note-standing-requires : tie.Need-note-standing-requires
-note-standing-requires c κs = (c .before .before .before .before .before .pre .0, c .before .before .before .before .before .pre .1, c .before .before .no-hints .ensures)
+note-standing-requires c κs =
+    let at-no-heads = c .before .before in
+    let entry = at-no-heads .before .before .before in
+    (entry .pre .0, entry .pre .1, at-no-heads .no-heads .ensures .1)
 
 same-length : tie.Need-same-length
 same-length c = search needs
@@ -23,7 +26,7 @@ pub note-spec : {M : Type 1} → statement M
 note-spec =
     tie.close
     (tie.spec
-    no-hints-requires
+    no-heads-requires
     slice-aggregate-note-standing
     note-standing-requires
     same-length

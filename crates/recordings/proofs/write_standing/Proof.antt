@@ -2,11 +2,10 @@
 use Prim.Native.Nat.{ℕ}
 use mathlib.Core.List.{List, _++_}
 use mathlib.Core.Path.{sym, ap, _∙_}
-use native.Mathlib.Omega.{arith}
 use borrow.Author.Tests.{not-true, not-false}
 use Rattle.recordings.specs.Recordings.{stopOf, recordingOf, allStanding, pairs}
 use Rattle.recordings.proofs.Calls.{bad-list, row-twice, output-short, pairs-fit, all-written}
-use Rattle.recordings.proofs.Growing.{noted-itself, noted-past}
+use Rattle.recordings.proofs.Growing.{noted-itself, noted-count}
 use borrow.Author.Needs.{needs}
 use Rattle.recordings.proofs.write_standing.Statement.{statement}
 use Rattle.recordings.proofs.write_standing.Tie as tie
@@ -79,8 +78,8 @@ returns-4 c =
     let list = sym (at-is-list .is-list .ensures) ∙ not-false _ (at-if1 .if1 .left) in
     let noted = at-note .note .ensures in
     let xs : List ℕ = entry .args .list .now in
-    all-written _ _ list (at-chain-length .chain-length .ensures) (at-if2 .if2 .left) (sym (at-has-room .has-room .ensures) ∙ not-false _ (at-if3 .if3 .left)) (noted .count)
-    (at-put-recordings .put-recordings .ensures ∙ ap (λ (l : List ℕ). pairs (stopOf xs) (recordingOf xs) (allStanding xs) ++ l) (noted-past noted (at-note .note .result) (omega arith)))
+    all-written _ _ list (at-chain-length .chain-length .ensures) (at-if2 .if2 .left) (sym (at-has-room .has-room .ensures) ∙ not-false _ (at-if3 .if3 .left)) (noted-count noted)
+    (at-put-recordings .put-recordings .ensures ∙ ap (λ (l : List ℕ). pairs (stopOf xs) (recordingOf xs) (allStanding xs) ++ l) (noted .past))
 
 pub write-standing-spec : {M : Type 1} → statement M
 write-standing-spec =
