@@ -8,7 +8,7 @@ use lib.Dec.{leb}
 use lib.ListN.{length, drop, getD, set, length-append, length-set}
 use lib.Seq.{lt-length-set, getD-set-same, getD-set-other, drop-set-lt}
 use Rattle.word.proofs.Tests.{by-eqb, either-way}
-use Rattle.recordings.specs.Recordings.{rowCount, numberOf, stopOf, dayOf, member, hasTwice}
+use Rattle.recordings.specs.Recordings.{numberOf, stopOf, dayOf, member, hasTwice}
 use Rattle.recordings.specs.Walking.{standingOf, entered, rowAt, linkAt, stopAt, stops, heldRows, Holds, Entering, Enters, Linked, Place}
 use Rattle.recordings.proofs.Counting.{or-false, member-first, member-more, no-both}
 use Rattle.recordings.proofs.Chain.{number-inside}

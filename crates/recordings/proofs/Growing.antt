@@ -33,7 +33,7 @@ module _ {rows : List ℕ} {n : ℕ} {before after : List ℕ} (is : Noted rows 
   pub noted-itself : Noted rows n after after
   noted-itself = record { held = is .held; room = is .room; past = refl; same-long = refl }
 
-  pub noted-holds : {xs : List ℕ} → isList xs ≡ true → Each (λ r. r < rowCount xs) rows → Holds xs n after
+  noted-holds : {xs : List ℕ} → isList xs ≡ true → Each (λ r. r < rowCount xs) rows → Holds xs n after
   noted-holds list each =
       record {
         is-list = list;

@@ -3,7 +3,7 @@ use Prim.Native.Nat.{ℕ, suc, _+_, _*_, _<_, _≤_}
 use native.Mathlib.Numerals.{add-one}
 use native.Mathlib.Omega.{arith}
 use mathlib.Core.Bool.{true}
-use mathlib.Core.List.{List, _∷_, _++_}
+use mathlib.Core.List.{List, _++_}
 use mathlib.Core.Path.{_≡_, refl, sym, ap, _∙_}
 use lib.ListN.{length, take, drop, getD, set, length-append, length-drop}
 use lib.Seq.{take-suc, drop-cons, drop-drop, length-take-le, take-length, getD-at}
@@ -45,7 +45,7 @@ module _ (xs : List ℕ) {count : ℕ} {before : List ℕ} (is : Noted (allStand
     puts-room = omega (arith, puts-length k (omega arith), is .room)
 
     -- the row of the next place
-    pub puts-row : rowAt (partly xs before k) k ≡ getD rows k 0
+    puts-row : rowAt (partly xs before k) k ≡ getD rows k 0
     puts-row =
         ap (λ (l : List ℕ). getD (front k ++ l) (2 * k) 0) (drop-cons before (2 * k) 0 (omega (arith, is .room)))
         ∙ getD-at (front k) (rowAt before k) (drop (suc (2 * k)) before) 0 (2 * k) (front-long k (omega arith))

@@ -1,6 +1,5 @@
 -- `recordings::chain_of` meets its contract. Assumes nothing.
 use native.Mathlib.Nat.{mod-lt}
-use native.Mathlib.Omega.{arith}
 use mathlib.Core.Path.{refl}
 use borrow.Author.Needs.{needs}
 use Rattle.recordings.proofs.chain_of.Statement.{statement}

@@ -83,7 +83,8 @@ loop-again c =
     let at-loop = at-loop-test .before in
     let entry = at-loop .before .before .before .before .before .before .before in
     let chains = entry .pre .1 .chains (omega arith) in
-    rw (c .second-of .ensures) (along-next chains (at-loop .loop .inv) (at-loop-test .loop-test .taken) (λ same. at-if2 .if2 .left (at-stop-at .stop-at .ensures ∙ same)))
+    rw (c .second-of .ensures)
+    (along-next chains (at-loop .loop .inv) (at-loop-test .loop-test .taken) (λ same. at-if2 .if2 .left (at-stop-at .stop-at .ensures ∙ same)))
 
 returns-3 : tie.Need-returns-3 Inv-loop μ-loop
 returns-3 c =

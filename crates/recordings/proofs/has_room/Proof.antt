@@ -42,7 +42,10 @@ returns-3 : tie.Need-returns-3 Inv-loop μ-loop
 returns-3 c = sym (room-none _ _ _ (rw (c .enum-told .given .1) at (c .before .before .next-stop .ensures))) ∙ c .before .before .before .loop .inv
 
 returns-4 : tie.Need-returns-4 Inv-loop μ-loop
-returns-4 c = sym (room-short _ _ _ _ (rw (c .before .before .stop .given .1) at (c .before .before .before .before .next-stop .ensures)) (c .if3 .taken)) ∙ c .before .before .before .before .before .loop .inv
+returns-4 c =
+    let at-stop = c .before .before in
+    let at-next-stop = at-stop .before .before in
+    sym (room-short _ _ _ _ (rw (at-stop .stop .given .1) at (at-next-stop .next-stop .ensures)) (c .if3 .taken)) ∙ at-next-stop .before .loop .inv
 
 sub-left : tie.Need-sub-left Inv-loop μ-loop
 sub-left c = search needs
@@ -51,7 +54,10 @@ loop-less : tie.Need-loop-less Inv-loop μ-loop
 loop-less c = search needs
 
 loop-again : tie.Need-loop-again Inv-loop μ-loop
-loop-again c = room-next _ _ _ _ (rw (c .before .before .stop .given .1) at (c .before .before .before .before .next-stop .ensures)) (c .if3 .left) ∙ c .before .before .before .before .before .loop .inv
+loop-again c =
+    let at-stop = c .before .before in
+    let at-next-stop = at-stop .before .before in
+    room-next _ _ _ _ (rw (at-stop .stop .given .1) at (at-next-stop .next-stop .ensures)) (c .if3 .left) ∙ at-next-stop .before .loop .inv
 
 pub has-room-spec : {M : Type 1} → statement M
 has-room-spec =

@@ -48,8 +48,12 @@ loop-again c =
     let at-number-of2 = at-lesser-of .before in
     let at-loop = at-number-of2 .before .before in
     let entry = at-loop .before .before .before in
-    let more : at-loop .loop .i < length (chain (entry .args .list .now)) = omega (arith, entry .pre .all-steps) in
-    (rw (c .number-of3 .ensures) (at-next _ (entry .pre .is-list) (at-loop .loop .inv .0) more), omega arith, rw (at-lesser-of .lesser-of .ensures, at-number-of2 .number-of2 .ensures) (least-step _ _ (entry .pre .is-list) (at-loop .loop .inv .0) more _ (at-loop .loop .inv .2)))
+    let more : at-loop .loop .i < length (chain (entry .args .list .now)) = omega (arith, entry .pre .all-steps) in (
+      rw (c .number-of3 .ensures) (at-next _ (entry .pre .is-list) (at-loop .loop .inv .0) more),
+      omega arith,
+      rw (at-lesser-of .lesser-of .ensures, at-number-of2 .number-of2 .ensures)
+          (least-step _ _ (entry .pre .is-list) (at-loop .loop .inv .0) more _ (at-loop .loop .inv .2)),
+    )
 
 returns : tie.Need-returns Inv-loop μ-loop
 returns c = least-end _ _ (c .before .loop .i) (omega (arith, c .before .before .before .before .pre .all-steps)) _ (c .before .loop .inv .2)

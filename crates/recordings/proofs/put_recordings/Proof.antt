@@ -31,8 +31,9 @@ number-of-requires c κs =
     let at-loop-test = at-first-of .before .before in
     let at-loop = at-loop-test .before in
     let entry = at-loop .before .before .before in
-    number-inside _ (entry .pre .0) _ 1
-    (rw (at-first-of .first-of .ensures, at-loop .loop .inv .1) (puts-inside _ (entry .pre .1) (at-loop-test .loop-test .taken) (entry .pre .0))) (omega arith)
+    let inside = puts-inside _ (entry .pre .1) (at-loop-test .loop-test .taken) (entry .pre .0) in
+    let all = number-inside (entry .args .list .now) (entry .pre .0) _ 3 inside (omega arith) in
+    rw (at-first-of .first-of .ensures, at-loop .loop .inv .1) (omega arith)
 
 number-of-requires-2 : tie.Need-number-of-requires-2 Inv-loop μ-loop
 number-of-requires-2 c κs =
@@ -40,8 +41,9 @@ number-of-requires-2 c κs =
     let at-loop-test = at-first-of .before .before in
     let at-loop = at-loop-test .before in
     let entry = at-loop .before .before .before in
-    number-inside _ (entry .pre .0) _ 3
-    (rw (at-first-of .first-of .ensures, at-loop .loop .inv .1) (puts-inside _ (entry .pre .1) (at-loop-test .loop-test .taken) (entry .pre .0))) (omega arith)
+    let inside = puts-inside _ (entry .pre .1) (at-loop-test .loop-test .taken) (entry .pre .0) in
+    let all = number-inside (entry .args .list .now) (entry .pre .0) _ 3 inside (omega arith) in
+    rw (at-first-of .first-of .ensures, at-loop .loop .inv .1) (omega arith)
 
 put-pair-requires : tie.Need-put-pair-requires Inv-loop μ-loop
 put-pair-requires c κs =

@@ -1,7 +1,6 @@
 -- `recordings::standing_of` meets its contract: an issue day that is smaller, and one that is not. Assumes nothing.
 use borrow.Author.Tests.{le-leb, lt-leb}
 use Rattle.recordings.specs.Recordings.{dayOf}
-use borrow.Author.Needs.{needs}
 use Rattle.recordings.proofs.standing_of.Statement.{statement}
 use Rattle.recordings.proofs.standing_of.Tie as tie
 

@@ -2,7 +2,6 @@
 use Prim.Native.Nat.{ℕ}
 use mathlib.Core.Path.{ap, _∙_}
 use Rattle.recordings.specs.Recordings.{numberOf, stopOf}
-use borrow.Author.Needs.{needs}
 use Rattle.recordings.proofs.stop_at.Statement.{statement}
 use Rattle.recordings.proofs.stop_at.Tie as tie
 

@@ -40,7 +40,9 @@ returns-3 c =
     let at-chain-length = at-if2 .before in
     let at-if1 = at-chain-length .before in
     let at-is-list = at-if1 .before in
-    output-short _ _ (sym (at-is-list .is-list .ensures) ∙ not-false _ (at-if1 .if1 .left)) (at-chain-length .chain-length .ensures) (at-if2 .if2 .left) (sym (at-has-room .has-room .ensures) ∙ not-true _ (c .if3 .taken))
+    let list = sym (at-is-list .is-list .ensures) ∙ not-false _ (at-if1 .if1 .left) in
+    let short = sym (at-has-room .has-room .ensures) ∙ not-true _ (c .if3 .taken) in
+    output-short _ _ list (at-chain-length .chain-length .ensures) (at-if2 .if2 .left) short
 
 note-requires : tie.Need-note-requires
 note-requires c κs =
@@ -52,7 +54,9 @@ note-requires c κs =
     let at-is-list = at-if1 .before in
     let entry = at-is-list .before .before .before in
     let list = sym (at-is-list .is-list .ensures) ∙ not-false _ (at-if1 .if1 .left) in
-    (record { is-list = list; all-steps = at-chain-length .chain-length .ensures }, pairs-fit _ (entry .args .output .now) list (at-chain-length .chain-length .ensures) (at-if2 .if2 .left) (sym (at-has-room .has-room .ensures) ∙ not-false _ (at-if3 .if3 .left)))
+    let all = at-chain-length .chain-length .ensures in
+    let fits = sym (at-has-room .has-room .ensures) ∙ not-false _ (at-if3 .if3 .left) in
+    (record { is-list = list; all-steps = all }, pairs-fit _ (entry .args .output .now) list all (at-if2 .if2 .left) fits)
 
 put-recordings-requires : tie.Need-put-recordings-requires
 put-recordings-requires c κs =
@@ -78,7 +82,8 @@ returns-4 c =
     let list = sym (at-is-list .is-list .ensures) ∙ not-false _ (at-if1 .if1 .left) in
     let noted = at-note .note .ensures in
     let xs : List ℕ = entry .args .list .now in
-    all-written _ _ list (at-chain-length .chain-length .ensures) (at-if2 .if2 .left) (sym (at-has-room .has-room .ensures) ∙ not-false _ (at-if3 .if3 .left)) (noted-count noted)
+    let fits = sym (at-has-room .has-room .ensures) ∙ not-false _ (at-if3 .if3 .left) in
+    all-written _ _ list (at-chain-length .chain-length .ensures) (at-if2 .if2 .left) fits (noted-count noted)
     (at-put-recordings .put-recordings .ensures ∙ ap (λ (l : List ℕ). pairs (stopOf xs) (recordingOf xs) (allStanding xs) ++ l) (noted .past))
 
 pub write-standing-spec : {M : Type 1} → statement M
