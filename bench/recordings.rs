@@ -1,5 +1,6 @@
-//! Re-recorded stops by libplayer.a and by plain Rust with the same checks and a hash map: milliseconds a call, the least of some calls, as
-//! rows of a table. Lists are drawn: each stop has as many records as another, and the chain goes through all rows in a drawn order.
+//! Re-recorded stops by libplayer.a and by plain Rust with the same checks and a hash map: milliseconds a call, the least of some calls, and
+//! nanoseconds a row of it, as rows of a table. Lists are drawn: each stop has as many records as another, and the chain goes through all rows
+//! in a drawn order.
 #[path = "../host/l6.rs"]
 mod l6;
 
@@ -53,7 +54,7 @@ fn least(mut call: impl FnMut()) -> f64 {
 }
 
 fn main() {
-    for (rows, stops) in [(1000, 100), (1000, 1000), (5000, 200), (5000, 1000), (5000, 5000)] {
+    for (rows, stops) in [(1000, 100), (1000, 1000), (5000, 200), (5000, 1000), (5000, 5000), (10000, 10000), (100000, 1000), (100000, 100000)] {
         let list = drawn(rows, stops);
         let (mut ample, mut exact, mut other) = (vec![0; 2 * rows], vec![0; 2 * stops], vec![0; 2 * stops]);
         let times = [
@@ -62,6 +63,7 @@ fn main() {
             least(|| assert_eq!(plain(&list, &mut other), Some(stops))),
         ];
         assert!(ample[..2 * stops] == other && exact == other);
-        println!("| {rows} | {stops} | {:.3} | {:.3} | {:.3} |", times[0], times[1], times[2]);
+        let of_a_row = |ms: f64| ms * 1e6 / rows as f64;
+        println!("| {rows} | {stops} | {:.3} | {:.3} | {:.3} | {:.1} | {:.1} |", times[0], times[1], times[2], of_a_row(times[0]), of_a_row(times[2]));
     }
 }
