@@ -33,12 +33,22 @@ or-none : (s t : Bool) → (s || t) ≡ false → s ≡ false
 or-none true t e = e
 or-none false t e = refl
 
+or-neither : (s t : Bool) → (s || t) ≡ false → t ≡ false
+or-neither true t e = absurd (true-false refl e)
+or-neither false t e = e
+
 not-zero : (n : ℕ) → suc n ≡ 0 → ⊥
 not-zero n e = omega arith
+
+-- each line's own label is declared on no earlier line
+unfoldable pub onceEach : List Line → List Line → Bool
+onceEach earlier [] = true
+onceEach earlier (l ∷ ls) = not (not (isEmpty (l .label)) && declares earlier (l .label)) && onceEach (earlier ++ l ∷ []) ls
 
 -- a line without a fault
 pub record Faultless (b lent : ℕ) (every earlier : List Line) (l : Line) : Type 0 where
   pub labels : all (declares every) (used b l) ≡ true
+  pub once : not (not (isEmpty (l .label)) && declares earlier (l .label)) ≡ true
   pub short : tooLong lent (rowCount (earlier ++ l ∷ [])) ≡ false
 
 pub faultless : (b lent : ℕ) (every earlier : List Line) (t : Typed) → faultOf b lent every earlier (some t) ≡ 0 → Faultless b lent every earlier (t .line)
@@ -51,27 +61,33 @@ faultless b lent every earlier t =
     (λ _ good. by-test (λ x. tooLong lent (rowCount (earlier ++ t .line ∷ [])) ≡ x → cond {A = ℕ} x 25 0 ≡ 0 → Faultless b lent every earlier (t .line))
     (tooLong lent (rowCount (earlier ++ t .line ∷ [])))
     (λ _ _ e. absurd (not-zero 24 e))
-    (λ _ fit _. record { labels = none-missing (declares every) (used b (t .line)) (or-none _ _ good); short = fit }) refl) refl
+    (λ _ fit _. record {
+      labels = none-missing (declares every) (used b (t .line)) (or-none _ _ good);
+      once = ap not (or-neither (any (λ w. not (declares every w)) (used b (t .line))) _ good);
+      short = fit;
+    }) refl) refl
 
 -- lines without a fault
 record Clean (b lent : ℕ) (every earlier : List Line) (ts : List (Option Typed)) : Type 0 where
   lines : List Typed
   whole : ts ≡ map some lines
   labels : all (λ (l : Line). all (declares every) (used b l)) (keptLines ts) ≡ true
+  once : onceEach earlier (keptLines ts) ≡ true
   short : isEmpty ts ≡ false → tooLong lent (rowCount (earlier ++ keptLines ts)) ≡ false
 
 clean-none : (b lent : ℕ) (every earlier : List Line) → Clean b lent every earlier []
-unfolding all keptLines
-clean-none b lent every earlier = record { lines = []; whole = refl; labels = refl; short = λ e. absurd (true-false refl e) }
+unfolding all onceEach keptLines
+clean-none b lent every earlier = record { lines = []; whole = refl; labels = refl; once = refl; short = λ e. absurd (true-false refl e) }
 
 clean-more : (b lent : ℕ) (every earlier : List Line) (t : Typed) (ts : List (Option Typed)) → Faultless b lent every earlier (t .line)
     → Clean b lent every (earlier ++ keptLines (some t ∷ [])) ts → Clean b lent every earlier (some t ∷ ts)
-unfolding all keptLines
+unfolding all onceEach keptLines
 clean-more b lent every earlier t ts f c =
     record {
       lines = t ∷ c .lines;
       whole = ap (λ (l : List (Option Typed)). some t ∷ l) (c .whole);
       labels = and-both (f .labels) (c .labels);
+      once = and-both (f .once) (c .once);
       short = λ _. last ts (f .short) (c .short);
     }
   where
@@ -155,6 +171,7 @@ pub record Accepted (b lent : ℕ) (text : List ℕ) : Type 0 where
   pub reads : ReadsText b text lines
   pub has-lines : program b text ≡ map (λ (t : Typed). t .line) lines
   pub labels : all (keepsLabels b (program b text)) (program b text) ≡ true
+  pub once : onceEach [] (program b text) ≡ true
   pub more : 2 ≤ rowCount (program b text)
   pub short : rowCount (program b text) ≤ 800
   pub fits-in : 10 * rowCount (program b text) ≤ lent
@@ -172,6 +189,7 @@ accepted b lent text e =
       reads = is;
       has-lines = its;
       labels = both-kept b (keptLines (readLines b text)) (keptLines (readLines b text)) (rw its (lines-kept b (c .lines) (is .typed))) (c .labels);
+      once = c .once;
       more = rw its (some-rows (c .lines) (sym (ap isEmpty (c .whole)) ∙ some-lines b text));
       short = few;
       fits-in = fit;
@@ -189,11 +207,6 @@ unfolding reading
 refused-nothing b text lent refused = rw (ne-eqb (refusalOf b (length lent) text .number) 0 refused)
 
 -- The other way round: lines that the grammar has, whose labels are declared once and that fit, write a text that is accepted.
-
--- each line's own label is declared on no earlier line
-unfoldable pub onceEach : List Line → List Line → Bool
-onceEach earlier [] = true
-onceEach earlier (l ∷ ls) = not (not (isEmpty (l .label)) && declares earlier (l .label)) && onceEach (earlier ++ l ∷ []) ls
 
 missing-none : (p : List ℕ → Bool) (ws : List (List ℕ)) → all p ws ≡ true → any (λ w. not (p w)) ws ≡ false
 unfolding any all

@@ -15,4 +15,5 @@ pub mod Parts
 pub mod Coding
 pub mod Moving
 pub mod Calling
+pub mod Meant
 pub mod Picking
