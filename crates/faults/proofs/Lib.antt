@@ -8,4 +8,6 @@ pub mod Texting
 pub mod Using
 pub mod Faults
 pub mod Judged
+pub mod Keys
 pub mod Naming
+pub mod Telling

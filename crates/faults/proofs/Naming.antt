@@ -1,115 +1,34 @@
--- Labels kept as numbers: two labels have the same number only if they are the same, so the row beside a label's number is the row of the
--- first line that declares it. Assumes nothing.
-use Prim.Native.Nat.{ℕ, zero, suc, _+_, _-_, _*_, _≤_, _<_}
+-- Labels kept as numbers: the row beside a label's number is the row of the first line that declares it, and a label whose number is not
+-- there is declared by a later line or by none. Assumes nothing.
+use Prim.Native.Nat.{ℕ, suc, _+_, _-_, _≤_, _<_}
 use native.Mathlib.Nat.{add-zero}
 use native.Mathlib.Omega.{arith}
 use mathlib.Core.Path.{_≡_, refl, ap, ap₂, sym, subst, _∙_}
-use mathlib.Core.Bool.{Bool, true, false, not, _&&_, _||_, cond}
+use mathlib.Core.Bool.{Bool, true, false, _||_, cond}
 use mathlib.Core.List.{List, [], _∷_, _++_, append-assoc, append-nil, map}
 use mathlib.Core.Option.{Option, none, some}
-use borrow.Author.Tests.{leb-true, ltb-true, ltb-false, lt-ltb, le-ltb, eqb-true, eqb-false, eq-eqb, ne-eqb, not-true}
-use lib.Dec.{eqb, leb, ltb}
-use lib.ListN.{length, take, drop, getD, set, length-append, length-set, drop-of-length-le, take-append-drop}
+use borrow.Author.Tests.{ltb-true, ltb-false, lt-ltb, eq-eqb, ne-eqb, not-true}
+use lib.Dec.{eqb, ltb}
+use lib.ListN.{length, take, drop, getD, set, length-append, length-set, drop-of-length-le}
 use lib.Seq.{slice, drop-cons, length-take-le, length-slice, take-suc-set}
-use Rattle.word.proofs.Tests.{by-test, by-eqb, and-true}
-use Rattle.character.specs.Character.{digits, number, allBelow}
-use Rattle.character.proofs.RoundTrip.{digits-number}
-use Rattle.lines.specs.Words.{same, isEmpty, all, any, isName, isDigit, isLetter, isLabel}
-use Rattle.lines.specs.Grammar.{Line, Typed, isLine}
+use Rattle.word.proofs.Tests.{by-test, by-eqb}
+use Rattle.lines.specs.Words.{same, isEmpty, all, isLabel}
+use Rattle.lines.specs.Grammar.{Line, Typed}
 use Rattle.lines.specs.Reading.{cut, readLine}
-use Rattle.lines.specs.Program.{size, rowOf, rowCount, keptLines, declares}
-use Rattle.lines.specs.Walking.{padded}
-use Rattle.lines.proofs.Lists.{true-false, same-eq, same-refl, all-first, all-others, and-both}
-use Rattle.lines.proofs.Lines.{LabelParts, label-parts, parts, spacing, line-sound}
-use Rattle.lines.proofs.Tables.{size-pos, count-pos}
+use Rattle.lines.specs.Program.{size, rowOf, keptLines}
+use Rattle.lines.proofs.Lists.{true-false, same-eq, all-first, all-others, and-both}
+use Rattle.lines.proofs.Lines.{label-parts, parts, spacing, line-sound}
 use Rattle.faults.specs.declared.Noted.{Noted}
 use Rattle.faults.specs.declared.Scan.{Scan}
 use Rattle.faults.specs.declared.Scanned.{Scanned}
 use Rattle.faults.specs.declared.Scanned.the-variants.{Good, Bad}
 use Rattle.faults.specs.Checking.{lineRead, lineAt, scannedLine, Placed, PlacedIn}
-use Rattle.faults.specs.Places.{lineLength, sizeOf, linesIn, linesBefore, missing}
+use Rattle.faults.specs.Places.{lineLength, sizeOf, linesIn}
 use Rattle.faults.specs.Names.{keyOf, beside, knownRow, labelRow, Known, noted, keysOf, rowsOf, Put, PutLine}
-use Rattle.faults.proofs.Texting.{line-inside, cut-from, onLine, kept-cons, kept-append, size-line, size-none}
+use Rattle.faults.proofs.Texting.{line-inside, cut-from, cut-none, onLine, kept-cons, size-line, size-none}
+use Rattle.faults.proofs.Keys.{key-eqb}
 use Rattle.faults.proofs.Using.{empty-word, filled-word}
 use Rattle.lines.proofs.Parts.{part-slice}
-
--- the number of a label by its six bytes
-six-bytes : (w : List ℕ) → padded 6 w ≡ getD w 0 0 ∷ getD w 1 0 ∷ getD w 2 0 ∷ getD w 3 0 ∷ getD w 4 0 ∷ getD w 5 0 ∷ []
-unfolding padded
-six-bytes [] = refl
-six-bytes (a ∷ []) = refl
-six-bytes (a ∷ b ∷ []) = refl
-six-bytes (a ∷ b ∷ c ∷ []) = refl
-six-bytes (a ∷ b ∷ c ∷ d ∷ []) = refl
-six-bytes (a ∷ b ∷ c ∷ d ∷ e ∷ []) = refl
-six-bytes (a ∷ b ∷ c ∷ d ∷ e ∷ f ∷ w) = refl
-
-pub key-bytes : (w : List ℕ) (a b c d e f : ℕ) → a ≡ getD w 0 0 → b ≡ getD w 1 0 → c ≡ getD w 2 0 → d ≡ getD w 3 0 → e ≡ getD w 4 0 → f ≡ getD w 5 0
-    → ((((a * 256 + b) * 256 + c) * 256 + d) * 256 + e) * 256 + f ≡ keyOf w
-unfolding keyOf number
-key-bytes w a b c d e f p q r s t u =
-    let bytes : padded 6 w ≡ a ∷ b ∷ c ∷ d ∷ e ∷ f ∷ [] = six-bytes w ∙ sym (rw (p, q, r, s, t, u)) in
-    rw bytes (omega arith)
-
--- a name is neither zero nor above a byte
-name-byte : (x : ℕ) → isName x ≡ true → (0 < x) × (x < 256)
-unfolding isName isDigit isLetter
-name-byte x =
-    by-test (λ t. (leb 48 x && leb x 57) ≡ t → (t || (leb 65 x && leb x 90)) ≡ true → (0 < x) × (x < 256)) (leb 48 x && leb x 57)
-    (λ _ is _. between 48 57 (omega arith) (omega arith) is) (λ _ _ is. between 65 90 (omega arith) (omega arith) is) refl
-  where
-    between : (low high : ℕ) → 0 < low → high < 256 → (leb low x && leb x high) ≡ true → (0 < x) × (x < 256)
-    between low high least few is =
-        let (l, h) = and-true (leb low x) (leb x high) is in
-        (omega (arith, leb-true low x l), omega (arith, leb-true x high h))
-
--- words of names, filled up with zeros, are the same only if they were
-padded-below : (n : ℕ) (w : List ℕ) → all isName w ≡ true → allBelow 256 (padded n w) ≡ true
-unfolding padded allBelow all
-padded-below zero w e = refl
-padded-below (suc n) [] e = padded-below n [] e
-padded-below (suc n) (x ∷ w) e = rw (lt-ltb x 256 (name-byte x (all-first isName x w e) .1)) (padded-below n w (all-others isName x w e))
-
-padded-long : (n : ℕ) (w : List ℕ) → length (padded n w) ≡ n
-unfolding padded
-padded-long zero w = refl
-padded-long (suc n) [] = ap suc (padded-long n [])
-padded-long (suc n) (x ∷ w) = ap suc (padded-long n w)
-
-first-same : {x y : ℕ} {xs ys : List ℕ} → x ∷ xs ≡ y ∷ ys → x ≡ y
-first-same e = cc
-
-rest-same : {x y : ℕ} {xs ys : List ℕ} → x ∷ xs ≡ y ∷ ys → xs ≡ ys
-rest-same e = cc
-
-padded-same : (n : ℕ) (v w : List ℕ) → length v ≤ n → length w ≤ n → all isName v ≡ true → all isName w ≡ true → padded n v ≡ padded n w → v ≡ w
-unfolding padded all
-padded-same n [] [] l m p q e = refl
-padded-same zero [] (y ∷ w) l m p q e = absurd (omega arith)
-padded-same zero (x ∷ v) w l m p q e = absurd (omega arith)
-padded-same (suc n) [] (y ∷ w) l m p q e = let (above, few) = name-byte y (all-first isName y w q) in absurd (omega (arith, first-same e))
-padded-same (suc n) (x ∷ v) [] l m p q e = let (above, few) = name-byte x (all-first isName x v p) in absurd (omega (arith, first-same e))
-padded-same (suc n) (x ∷ v) (y ∷ w) l m p q e =
-    ap₂ _∷_ (first-same e) (padded-same n v w (omega arith) (omega arith) (all-others isName x v p) (all-others isName y w q) (rest-same e))
-
-key-same : (v w : List ℕ) → isLabel v ≡ true → isLabel w ≡ true → keyOf v ≡ keyOf w → v ≡ w
-unfolding keyOf
-key-same v w p q e =
-    let a = label-parts v p in
-    let b = label-parts w q in
-    padded-same 6 v w (leb-true (length v) 6 (a .short)) (leb-true (length w) 6 (b .short)) (a .names) (b .names)
-    (sym (back v (a .names)) ∙ ap (λ (k : ℕ). digits 256 6 k) e ∙ back w (b .names))
-  where
-    back : (u : List ℕ) → all isName u ≡ true → digits 256 6 (number 256 0 (padded 6 u)) ≡ padded 6 u
-    back u h = subst (λ (n : ℕ). digits 256 n (number 256 0 (padded 6 u)) ≡ padded 6 u) (padded-long 6 u)
-        (digits-number 256 0 (padded 6 u) (padded-below 6 u h))
-
-pub key-eqb : (v w : List ℕ) → isLabel v ≡ true → isLabel w ≡ true → eqb (keyOf v) (keyOf w) ≡ same w v
-key-eqb v w p q =
-    by-test (λ t. same w v ≡ t → eqb (keyOf v) (keyOf w) ≡ t) (same w v)
-    (λ _ is. eq-eqb (keyOf v) (keyOf w) (ap keyOf (sym (same-eq w v is))))
-    (λ _ is. ne-eqb (keyOf v) (keyOf w)
-    (λ (e : keyOf v ≡ keyOf w). true-false (subst (λ (u : List ℕ). same w u ≡ true) (sym (key-same v w p q e)) (same-refl w)) is)) refl
 
 -- the row beside a number, one place after the other
 module _ (keys rows : List ℕ) (key : ℕ) where
@@ -147,6 +66,32 @@ beside-append (x ∷ xs) ys (r ∷ rows) more key l =
     by-test (λ t. (cond t r (beside xs rows key) ≡ 0 → ⊥) → cond t r (beside (xs ++ ys) (rows ++ more) key) ≡ cond t r (beside xs rows key)) (eqb x key)
     (λ _ h. refl) (λ _ h. beside-append xs ys rows more key (omega arith) h)
 
+-- and after those where it is not, where each has a row
+beside-past : (xs ys rows more : List ℕ) (key : ℕ) → length xs ≡ length rows → all (ltb 0) rows ≡ true → beside xs rows key ≡ 0
+    → beside (xs ++ ys) (rows ++ more) key ≡ beside ys more key
+unfolding beside
+beside-past [] ys [] more key l p = λ _. refl
+beside-past [] ys (r ∷ rows) more key l p = λ _. absurd (omega arith)
+beside-past (x ∷ xs) ys [] more key l p = λ _. absurd (omega arith)
+beside-past (x ∷ xs) ys (r ∷ rows) more key l p =
+    by-test (λ t. cond t r (beside xs rows key) ≡ 0 → cond t r (beside (xs ++ ys) (rows ++ more) key) ≡ beside ys more key) (eqb x key)
+    (λ _ z. absurd (omega (arith, z, ltb-true 0 r (all-first (ltb 0) r rows p))))
+    (λ _ z. beside-past xs ys rows more key (omega arith) (all-others (ltb 0) r rows p) z)
+
+all-front : (p : ℕ → Bool) (xs ys : List ℕ) → all p (xs ++ ys) ≡ true → all p xs ≡ true
+unfolding all
+all-front p [] ys e = refl
+all-front p (x ∷ xs) ys e = and-both (all-first p x (xs ++ ys) e) (all-front p xs ys (all-others p x (xs ++ ys) e))
+
+rows-positive : (r : ℕ) (ls : List Line) → all (ltb 0) (rowsOf (suc r) ls) ≡ true
+unfolding rowsOf noted all
+rows-positive r [] = refl
+rows-positive r (l ∷ ls) =
+    let sum : suc (r + size l) ≡ suc r + size l = omega arith in
+    let later = subst (λ (n : ℕ). all (ltb 0) (rowsOf n ls) ≡ true) sum (rows-positive (r + size l) ls) in
+    by-test (λ t. all (ltb 0) (cond t [] (suc r ∷ []) ++ rowsOf (suc r + size l) ls) ≡ true) (isEmpty (l .label)) (λ _. later)
+    (λ _. and-both (lt-ltb 0 (suc r) (omega arith)) later)
+
 -- labels of lines
 abbrev pub labelled : Line → Bool
 labelled l = isEmpty (l .label) || isLabel (l .label)
@@ -167,6 +112,25 @@ beside-lines r (l ∷ ls) w is good =
     (rowOf (r + size l) ls w))
     (isEmpty (l .label)) (λ _ none-here _. rw (not-empty w is (l .label) none-here) later)
     (λ _ _ label. rw (key-eqb (l .label) w label is) (ap (cond (same w (l .label)) r) later)) refl (all-first labelled l ls good)
+
+-- no line declares what is no label
+row-none : (r : ℕ) (ls : List Line) (w : List ℕ) → isEmpty w ≡ false → isLabel w ≡ false → all labelled ls ≡ true → rowOf r ls w ≡ 0
+unfolding rowOf all
+row-none r [] w f n good = refl
+row-none r (l ∷ ls) w f n good =
+    by-test (λ t. same w (l .label) ≡ t → cond t r (rowOf (r + size l) ls w) ≡ 0) (same w (l .label))
+    (λ _ is. absurd (other (l .label) (same-eq w (l .label) is) (all-first labelled l ls good)))
+    (λ _ _. row-none (r + size l) ls w f n (all-others labelled l ls good)) refl
+  where
+    other : (v : List ℕ) → w ≡ v → (isEmpty v || isLabel v) ≡ true → ⊥
+    other v e g = true-false (subst (λ (u : List ℕ). (isEmpty u || isLabel u) ≡ true) (sym e) g) (rw (f, n))
+
+pub row-from : (r : ℕ) (ls : List Line) (w : List ℕ) → (rowOf r ls w ≡ 0 → ⊥) → r ≤ rowOf r ls w
+unfolding rowOf
+row-from r [] w = λ h. absurd (h refl)
+row-from r (l ∷ ls) w =
+    by-test (λ t. (cond t r (rowOf (r + size l) ls w) ≡ 0 → ⊥) → r ≤ cond t r (rowOf (r + size l) ls w)) (same w (l .label))
+    (λ _ _. omega arith) (λ _ h. let later = row-from (r + size l) ls w h in omega arith)
 
 noted-length : (w : List ℕ) (x y : ℕ) → length (noted w x) ≡ length (noted w y)
 unfolding noted
@@ -217,6 +181,7 @@ module _ (b : ℕ) (text : List ℕ) where
   pub record Collecting (keys rows : List ℕ) (room from n before : ℕ) : Type 0 where
     pub inside : from ≤ length text
     pub few : before ≤ from
+    pub sized : n ≤ before
     pub keys-long : length keys ≡ room
     pub rows-long : length rows ≡ room
     pub most : n ≤ room
@@ -226,7 +191,16 @@ module _ (b : ℕ) (text : List ℕ) where
   pub collecting-none : (keys rows : List ℕ) → length keys ≡ length rows → Collecting keys rows (length keys) 0 0 0
   unfolding linesIn
   collecting-none keys rows e =
-      record { inside = omega arith; few = omega arith; keys-long = refl; rows-long = sym e; most = omega arith; keys-rest = refl; rows-rest = refl }
+      record {
+        inside = omega arith;
+        few = omega arith;
+        sized = omega arith;
+        keys-long = refl;
+        rows-long = sym e;
+        most = omega arith;
+        keys-rest = refl;
+        rows-rest = refl;
+      }
 
   module _ {keys rows : List ℕ} {room from n before : ℕ} (h : Collecting keys rows room from n before) where
     keys-taken : length (take n keys) ≡ n
@@ -244,14 +218,50 @@ module _ (b : ℕ) (text : List ℕ) where
         ∙ ap₂ (λ (k r : List ℕ). beside k r (keyOf w)) (sym (h .keys-rest)) (sym (h .rows-rest))
         ∙ beside-lines 1 (linesIn b text) w is (read-labelled b (cut text))
 
-    pub collecting-known : Known b text (take n keys) (take n rows)
+    positive : all (ltb 0) (take n rows) ≡ true
+    positive =
+        all-front (ltb 0) (take n rows) (rowsOf (suc before) (leftFrom from))
+        (subst (λ (k : List ℕ). all (ltb 0) k ≡ true) (h .rows-rest) (rows-positive 0 (linesIn b text)))
+
+    -- a label that is not found is declared by the lines that are left
+    left-row : (w : List ℕ) → isEmpty w ≡ false → knownRow (take n keys) (take n rows) w ≡ 0 → labelRow b text w ≡ rowOf (suc before) (leftFrom from) w
+    unfolding knownRow linesIn
+    left-row w f =
+        by-test (λ t. isLabel w ≡ t → cond t (beside (take n keys) (take n rows) (keyOf w)) 0 ≡ 0
+        → labelRow b text w ≡ rowOf (suc before) (leftFrom from) w) (isLabel w)
+        (λ _ is z. sym (beside-lines 1 (linesIn b text) w is (read-labelled b (cut text)))
+        ∙ ap₂ (λ (k r : List ℕ). beside k r (keyOf w)) (h .keys-rest) (h .rows-rest)
+        ∙ beside-past (take n keys) (keysOf (leftFrom from)) (take n rows) (rowsOf (suc before) (leftFrom from)) (keyOf w) (keys-taken ∙ sym rows-taken)
+        positive z ∙ beside-lines (suc before) (leftFrom from) w is (read-labelled b (cut (drop from text))))
+        (λ _ is _. row-none 1 (linesIn b text) w f is (read-labelled b (cut text))
+        ∙ sym (row-none (suc before) (leftFrom from) w f is (read-labelled b (cut (drop from text))))) refl
+
+    none-left : (w : List ℕ) → isEmpty w ≡ false → knownRow (take n keys) (take n rows) w ≡ 0 → (from < length text → labelRow b text w ≤ before)
+        → labelRow b text w ≡ 0
+    unfolding rowOf keptLines
+    none-left w f z small =
+        by-test (λ t. ltb from (length text) ≡ t → labelRow b text w ≡ 0) (ltb from (length text))
+        (λ _ l. by-eqb (λ _. labelRow b text w ≡ 0) (labelRow b text w) 0 (λ e. e)
+        (λ (some : labelRow b text w ≡ 0 → ⊥). absurd (omega (
+          arith,
+          small (ltb-true from (length text) l),
+          left-row w f z,
+          row-from (suc before) (leftFrom from) w (λ (e : rowOf (suc before) (leftFrom from) w ≡ 0). some (left-row w f z ∙ e)),
+        ))))
+        (λ _ l. left-row w f z ∙ ap (λ (ls : List (List ℕ)). rowOf (suc before) (keptLines (map (readLine b) ls)) w)
+        (cut-none text from (ltb-false from (length text) l))) refl
+
+    pub collecting-known : (from < length text → 800 ≤ n) → Known b text (take n keys) (take n rows)
     unfolding knownRow
-    collecting-known =
+    collecting-known full =
+        let sized = h .sized in
         record {
           room = omega (arith, keys-taken, rows-taken);
           right = λ w. by-test (λ t. isLabel w ≡ t → (cond t (beside (take n keys) (take n rows) (keyOf w)) 0 ≡ 0 → ⊥)
               → cond t (beside (take n keys) (take n rows) (keyOf w)) 0 ≡ labelRow b text w) (isLabel w)
               (λ _ is found. found-right w is found) (λ _ _ found. absurd (found refl)) refl;
+          near = λ w f z small. none-left w f z (λ l. omega (arith, full l));
+          whole = λ few w f z. none-left w f z (λ l. absurd (omega (arith, full l, keys-taken)));
         }
 
     pub collecting-before : from < length text → before + 1 < length text + 1
@@ -284,6 +294,7 @@ module _ (b : ℕ) (text : List ℕ) where
             record {
               inside = inside .1;
               few = collecting-fits;
+              sized = omega (arith, h .sized, p .sized);
               keys-long = p .keys-long ∙ h .keys-long;
               rows-long = p .rows-long ∙ h .rows-long;
               most = omega (arith, p .few);
@@ -346,6 +357,7 @@ module _ (b : ℕ) (s : List ℕ) where
           keys-long = refl;
           rows-long = refl;
           few = omega arith;
+          sized = omega arith;
           size-of = size-none b s is e;
           size-few = omega arith;
         }
@@ -368,57 +380,7 @@ module _ (b : ℕ) (s : List ℕ) where
           keys-long = p .keys-long;
           rows-long = p .rows-long;
           few = p .few;
+          sized = omega (arith, p .few);
           size-of = size-line b s is e placed;
           size-few = omega (arith, good .less);
         }
-
--- what a row that is known tells of declarations
-row-declared : (r : ℕ) (ls : List Line) (w : List ℕ) → (rowOf r ls w ≡ 0 → ⊥) → declares ls w ≡ true
-unfolding rowOf declares any
-row-declared r [] w = λ h. absurd (h refl)
-row-declared r (l ∷ ls) w =
-    by-test (λ t. (cond t r (rowOf (r + size l) ls w) ≡ 0 → ⊥) → (t || any (λ (m : Line). same w (m .label)) ls) ≡ true) (same w (l .label))
-    (λ _ _. refl) (λ _ h. row-declared (r + size l) ls w h)
-
-row-from : (r : ℕ) (ls : List Line) (w : List ℕ) → (rowOf r ls w ≡ 0 → ⊥) → r ≤ rowOf r ls w
-unfolding rowOf
-row-from r [] w = λ h. absurd (h refl)
-row-from r (l ∷ ls) w =
-    by-test (λ t. (cond t r (rowOf (r + size l) ls w) ≡ 0 → ⊥) → r ≤ cond t r (rowOf (r + size l) ls w)) (same w (l .label))
-    (λ _ _. omega arith) (λ _ h. let later = row-from (r + size l) ls w h in omega arith)
-
--- the row of a label declared on one of the first lines, and of one that is not
-row-before : (r : ℕ) (ls ms : List Line) (w : List ℕ) → (rowOf r (ls ++ ms) w ≡ 0 → ⊥) → ltb (suc (rowOf r (ls ++ ms) w)) (r + rowCount ls) ≡ declares ls w
-unfolding rowOf rowCount declares any
-row-before r [] ms w = λ h. let from = row-from r ms w h in le-ltb (suc (rowOf r ms w)) (r + 1) (omega arith)
-row-before r (l ∷ ls) ms w =
-    let pos = size-pos l in
-    let more = count-pos ls in
-    by-test (λ t. (cond t r (rowOf (r + size l) (ls ++ ms) w) ≡ 0 → ⊥)
-    → ltb (suc (cond t r (rowOf (r + size l) (ls ++ ms) w))) (r + (size l + rowCount ls)) ≡ (t || any (λ (m : Line). same w (m .label)) ls)) (same w (l .label))
-    (λ _ _. lt-ltb (suc r) (r + (size l + rowCount ls)) (omega arith))
-    (λ _ h. ap (ltb (suc (rowOf (r + size l) (ls ++ ms) w))) (sum r (size l) (rowCount ls)) ∙ row-before (r + size l) ls ms w h)
-  where
-    sum : (x y z : ℕ) → x + (y + z) ≡ x + y + z
-    sum x y z = omega arith
-
-module _ (b : ℕ) (text w : List ℕ) (row : ℕ) (found : row ≡ 0 → ⊥) (is : row ≡ labelRow b text w) where
-  pub known-there : false ≡ missing b text w
-  unfolding missing
-  known-there = rw (row-declared 1 (linesIn b text) w (λ (e : labelRow b text w ≡ 0). found (is ∙ e)))
-
-  pub known-before : (lines count : ℕ) → count ≡ rowCount (linesBefore b text lines) → ltb row count ≡ declares (linesBefore b text lines) w
-  unfolding linesIn linesBefore
-  known-before lines count counted =
-      let whole = map (readLine b) (cut text) in
-      let all-lines : linesIn b text ≡ keptLines (take lines whole) ++ keptLines (drop lines whole) =
-      ap keptLines (sym (take-append-drop lines whole)) ∙ kept-append (take lines whole) (drop lines whole) in
-      let its : row ≡ rowOf 1 (keptLines (take lines whole) ++ keptLines (drop lines whole)) w = is ∙ ap (λ (ls : List Line). rowOf 1 ls w) all-lines in
-      rw (its, counted) (shifted (rowOf 1 (keptLines (take lines whole) ++ keptLines (drop lines whole)) w) (rowCount (keptLines (take lines whole)))
-      ∙ row-before 1 (keptLines (take lines whole)) (keptLines (drop lines whole)) w
-      (λ (e : rowOf 1 (keptLines (take lines whole) ++ keptLines (drop lines whole)) w ≡ 0). found (its ∙ e)))
-    where
-      shifted : (x y : ℕ) → ltb x y ≡ ltb (suc x) (1 + y)
-      shifted x y =
-          by-test (λ t. ltb x y ≡ t → t ≡ ltb (suc x) (1 + y)) (ltb x y)
-          (λ _ is. sym (lt-ltb (suc x) (1 + y) (omega (arith, ltb-true x y is)))) (λ _ is. sym (le-ltb (suc x) (1 + y) (omega (arith, ltb-false x y is)))) refl

@@ -1,16 +1,15 @@
 -- The lines of a text by their places, and what is asked of each in turn. Assumes nothing.
-use Prim.Native.Nat.{ℕ, zero, suc, _+_, _-_, _≤_, _<_}
-use native.Mathlib.Nat.{add-zero, zero-add}
-use native.Mathlib.Numerals.{add-one}
+use Prim.Native.Nat.{ℕ, suc, _+_, _-_, _≤_, _<_}
+use native.Mathlib.Nat.{zero-add}
 use native.Mathlib.Omega.{arith}
 use mathlib.Core.Path.{_≡_, refl, ap, ap₂, sym, subst, _∙_}
-use mathlib.Core.Bool.{Bool, true, false, not, _&&_, _||_, cond}
+use mathlib.Core.Bool.{Bool, true, false, _||_, cond}
 use mathlib.Core.List.{List, [], _∷_, _++_, map, append-assoc}
 use mathlib.Core.Option.{Option, none, some}
 use borrow.Author.Tests.{eq-eqb, ne-eqb, eqb-true}
 use lib.Dec.{eqb}
 use lib.ListN.{length, take, drop, getD, length-drop, drop-of-length-le}
-use lib.Seq.{slice, drop-cons, drop-drop, take-add, take-at, drop-at, length-take-le, take-nil}
+use lib.Seq.{slice, drop-cons, drop-drop, take-add, take-at, drop-at, length-take-le}
 use Rattle.word.proofs.Tests.{by-test, by-eqb}
 use Rattle.faults.specs.declared.Scanned.{Scanned}
 use Rattle.faults.specs.declared.Scanned.the-variants.{Good, Bad}
@@ -18,9 +17,9 @@ use Rattle.faults.specs.declared.Scan.{Scan}
 use Rattle.lines.specs.Words.{same, isEmpty, any, modeWords}
 use Rattle.lines.specs.Grammar.{Line, Token, word, paren, Typed, optional, thenWord, tokens, writtenToken, writtenPieces, pieces, writtenLine, indented}
 use Rattle.lines.specs.Reading.{onto, cut, readLine}
-use Rattle.lines.specs.Program.{size, declares, keptLines, rowOf, rowCount}
+use Rattle.lines.specs.Program.{size, declares, keptLines, rowCount}
 use Rattle.faults.specs.Checking.{lineRead, scannedLine, lineAt, Placed, PlacedIn}
-use Rattle.faults.specs.Places.{lineLength, sizeOf}
+use Rattle.faults.specs.Places.{lineLength, sizeOf, linesIn}
 use Rattle.lines.proofs.Lists.{true-false, same-eq, same-refl}
 use Rattle.lines.proofs.Lines.{line-sound, spacing}
 use Rattle.lines.proofs.Parts.{part-slice}
@@ -192,16 +191,18 @@ module _ (b : ℕ) (s w : List ℕ) where
       by-test (λ t. declares (keptLines (readLine b s ∷ [])) w ≡ t → false ≡ t) (declares (keptLines (readLine b s ∷ [])) w)
       (λ _ is. absurd (true-false (declares-first (readLine b s) refl is) e)) (λ _ _. refl) refl
 
--- whether the first lines declare a label, one line after the other
-module _ (b : ℕ) (text w : List ℕ) (lines : ℕ) where
-  abbrev readFrom : ℕ → List (Option Typed)
-  readFrom from = map (readLine b) (cut (drop from text))
+-- whether the lines declare a label, one line after the other
+module _ (b : ℕ) (text w : List ℕ) where
+  abbrev leftFrom : ℕ → List Line
+  leftFrom from = keptLines (map (readLine b) (cut (drop from text)))
 
-  pub record Sought (left from : ℕ) : Type 0 where
-    pub rest : declares (keptLines (take left (readFrom from))) w ≡ declares (keptLines (take lines (map (readLine b) (cut text)))) w
+  pub record Sought (from : ℕ) : Type 0 where
+    pub inside : from ≤ length text
+    pub rest : declares (leftFrom from) w ≡ declares (linesIn b text) w
 
-  pub sought-none : Sought lines 0
-  sought-none = record { rest = refl }
+  pub sought-none : Sought 0
+  unfolding linesIn
+  sought-none = record { inside = omega arith; rest = refl }
 
   declares-cons : (o : Option Typed) (ts : List (Option Typed))
       → declares (keptLines (o ∷ ts)) w ≡ (declares (keptLines (o ∷ [])) w || declares (keptLines ts) w)
@@ -213,57 +214,28 @@ module _ (b : ℕ) (text w : List ℕ) (lines : ℕ) where
       or-assoc true y = refl
       or-assoc false y = refl
 
-  module _ {left from : ℕ} (h : Sought left from) where
-    pub sought-all : left ≤ 0 → false ≡ declares (keptLines (take lines (map (readLine b) (cut text)))) w
+  module _ {from : ℕ} (h : Sought from) where
+    pub sought-all : length text ≤ from → false ≡ declares (linesIn b text) w
     unfolding declares keptLines any
-    sought-all z = let none-left : left ≡ 0 = omega arith in rw none-left at (h .rest)
+    sought-all l = sym (ap (λ (ls : List (List ℕ)). declares (keptLines (map (readLine b) ls)) w) (cut-none text from l)) ∙ h .rest
 
-    module _ (some : 0 < left) where
-      pub sought-end : length text ≤ from → false ≡ declares (keptLines (take lines (map (readLine b) (cut text)))) w
-      unfolding declares keptLines any
-      sought-end l = sym (ap (λ (ls : List (List ℕ)). declares (keptLines (take left (map (readLine b) ls))) w) (cut-none text from l) ∙ nothing left) ∙ h .rest
-        where
-          nothing : (n : ℕ) → declares (keptLines (take n [])) w ≡ false
-          nothing zero = refl
-          nothing (suc n) = refl
+    module _ (to : ℕ) (l : from < length text) (ends : to ≡ from + lineLength (drop from text)) where
+      here : (declares (keptLines (readLine b (slice from to text) ∷ [])) w || declares (leftFrom to) w) ≡ declares (linesIn b text) w
+      here =
+          sym (declares-cons (readLine b (slice from to text)) (map (readLine b) (cut (drop to text))))
+          ∙ ap (λ (ls : List (List ℕ)). declares (keptLines (map (readLine b) ls)) w) (sym (cut-from text from to l ends))
+          ∙ h .rest
 
-      module _ (to : ℕ) (l : from < length text) (ends : to ≡ from + lineLength (drop from text)) where
-        one-more : suc (left - 1) ≡ left
-        one-more = omega arith
+      pub sought-here : declares (keptLines (readLine b (slice from to text) ∷ [])) w ≡ true → true ≡ declares (linesIn b text) w
+      sought-here is = rw is at here
 
-        here : (declares (keptLines (readLine b (slice from to text) ∷ [])) w || declares (keptLines (take (left - 1) (readFrom to))) w)
-            ≡ declares (keptLines (take lines (map (readLine b) (cut text)))) w
-        here =
-            sym (declares-cons (readLine b (slice from to text)) (take (left - 1) (readFrom to)))
-            ∙ ap (λ (ls : List (List ℕ)). declares (keptLines (take (suc (left - 1)) (map (readLine b) ls))) w) (sym (cut-from text from to l ends))
-            ∙ ap (λ (n : ℕ). declares (keptLines (take n (readFrom from))) w) one-more
-            ∙ h .rest
-
-        pub sought-here : declares (keptLines (readLine b (slice from to text) ∷ [])) w ≡ true
-            → true ≡ declares (keptLines (take lines (map (readLine b) (cut text)))) w
-        sought-here is = rw is at here
-
-        pub sought-more : declares (keptLines (readLine b (slice from to text) ∷ [])) w ≡ false → Sought (left - 1) to
-        sought-more is = record { rest = rw is at here }
-
--- the row of a label, one line after the other
-row-cons : (r : ℕ) (o : Option Typed) (ts : List (Option Typed)) (w : List ℕ)
-    → rowOf r (keptLines (o ∷ ts)) w ≡ cond (declares (keptLines (o ∷ [])) w) r (rowOf (r + sizeOf (lineRead o)) (keptLines ts) w)
-unfolding rowOf keptLines declares any sizeOf lineRead
-row-cons r none ts w = ap (λ (n : ℕ). rowOf n (keptLines ts) w) (sym (add-zero r))
-row-cons r (some t) ts w = by-test
-    (λ x. cond x r (rowOf (r + size (t .line)) (keptLines ts) w) ≡ cond (x || false) r (rowOf (r + size (t .line)) (keptLines ts) w))
-    (same w (t .line .label)) (λ _. refl) (λ _. refl)
+      pub sought-more : declares (keptLines (readLine b (slice from to text) ∷ [])) w ≡ false → Sought to
+      sought-more is = record { inside = line-inside text from to l ends .1; rest = rw is at here }
 
 pub count-cons : (o : Option Typed) (ts : List (Option Typed)) → rowCount (keptLines (o ∷ ts)) ≡ sizeOf (lineRead o) + rowCount (keptLines ts)
 unfolding rowCount keptLines sizeOf lineRead
 count-cons none ts = sym (zero-add (rowCount (keptLines ts)))
 count-cons (some t) ts = refl
-
-pub count-some : (ls : List Line) → 1 ≤ rowCount ls
-unfolding rowCount
-count-some [] = omega arith
-count-some (l ∷ ls) = let later = count-some ls in omega arith
 
 -- the rows of a line that was scanned
 module _ (b : ℕ) (s : List ℕ) where
@@ -280,44 +252,3 @@ module _ (b : ℕ) (s : List ℕ) where
   pub size-none : {r : Scanned} → r ≡ Bad → scannedLine s r ≡ lineRead (readLine b s) → 0 ≡ sizeOf (lineRead (readLine b s))
   unfolding scannedLine sizeOf
   size-none {r} is e = sym (ap sizeOf (sym e ∙ ap (scannedLine s) is))
-
-module _ (b : ℕ) (text w : List ℕ) where
-  abbrev program : List Line
-  program = keptLines (map (readLine b) (cut text))
-
-  abbrev leftFrom : ℕ → List Line
-  leftFrom from = keptLines (map (readLine b) (cut (drop from text)))
-
-  pub record Rowing (from row : ℕ) : Type 0 where
-    pub inside : from ≤ length text
-    pub rest : rowOf row (leftFrom from) w ≡ rowOf 1 program w
-    pub counted : row + rowCount (leftFrom from) ≡ 1 + rowCount program
-
-  pub rowing-none : Rowing 0 1
-  rowing-none = record { inside = omega arith; rest = refl; counted = refl }
-
-  module _ {from row : ℕ} (h : Rowing from row) where
-    pub rowing-all : length text ≤ from → 0 ≡ rowOf 1 program w
-    unfolding rowOf keptLines
-    rowing-all l = sym (ap (λ (ls : List (List ℕ)). rowOf row (keptLines (map (readLine b) ls)) w) (cut-none text from l)) ∙ h .rest
-
-    module _ (to : ℕ) (l : from < length text) (ends : to ≡ from + lineLength (drop from text)) where
-      abbrev its : Option Typed
-      its = readLine b (slice from to text)
-
-      kept-here : leftFrom from ≡ keptLines (its ∷ map (readLine b) (cut (drop to text)))
-      kept-here = ap (λ (ls : List (List ℕ)). keptLines (map (readLine b) ls)) (cut-from text from to l ends)
-
-      row-here : cond (declares (keptLines (its ∷ [])) w) row (rowOf (row + sizeOf (lineRead its)) (leftFrom to) w) ≡ rowOf 1 program w
-      row-here = sym (ap (λ (ls : List Line). rowOf row ls w) kept-here ∙ row-cons row its (map (readLine b) (cut (drop to text))) w) ∙ h .rest
-
-      pub rowing-here : declares (keptLines (its ∷ [])) w ≡ true → row ≡ rowOf 1 program w
-      rowing-here is = rw is at row-here
-
-      pub rowing-count : row + (sizeOf (lineRead its) + rowCount (leftFrom to)) ≡ 1 + rowCount program
-      rowing-count = sym (ap (λ (n : ℕ). row + n) (ap rowCount kept-here ∙ count-cons its (map (readLine b) (cut (drop to text))))) ∙ h .counted
-
-      pub rowing-more : declares (keptLines (its ∷ [])) w ≡ false → Rowing to (row + sizeOf (lineRead its))
-      rowing-more is =
-          let inside = line-inside text from to l ends in
-          record { inside = omega arith; rest = rw is at row-here; counted = omega (arith, rowing-count) }

@@ -1,49 +1,26 @@
 -- The labels that a line's operations call, one operation after the other. Assumes nothing.
-use Prim.Native.Nat.{ℕ, zero, suc, _+_, _-_, _≤_, _<_}
+use Prim.Native.Nat.{ℕ, suc, _+_, _-_, _≤_, _<_}
 use native.Mathlib.Numerals.{add-one}
 use native.Mathlib.Omega.{arith}
 use mathlib.Core.Path.{_≡_, refl, ap, ap₂, sym, subst, _∙_}
-use mathlib.Core.Bool.{Bool, true, false, not, _&&_, _||_, cond}
-use mathlib.Core.List.{List, [], _∷_, _++_, map}
-use mathlib.Core.Option.{Option, none, some}
+use mathlib.Core.Bool.{Bool, true, false, _||_}
+use mathlib.Core.List.{List, [], _∷_, _++_}
+use mathlib.Core.Option.{none}
 use borrow.Author.Tests.{ne-eqb, lt-leb}
-use lib.Dec.{eqb}
-use lib.ListN.{length, take, drop, length-map}
-use lib.Seq.{slice, take-all}
-use Rattle.word.proofs.Tests.{by-test, and-true}
+use lib.ListN.{length, drop}
+use lib.Seq.{slice}
 use Rattle.lines.specs.declared.Spot.{Spot}
 use Rattle.lines.specs.declared.Spot.the-variants.{Word, Paren, Nothing}
 use Rattle.lines.specs.Words.{isEmpty, all, any, isDone}
 use Rattle.lines.specs.Forms.{isOperation}
-use Rattle.lines.specs.Reading.{front, behind, isBlank, onto, split, tokenAt, cut, readLine}
-use Rattle.lines.specs.Program.{declares, keptLines, calledIn, tooLong}
+use Rattle.lines.specs.Reading.{front, isBlank, split, tokenAt}
+use Rattle.lines.specs.Program.{calledIn, tooLong}
 use Rattle.lines.specs.Walking.{tokenOf, Within}
 use Rattle.faults.specs.Checking.{parensOn, parensNext, parensIn}
 use Rattle.lines.specs.Walking.{callsIn, callsAt}
-use Rattle.faults.specs.Places.{linesIn, missing, closeOf, goesTo}
+use Rattle.faults.specs.Places.{closeOf, goesTo}
 use Rattle.lines.proofs.Lists.{all-first, all-others}
 use Rattle.lines.proofs.Scanning.{drop-behind, end-inside}
-
--- a text has no more lines than bytes
-onto-length : (x : ℕ) (ws : List (List ℕ)) → length (onto x ws) ≤ suc (length ws)
-unfolding onto
-onto-length x [] = omega arith
-onto-length x (w ∷ ws) = omega arith
-
-cut-length : (s : List ℕ) → length (cut s) ≤ length s
-unfolding cut
-cut-length [] = omega arith
-cut-length (x ∷ s) =
-    let later = cut-length s in
-    let more = onto-length x (cut s) in
-    by-test (λ t. length (cond t ((10 ∷ []) ∷ cut s) (onto x (cut s))) ≤ suc (length s)) (eqb x 10) (λ _. omega arith) (λ _. omega arith)
-
-pub all-lines : (b : ℕ) (text w : List ℕ) → not (declares (keptLines (take (length text) (map (readLine b) (cut text)))) w) ≡ missing b text w
-unfolding missing linesIn
-all-lines b text w =
-    let few = cut-length text in
-    let many = length-map (cut text) (readLine b) in
-    rw (take-all (length text) (map (readLine b) (cut text)) (omega arith))
 
 -- a call by its place
 module _ (p : List ℕ → Bool) (s : List ℕ) (n : ℕ) (calls : List (List ℕ)) (e : callsAt s n ≡ calls) where

@@ -1,10 +1,10 @@
 -- Labels kept as numbers beside the rows of the lines that declare them, so that the text need not be searched for each use.
 -- Assumes nothing.
-use Prim.Native.Nat.{ℕ, suc, _+_, _≤_}
+use Prim.Native.Nat.{ℕ, suc, _+_, _≤_, _<_}
 use mathlib.Core.Path.{_≡_}
-use mathlib.Core.Bool.{cond}
+use mathlib.Core.Bool.{Bool, false, not, _&&_, cond}
 use mathlib.Core.List.{List, [], _∷_, _++_}
-use lib.Dec.{eqb}
+use lib.Dec.{eqb, ltb}
 use lib.ListN.{length, take, drop, getD}
 use Rattle.character.specs.Character.{number}
 use Rattle.lines.specs.Words.{isEmpty, isLabel}
@@ -32,10 +32,16 @@ knownRow keys rows w = cond (isLabel w) (beside keys rows (keyOf w)) 0
 abbrev pub labelRow : ℕ → List ℕ → List ℕ → ℕ
 labelRow b text w = rowOf 1 (linesIn b text) w
 
--- a row that is found is the label's
+-- a label whose row is known and less than a number of rows
+unfoldable pub knownBefore : List ℕ → List ℕ → ℕ → List ℕ → Bool
+knownBefore keys rows count w = not (eqb (knownRow keys rows w) 0) && ltb (knownRow keys rows w) count
+
+-- a row that is found is the label's; a label without one has no row up to 800, and none at all where fewer than 800 are put by
 pub record Known (b : ℕ) (text keys rows : List ℕ) : Type 0 where
   pub room : length keys ≤ length rows
   pub right : (w : List ℕ) → (knownRow keys rows w ≡ 0 → ⊥) → knownRow keys rows w ≡ labelRow b text w
+  pub near : (w : List ℕ) → isEmpty w ≡ false → knownRow keys rows w ≡ 0 → labelRow b text w ≤ 800 → labelRow b text w ≡ 0
+  pub whole : length keys < 800 → (w : List ℕ) → isEmpty w ≡ false → knownRow keys rows w ≡ 0 → labelRow b text w ≡ 0
 
 -- what looking up a label asks for in a text without a refusal
 pub record Ready (b : ℕ) (text keys rows : List ℕ) : Type 0 where
@@ -70,5 +76,6 @@ pub record PutLine (b : ℕ) (s : List ℕ) (n before : ℕ) (keys rows keysAfte
   pub keys-long : length keysAfter ≡ length keys
   pub rows-long : length rowsAfter ≡ length rows
   pub few : r .count ≤ suc n
+  pub sized : r .count ≤ n + r .size
   pub size-of : r .size ≡ sizeOf (lineRead (readLine b s))
   pub size-few : r .size ≤ length s

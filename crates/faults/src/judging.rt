@@ -1,15 +1,15 @@
 // What the lines of a text use.
 ghost use mathlib.Core.Path.{_≡_};
-ghost use mathlib.Core.Bool.{true, not, _&&_};
-ghost use Prim.Native.Nat.{_+_, _^_, _≤_, _<_};
+ghost use mathlib.Core.Bool.{true};
+ghost use Prim.Native.Nat.{ℕ, _+_, _^_, _≤_, _<_};
 ghost use lib.ListN.{length, drop};
-ghost use Rattle.lines.specs.Words.{isEmpty, all, any};
+ghost use Rattle.lines.specs.Words.{all, any};
 ghost use Rattle.lines.specs.Forms.{isOperation};
 ghost use Rattle.lines.specs.Reading.{split, readLine};
-ghost use Rattle.lines.specs.Program.{declares, calledIn, badLabels, faultOf, rowCount, tooLong, refusalOf, program};
+ghost use Rattle.lines.specs.Program.{calledIn, badLabels, faultOf, rowCount, tooLong, refusalOf, program};
 ghost use Rattle.faults.specs.Checking.{parensIn, operationsAt, lineAt, Placed, lineRead};
 ghost use Rattle.lines.specs.Walking.{callsIn};
-ghost use Rattle.faults.specs.Names.{Known};
+ghost use Rattle.faults.specs.Names.{knownBefore, Known};
 ghost use Rattle.faults.specs.Places.{linesIn, missing, closeOf, goesTo, linesBefore, sizeOf};
 use crate::Fault;
 use crate::Scan;
@@ -31,7 +31,10 @@ fn is_missing(b: u64, text: &[u8], keys: &[u64], rows: &[u64], label: &[u8]) -> 
     if names::known_row(keys, rows, label) != 0 {
         return false;
     }
-    !labels::declared(b, text, text.len(), label)
+    if (keys.len() < 800) & (0 < label.len()) {
+        return true;
+    }
+    !labels::declared(b, text, label)
 }
 
 // Whether an operation, by what stands inside it, calls a label that no line declares.
@@ -99,27 +102,13 @@ fn misses_go_to(b: u64, text: &[u8], keys: &[u64], rows: &[u64], w: &[u8]) -> bo
     is_missing(b, text, keys, rows, w)
 }
 
-// Whether a label is one that lines before declare.
-fn is_again(
-    b: u64,
-    text: &[u8],
-    keys: &[u64],
-    rows: &[u64],
-    lines: usize,
-    count: u64,
-    label: &[u8],
-) -> bool
-    requires { ⌜ ((b ≤ 48) × Known b (now text) (now keys) (now rows)) × (count ≡ rowCount (linesBefore b (now text) lines)) ⌝ }
-    ensures { λ r. ⌜ r ≡ (not (isEmpty (now (label .entry))) && declares (linesBefore b (now (text .entry)) lines) (now (label .entry))) ⌝ }
+// Whether a label's row is known, and less than a number of rows.
+fn is_again(keys: &[u64], rows: &[u64], count: u64, label: &[u8]) -> bool
+    requires { ⌜ length (now keys) ≤ length (now rows) ⌝ }
+    ensures { λ r. ⌜ r ≡ knownBefore (now (keys .entry)) (now (rows .entry)) count (now (label .entry)) ⌝ }
 {
-    if label.len() == 0 {
-        return false;
-    }
     let row = names::known_row(keys, rows, label);
-    if row != 0 {
-        return row < count;
-    }
-    labels::declared(b, text, lines, label)
+    (row != 0) & (row < count)
 }
 
 // Whether rows pass 800, or the lent numbers.
@@ -141,12 +130,11 @@ fn is_mislabelled(
     keys: &[u64],
     rows: &[u64],
     s: &[u8],
-    lines: usize,
     count: u64,
     c: Scan,
 ) -> bool
-    requires { ⌜ (((b ≤ 48) × Known b (now text) (now keys) (now rows)) × (count ≡ rowCount (linesBefore b (now text) lines))) × (Placed (now s) c × (all (isOperation b) (operationsAt (now s) c) ≡ true)) ⌝ }
-    ensures { λ r. ⌜ r ≡ badLabels b (linesIn b (now (text .entry))) (linesBefore b (now (text .entry)) lines) (lineAt (now (s .entry)) c) ⌝ }
+    requires { ⌜ (((b ≤ 48) × Known b (now text) (now keys) (now rows)) × (count ≤ 800)) × (Placed (now s) c × (all (isOperation b) (operationsAt (now s) c) ≡ true)) ⌝ }
+    ensures { λ r. ⌜ ((lines : ℕ) → count ≡ rowCount (linesBefore b (now (text .entry)) lines) → r ≡ badLabels b (linesIn b (now (text .entry))) (linesBefore b (now (text .entry)) lines) (lineAt (now (s .entry)) c)) ⌝ }
 {
     let from = c.from;
     let end = c.label;
@@ -154,7 +142,7 @@ fn is_mislabelled(
     let ends = c.ends;
     let calls = misses_call(b, text, keys, rows, s, c.operation, c.operations);
     let missed = calls | misses_go_to(b, text, keys, rows, &s[goes..ends]);
-    missed | is_again(b, text, keys, rows, lines, count, &s[from..end])
+    missed | is_again(keys, rows, count, &s[from..end])
 }
 
 // A line's fault.
@@ -164,12 +152,11 @@ fn fault_of(
     keys: &[u64],
     rows: &[u64],
     s: &[u8],
-    lines: usize,
     count: u64,
     lent: u64,
 ) -> Fault
-    requires { ⌜ (((b ≤ 48) × Known b (now text) (now keys) (now rows)) × (count ≡ rowCount (linesBefore b (now text) lines))) × (count ≤ 800) ⌝ }
-    ensures { λ r. ⌜ (r .number ≡ faultOf b lent (linesIn b (now (text .entry))) (linesBefore b (now (text .entry)) lines) (readLine b (now (s .entry)))) × (r .size ≡ sizeOf (lineRead (readLine b (now (s .entry))))) ⌝ }
+    requires { ⌜ ((b ≤ 48) × Known b (now text) (now keys) (now rows)) × (count ≤ 800) ⌝ }
+    ensures { λ r. ⌜ ((lines : ℕ) → count ≡ rowCount (linesBefore b (now (text .entry)) lines) → r .number ≡ faultOf b lent (linesIn b (now (text .entry))) (linesBefore b (now (text .entry)) lines) (readLine b (now (s .entry)))) × (r .size ≡ sizeOf (lineRead (readLine b (now (s .entry))))) ⌝ }
 {
     let scanned = line::scan(b, s);
     let Scanned::Good(c) = scanned else {
@@ -179,7 +166,7 @@ fn fault_of(
         };
     };
     let size = (1 + c.tests + c.operations) as u64;
-    if is_mislabelled(b, text, keys, rows, s, lines, count, c) {
+    if is_mislabelled(b, text, keys, rows, s, count, c) {
         return Fault { number: 24, size };
     }
     if too_long(lent, count, size) {
@@ -201,11 +188,11 @@ pub fn judge(b: u64, text: &[u8], keys: &[u64], rows: &[u64], lent: u64) -> Verd
         };
     }
     let mut from = 0;
-    let mut lines = 0;
+    let mut lines: usize = 0;
     let mut count: u64 = 1;
     while from < text.len() {
         let to = labels::line_end(text, from);
-        let fault = fault_of(b, text, keys, rows, &text[from..to], lines, count, lent);
+        let fault = fault_of(b, text, keys, rows, &text[from..to], count, lent);
         if fault.number != 0 {
             return Verdict {
                 number: fault.number,

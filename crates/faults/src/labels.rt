@@ -1,14 +1,12 @@
 // The lines of a text one after the other, and the labels that they declare.
 ghost use mathlib.Core.Path.{_≡_};
-ghost use mathlib.Core.List.{_∷_, [], map};
-ghost use Prim.Native.Nat.{_+_, _*_, _^_, _≤_, _<_};
-ghost use lib.ListN.{length, take, drop};
-ghost use Rattle.lines.specs.Reading.{cut, readLine};
-ghost use Rattle.lines.specs.Program.{declares, keptLines, rowOf, rowCount};
-ghost use Rattle.faults.specs.Checking.{lineRead};
-ghost use Rattle.faults.specs.Places.{lineLength, sizeOf};
+ghost use mathlib.Core.List.{_∷_, []};
+ghost use Prim.Native.Nat.{_+_, _≤_};
+ghost use lib.ListN.{length, drop};
+ghost use Rattle.lines.specs.Reading.{readLine};
+ghost use Rattle.lines.specs.Program.{declares, keptLines};
+ghost use Rattle.faults.specs.Places.{lineLength, linesIn};
 use crate::Scanned;
-use crate::Sized;
 use crate::line;
 use lines::words;
 
@@ -44,62 +42,18 @@ fn declares_it(b: u64, s: &[u8], label: &[u8]) -> bool
     words::is_same(label, &s[from..end])
 }
 
-// Whether one of the first lines declares a label.
-pub fn declared(b: u64, text: &[u8], lines: usize, label: &[u8]) -> bool
+// Whether a line of a text declares a label.
+pub fn declared(b: u64, text: &[u8], label: &[u8]) -> bool
     requires { ⌜ b ≤ 48 ⌝ }
-    ensures { λ r. ⌜ r ≡ declares (keptLines (take lines (map (readLine b) (cut (now (text .entry)))))) (now (label .entry)) ⌝ }
+    ensures { λ r. ⌜ r ≡ declares (linesIn b (now (text .entry))) (now (label .entry)) ⌝ }
 {
-    let mut left = lines;
     let mut from = 0;
-    while 0 < left {
-        if text.len() <= from {
-            return false;
-        }
+    while from < text.len() {
         let to = line_end(text, from);
         if declares_it(b, &text[from..to], label) {
             return true;
         }
         from = to;
-        left -= 1;
     }
     false
-}
-
-// A line's rows, and whether it declares a label.
-fn sized(b: u64, s: &[u8], label: &[u8]) -> Sized
-    requires { ⌜ b ≤ 48 ⌝ }
-    ensures { λ r. ⌜ (r .size ≡ sizeOf (lineRead (readLine b (now (s .entry))))) × (r .declares ≡ declares (keptLines (readLine b (now (s .entry)) ∷ [])) (now (label .entry))) ⌝ }
-{
-    let scanned = line::scan(b, s);
-    let Scanned::Good(c) = scanned else {
-        return Sized {
-            size: 0,
-            declares: false,
-        };
-    };
-    let from = c.from;
-    let end = c.label;
-    Sized {
-        size: (1 + c.tests + c.operations) as u64,
-        declares: words::is_same(label, &s[from..end]),
-    }
-}
-
-// The row of the first line that declares a label, 0 where none does.
-pub fn row_of(b: u64, text: &[u8], label: &[u8]) -> u64
-    requires { ⌜ (b ≤ 48) × (rowCount (keptLines (map (readLine b) (cut (now text)))) ≤ 800) ⌝ }
-    ensures { λ r. ⌜ r ≡ rowOf 1 (keptLines (map (readLine b) (cut (now (text .entry))))) (now (label .entry)) ⌝ }
-{
-    let mut from = 0;
-    let mut row: u64 = 1;
-    while from < text.len() {
-        let to = line_end(text, from);
-        let it = sized(b, &text[from..to], label);
-        if it.declares {
-            return row;
-        }
-        row += it.size;
-        from = to;
-    }
-    0
 }

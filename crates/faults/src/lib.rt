@@ -35,12 +35,6 @@ pub enum Scanned {
     Bad,
 }
 
-// A line's rows, 0 where it breaks the grammar, and whether it declares a label.
-pub struct Sized {
-    pub size: u64,
-    pub declares: bool,
-}
-
 // How many labels are put by, and the rows of the line that was looked at.
 pub struct Noted {
     pub count: usize,

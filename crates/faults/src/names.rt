@@ -1,9 +1,8 @@
 // Labels kept as numbers, each beside the row of its line.
 ghost use mathlib.Core.Path.{_≡_};
-ghost use mathlib.Core.List.{_++_};
 ghost use Prim.Native.Nat.{_+_, _^_, _≤_, _<_};
 ghost use lib.ListN.{length, take, getD};
-ghost use Rattle.faults.specs.Names.{keyOf, beside, knownRow, labelRow, Known, Ready, Put, PutLine};
+ghost use Rattle.faults.specs.Names.{keyOf, beside, knownRow, Known, Put, PutLine};
 use crate::Noted;
 use crate::Scanned;
 use crate::labels;
@@ -65,18 +64,6 @@ pub fn known_row(keys: &[u64], rows: &[u64], w: &[u8]) -> u64
     row_beside(keys, rows, key_of(w))
 }
 
-// The row of the first line that declares a label, 0 where none does.
-pub fn label_row(b: u64, text: &[u8], keys: &[u64], rows: &[u64], w: &[u8]) -> u64
-    requires { ⌜ Ready b (now text) (now keys) (now rows) ⌝ }
-    ensures { λ r. ⌜ r ≡ labelRow b (now (text .entry)) (now (w .entry)) ⌝ }
-{
-    let row = known_row(keys, rows, w);
-    if row != 0 {
-        return row;
-    }
-    labels::row_of(b, text, w)
-}
-
 // A label put after the first n, unless it is empty.
 fn note(keys: &mut [u64], rows: &mut [u64], n: usize, w: &[u8], row: u64) -> usize
     requires { ⌜ (n < length (now keys)) × (n < length (now rows)) ⌝ }
@@ -108,7 +95,7 @@ fn note_line(b: u64, s: &[u8], n: usize, before: u64, keys: &mut [u64], rows: &m
 
 // The labels of a text's lines, as many as there is room for: how many.
 pub fn collect(b: u64, text: &[u8], keys: &mut [u64], rows: &mut [u64]) -> usize
-    requires { ⌜ (b ≤ 48) × (length (now keys) ≡ length (now rows)) ⌝ }
+    requires { ⌜ (b ≤ 48) × ((800 ≤ length (now keys)) × (length (now keys) ≡ length (now rows))) ⌝ }
     ensures { λ r. ⌜ (r ≤ length (now (keys .exit))) × ((r ≤ length (now (rows .exit))) × Known b (now (text .entry)) (take r (now (keys .exit))) (take r (now (rows .exit)))) ⌝ }
 {
     let mut from = 0;

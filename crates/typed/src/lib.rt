@@ -56,7 +56,7 @@ fn read_known(b: u64, text: &[u8], keys: &[u64], rows: &[u64], table: &mut [u64]
 
 // Reads a text, with room for its labels.
 fn read_with(b: u64, text: &[u8], keys: &mut [u64], rows: &mut [u64], table: &mut [u64]) -> Read
-    requires { ⌜ (b ≤ 48) × (length (now keys) ≡ length (now rows)) ⌝ }
+    requires { ⌜ (b ≤ 48) × ((800 ≤ length (now keys)) × (length (now keys) ≡ length (now rows))) ⌝ }
     ensures { λ r. ⌜ record { answer = r; table = now (table .exit) } ≡ reading b (now (text .entry)) (now (table .entry)) ⌝ }
 {
     let n = collect(b, text, keys, rows);

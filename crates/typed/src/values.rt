@@ -4,7 +4,7 @@ ghost use mathlib.Core.Bool.{true, false, cond};
 ghost use Prim.Native.Nat.{_-_, _^_, _≤_, _<_};
 ghost use lib.ListN.{length};
 ghost use Rattle.character.specs.Character.{codeOf};
-ghost use Rattle.lines.specs.Words.{nameNumber, lastByte, isField, isKind, fieldPair, literalPair, pairOf};
+ghost use Rattle.lines.specs.Words.{nameNumber, lastByte, isLabel, isField, isKind, fieldPair, literalPair, pairOf};
 ghost use Rattle.lines.specs.Walking.{kindOf};
 ghost use Rattle.typed.specs.Values.{baseOf, digitAs, valueFrom};
 ghost use Rattle.faults.specs.Names.{labelRow, Ready};
@@ -132,10 +132,10 @@ fn either(kind: u64, w: &[u8]) -> Pair
 
 // The pair of a label: its row.
 fn labelled(b: u64, text: &[u8], keys: &[u64], rows: &[u64], w: &[u8]) -> Pair
-    requires { ⌜ Ready b (now text) (now keys) (now rows) ⌝ }
+    requires { ⌜ Ready b (now text) (now keys) (now rows) × (isLabel (now w) ≡ true) ⌝ }
     ensures { λ r. ⌜ r ≡ literalPair (labelRow b (now (text .entry)) (now (w .entry))) ⌝ }
 {
-    let value = names::label_row(b, text, keys, rows, w);
+    let value = names::known_row(keys, rows, w);
     Pair { form: 1, value }
 }
 

@@ -120,7 +120,7 @@ fn go_to_row(b: u64, text: &[u8], keys: &[u64], rows: &[u64], w: &[u8]) -> u64
     if words::is_same(w, b"DONE") {
         return 65535;
     }
-    names::label_row(b, text, keys, rows, w)
+    names::known_row(keys, rows, w)
 }
 
 // The row of a line.

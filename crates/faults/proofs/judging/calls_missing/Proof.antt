@@ -1,5 +1,4 @@
 -- `faults::judging::calls_missing` meets its contract. Assumes nothing.
-use native.Mathlib.Omega.{arith}
 use mathlib.Core.Path.{ap, _∙_}
 use Rattle.lines.specs.Reading.{split}
 use Rattle.lines.specs.Walking.{callsIn}

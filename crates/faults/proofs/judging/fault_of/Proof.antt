@@ -1,7 +1,6 @@
 -- `faults::judging::fault_of` meets its contract: by the scan and the tests. Assumes nothing.
 use native.Mathlib.Omega.{arith}
-use mathlib.Core.Path.{_≡_, sym, ap, subst, _∙_}
-use Prim.Native.Nat.{ℕ}
+use mathlib.Core.Path.{sym, subst, _∙_}
 use Rattle.faults.specs.declared.Scanned.{Scanned}
 use Rattle.faults.specs.Checking.{PlacedIn}
 use Rattle.faults.specs.Places.{linesIn, linesBefore}
@@ -22,8 +21,11 @@ enum-told c = search needs
 
 returns : tie.Need-returns
 returns c =
-    let at-scan = c .before .before in
-    (fault-bad _ _ _ _ _ (c .enum-told .given .1) (at-scan .scan .ensures .0), size-none _ _ (c .enum-told .given .1) (at-scan .scan .ensures .0))
+    let at-scan = c .before .before in (
+      λ _ _. fault-bad _ _ _ _ _ (c .enum-told .given .1) (at-scan .scan .ensures .0),
+      size-none _ _ (c .enum-told .given .1)
+          (at-scan .scan .ensures .0),
+    )
 
 add-size : tie.Need-add-size
 add-size c =
@@ -46,7 +48,7 @@ is-mislabelled-requires c κs =
     let at-scanned = c .before .before .before in
     let at-scan = at-scanned .before .before in
     let entry = at-scan .before .before .before .before .before in (
-      entry .pre .0,
+      entry .pre,
       (
         subst (λ (r : Scanned). PlacedIn (entry .args .s .now) r) (at-scanned .scanned .given .1) (at-scan .scan .ensures .1),
         good-operations
@@ -60,11 +62,16 @@ returns-2 c =
     let at-scanned = at-is-mislabelled .before .before .before .before in
     let at-scan = at-scanned .before .before in
     let entry = at-scan .before .before .before .before .before in
-    let size = size-line (entry .args .b) (entry .args .s .now) (at-scanned .scanned .given .1) (at-scan .scan .ensures .0) (at-scan .scan .ensures .1) in
-    let fault = fault-good (entry .args .b) (entry .args .s .now) (entry .args .lent) (linesIn (entry .args .b) (entry .args .text .now))
-    (linesBefore (entry .args .b) (entry .args .text .now) (entry .args .lines)) (at-scanned .scanned .given .1) (at-scan .scan .ensures .0)
-    (entry .args .count) _ (entry .pre .0 .1) size in
-    (rw (fault, sym (at-is-mislabelled .is-mislabelled .ensures) ∙ c .if1 .taken), size)
+    let size = size-line (entry .args .b) (entry .args .s .now) (at-scanned .scanned .given .1) (at-scan .scan .ensures .0)
+    (at-scan .scan .ensures .1) in (
+      λ lines counted. rw (
+        fault-good (entry .args .b) (entry .args .s .now) (entry .args .lent) (linesIn (entry .args .b) (entry .args .text .now))
+            (linesBefore (entry .args .b) (entry .args .text .now) lines) (at-scanned .scanned .given .1) (at-scan .scan .ensures .0)
+            (entry .args .count) _ counted size,
+        sym (at-is-mislabelled .is-mislabelled .ensures lines counted) ∙ c .if1 .taken,
+      ),
+      size,
+    )
 
 too-long-requires : tie.Need-too-long-requires
 too-long-requires c κs = c .before .before .before .before .before .before .before .before .before .before .before .before .pre .1
@@ -77,11 +84,17 @@ returns-3 c =
     let at-scanned = at-is-mislabelled .before .before .before .before in
     let at-scan = at-scanned .before .before in
     let entry = at-scan .before .before .before .before .before in
-    let size = size-line (entry .args .b) (entry .args .s .now) (at-scanned .scanned .given .1) (at-scan .scan .ensures .0) (at-scan .scan .ensures .1) in
-    let fault = fault-good (entry .args .b) (entry .args .s .now) (entry .args .lent) (linesIn (entry .args .b) (entry .args .text .now))
-    (linesBefore (entry .args .b) (entry .args .text .now) (entry .args .lines)) (at-scanned .scanned .given .1) (at-scan .scan .ensures .0)
-    (entry .args .count) _ (entry .pre .0 .1) size in
-    (rw (fault, sym (at-is-mislabelled .is-mislabelled .ensures) ∙ at-if1 .if1 .left, sym (at-too-long .too-long .ensures) ∙ c .if2 .taken), size)
+    let size = size-line (entry .args .b) (entry .args .s .now) (at-scanned .scanned .given .1) (at-scan .scan .ensures .0)
+    (at-scan .scan .ensures .1) in (
+      λ lines counted. rw (
+        fault-good (entry .args .b) (entry .args .s .now) (entry .args .lent) (linesIn (entry .args .b) (entry .args .text .now))
+            (linesBefore (entry .args .b) (entry .args .text .now) lines) (at-scanned .scanned .given .1) (at-scan .scan .ensures .0)
+            (entry .args .count) _ counted size,
+        sym (at-is-mislabelled .is-mislabelled .ensures lines counted) ∙ at-if1 .if1 .left,
+        sym (at-too-long .too-long .ensures) ∙ c .if2 .taken,
+      ),
+      size,
+    )
 
 returns-4 : tie.Need-returns-4
 returns-4 c =
@@ -91,11 +104,17 @@ returns-4 c =
     let at-scanned = at-is-mislabelled .before .before .before .before in
     let at-scan = at-scanned .before .before in
     let entry = at-scan .before .before .before .before .before in
-    let size = size-line (entry .args .b) (entry .args .s .now) (at-scanned .scanned .given .1) (at-scan .scan .ensures .0) (at-scan .scan .ensures .1) in
-    let fault = fault-good (entry .args .b) (entry .args .s .now) (entry .args .lent) (linesIn (entry .args .b) (entry .args .text .now))
-    (linesBefore (entry .args .b) (entry .args .text .now) (entry .args .lines)) (at-scanned .scanned .given .1) (at-scan .scan .ensures .0)
-    (entry .args .count) _ (entry .pre .0 .1) size in
-    (rw (fault, sym (at-is-mislabelled .is-mislabelled .ensures) ∙ at-if1 .if1 .left, sym (at-too-long .too-long .ensures) ∙ c .if2 .left), size)
+    let size = size-line (entry .args .b) (entry .args .s .now) (at-scanned .scanned .given .1) (at-scan .scan .ensures .0)
+    (at-scan .scan .ensures .1) in (
+      λ lines counted. rw (
+        fault-good (entry .args .b) (entry .args .s .now) (entry .args .lent) (linesIn (entry .args .b) (entry .args .text .now))
+            (linesBefore (entry .args .b) (entry .args .text .now) lines) (at-scanned .scanned .given .1) (at-scan .scan .ensures .0)
+            (entry .args .count) _ counted size,
+        sym (at-is-mislabelled .is-mislabelled .ensures lines counted) ∙ at-if1 .if1 .left,
+        sym (at-too-long .too-long .ensures) ∙ c .if2 .left,
+      ),
+      size,
+    )
 
 pub fault-of-spec : {M : Type 1} → statement M
 fault-of-spec =

@@ -1,16 +1,17 @@
 -- `faults::judging::is_mislabelled` meets its contract: its tests joined are the definition. Assumes nothing.
 use native.Mathlib.Omega.{arith}
-use mathlib.Core.Path.{_≡_, sym, ap, ap₂, _∙_}
-use mathlib.Core.Bool.{Bool, not, _&&_, _||_}
+use mathlib.Core.Path.{ap, ap₂, _∙_}
+use mathlib.Core.Bool.{_||_}
 use mathlib.Core.List.{List}
 use Prim.Native.Nat.{ℕ}
-use Rattle.lines.specs.Words.{isEmpty, any}
-use Rattle.lines.specs.Program.{declares, calledIn}
+use lib.Seq.{slice}
+use Rattle.lines.specs.Words.{any}
 use Rattle.faults.specs.Checking.{operationsAt}
 use Rattle.faults.specs.Places.{missing, goesTo, linesBefore}
+use Rattle.faults.specs.Names.{knownBefore}
 use Rattle.lines.proofs.Parts.{part-slice}
 use Rattle.faults.proofs.Faults.{labels-bad}
-use borrow.Author.Needs.{needs}
+use Rattle.faults.proofs.Telling.{again-is}
 use Rattle.faults.proofs.judging.is_mislabelled.Statement.{statement}
 use Rattle.faults.proofs.judging.is_mislabelled.Tie as tie
 
@@ -42,11 +43,11 @@ part-is-again-end : tie.Need-part-is-again-end
 part-is-again-end c = let inside = c .before .before .before .before .before .before .before .pre .1 .0 .counted .label in omega arith
 
 is-again-requires : tie.Need-is-again-requires
-is-again-requires c κs = c .before .before .before .before .before .before .before .before .pre .0
+is-again-requires c κs = c .before .before .before .before .before .before .before .before .pre .0 .0 .1 .room
 
 returns : tie.Need-returns
 unfolding operationsAt
-returns c =
+returns c = λ lines counted.
     let at-misses-go-to = c .before .before in
     let at-misses-call = at-misses-go-to .before .before in
     let entry = at-misses-call .before .before .before .before .before in
@@ -54,11 +55,13 @@ returns c =
     ∙ ap (λ (w : List ℕ). any (missing (entry .args .b) (entry .args .text .now)) (goesTo w))
     (part-slice (entry .args .c .goes) (entry .args .c .ends) (entry .args .s .now)) in
     let again = c .is-again .ensures
-    ∙ ap (λ (w : List ℕ). not (isEmpty w) && declares (linesBefore (entry .args .b) (entry .args .text .now) (entry .args .lines)) w)
-    (part-slice (entry .args .c .from) (entry .args .c .label) (entry .args .s .now)) in
+    ∙ ap (knownBefore (entry .args .keys .now) (entry .args .rows .now) (entry .args .count))
+    (part-slice (entry .args .c .from) (entry .args .c .label) (entry .args .s .now))
+    ∙ again-is (entry .args .b) (entry .args .text .now) (slice (entry .args .c .from) (entry .args .c .label) (entry .args .s .now)) lines
+    (entry .args .count) counted (entry .pre .0 .0 .1) (entry .pre .0 .1) in
     ap₂ _||_ (ap₂ _||_ (at-misses-call .misses-call .ensures) goes) again
     ∙ labels-bad (entry .args .b) (entry .args .text .now) (entry .args .s .now)
-    (linesBefore (entry .args .b) (entry .args .text .now) (entry .args .lines)) (entry .args .c)
+    (linesBefore (entry .args .b) (entry .args .text .now) lines) (entry .args .c)
 
 pub is-mislabelled-spec : {M : Type 1} → statement M
 is-mislabelled-spec =

@@ -1,10 +1,9 @@
 -- `faults::judging::misses_call` meets its contract. The loop's invariant: the operations passed call no missing label. Assumes nothing.
-use Prim.Native.Nat.{ℕ, _+_, _-_}
+use Prim.Native.Nat.{ℕ, _+_}
 use native.Mathlib.Omega.{arith}
-use mathlib.Core.Path.{_≡_, refl, sym, ap, _∙_}
-use mathlib.Core.Bool.{true}
+use mathlib.Core.Path.{refl, sym, ap, _∙_}
 use mathlib.Core.List.{List}
-use lib.ListN.{length, drop}
+use lib.ListN.{drop}
 use Rattle.lines.specs.Words.{any}
 use Rattle.lines.specs.Forms.{isOperation}
 use Rattle.lines.specs.Reading.{split}
@@ -13,7 +12,7 @@ use Rattle.faults.specs.Checking.{parensIn}
 use Rattle.lines.specs.Walking.{callsIn}
 use Rattle.faults.specs.Places.{missing}
 use Rattle.lines.proofs.Parts.{part-slice, part-short}
-use Rattle.faults.proofs.Using.{Parens, parens-start, parens-close, parens-first, Using, using-all, using-found, using-more}
+use Rattle.faults.proofs.Using.{parens-start, parens-close, parens-first, Using, using-all, using-found, using-more}
 use borrow.Author.Needs.{needs}
 use Rattle.faults.proofs.judging.misses_call.Statement.{statement}
 use Rattle.faults.proofs.judging.misses_call.Tie as tie
@@ -25,7 +24,9 @@ abbrev μ-loop : tie.MeasureT-loop
 μ-loop b text keys rows s at count left₀ place₀ left place = left
 
 loop-holds : tie.Need-loop-holds Inv-loop μ-loop
-loop-holds c = record { parens = record { inside = c .before .before .before .before .pre .1 .0; whole = c .before .before .before .before .pre .1 .1 .0; proper = c .before .before .before .before .pre .1 .1 .1 }; rest = refl }
+loop-holds c =
+    let entry = c .before .before .before .before in
+    record { parens = record { inside = entry .pre .1 .0; whole = entry .pre .1 .1 .0; proper = entry .pre .1 .1 .1 }; rest = refl }
 
 blanks-end-requires : tie.Need-blanks-end-requires Inv-loop μ-loop
 blanks-end-requires c κs = c .before .loop .inv .parens .inside
@@ -37,36 +38,88 @@ close-of-requires : tie.Need-close-of-requires Inv-loop μ-loop
 close-of-requires c κs = search needs
 
 add-from : tie.Need-add-from Inv-loop μ-loop
-add-from c = let k = parens-close _ _ (c .before .before .before .before .loop .inv .parens) (c .before .before .before .loop-test .taken) _ (c .before .before .blanks-end .ensures) _ (c .close-of .ensures) (c .before .token-at .ensures .0) (c .before .token-at .ensures .1) in omega (arith, k .opens, k .closes)
+add-from c =
+    let at-token-at = c .before in
+    let at-blanks-end = at-token-at .before in
+    let at-loop-test = at-blanks-end .before in
+    let at-loop = at-loop-test .before in
+    let k = parens-close _ _ (at-loop .loop .inv .parens) (at-loop-test .loop-test .taken) _ (at-blanks-end .blanks-end .ensures) _
+    (c .close-of .ensures) (at-token-at .token-at .ensures .0) (at-token-at .token-at .ensures .1) in omega (arith, k .opens, k .closes)
 
 sub-calls-missing : tie.Need-sub-calls-missing Inv-loop μ-loop
-sub-calls-missing c = let k = parens-close _ _ (c .before .before .before .before .loop .inv .parens) (c .before .before .before .loop-test .taken) _ (c .before .before .blanks-end .ensures) _ (c .close-of .ensures) (c .before .token-at .ensures .0) (c .before .token-at .ensures .1) in omega (arith, k .opens, k .closes)
+sub-calls-missing c =
+    let at-token-at = c .before in
+    let at-blanks-end = at-token-at .before in
+    let at-loop-test = at-blanks-end .before in
+    let at-loop = at-loop-test .before in
+    let k = parens-close _ _ (at-loop .loop .inv .parens) (at-loop-test .loop-test .taken) _ (at-blanks-end .blanks-end .ensures) _
+    (c .close-of .ensures) (at-token-at .token-at .ensures .0) (at-token-at .token-at .ensures .1) in omega (arith, k .opens, k .closes)
 
 part-calls-missing-start : tie.Need-part-calls-missing-start Inv-loop μ-loop
-part-calls-missing-start c = let k = parens-close _ _ (c .before .before .before .before .loop .inv .parens) (c .before .before .before .loop-test .taken) _ (c .before .before .blanks-end .ensures) _ (c .close-of .ensures) (c .before .token-at .ensures .0) (c .before .token-at .ensures .1) in omega (arith, k .opens, k .closes)
+part-calls-missing-start c =
+    let at-token-at = c .before in
+    let at-blanks-end = at-token-at .before in
+    let at-loop-test = at-blanks-end .before in
+    let at-loop = at-loop-test .before in
+    let k = parens-close _ _ (at-loop .loop .inv .parens) (at-loop-test .loop-test .taken) _ (at-blanks-end .blanks-end .ensures) _
+    (c .close-of .ensures) (at-token-at .token-at .ensures .0) (at-token-at .token-at .ensures .1) in omega (arith, k .opens, k .closes)
 
 part-calls-missing-end : tie.Need-part-calls-missing-end Inv-loop μ-loop
-part-calls-missing-end c = let k = parens-close _ _ (c .before .before .before .before .loop .inv .parens) (c .before .before .before .loop-test .taken) _ (c .before .before .blanks-end .ensures) _ (c .close-of .ensures) (c .before .token-at .ensures .0) (c .before .token-at .ensures .1) in omega (arith, k .opens, k .closes)
+part-calls-missing-end c =
+    let at-token-at = c .before in
+    let at-blanks-end = at-token-at .before in
+    let at-loop-test = at-blanks-end .before in
+    let at-loop = at-loop-test .before in
+    let k = parens-close _ _ (at-loop .loop .inv .parens) (at-loop-test .loop-test .taken) _ (at-blanks-end .blanks-end .ensures) _
+    (c .close-of .ensures) (at-token-at .token-at .ensures .0) (at-token-at .token-at .ensures .1) in omega (arith, k .opens, k .closes)
 
 calls-missing-requires : tie.Need-calls-missing-requires Inv-loop μ-loop
 calls-missing-requires c κs =
-    let k = parens-close _ _ (c .before .before .before .before .before .loop .inv .parens) (c .before .before .before .before .loop-test .taken) _ (c .before .before .before .blanks-end .ensures) _ (c .before .close-of .ensures) (c .before .before .token-at .ensures .0) (c .before .before .token-at .ensures .1) in
-    let operation = parens-first _ _ (c .before .before .before .before .before .loop .inv .parens) (c .before .before .before .before .loop-test .taken) _ (c .before .before .before .blanks-end .ensures) k in (
-      c .before .before .before .before .before .before .before .before .before .before .pre .0,
+    let at-close-of = c .before in
+    let at-token-at = at-close-of .before in
+    let at-blanks-end = at-token-at .before in
+    let at-loop-test = at-blanks-end .before in
+    let at-loop = at-loop-test .before in
+    let entry = at-loop .before .before .before .before .before in
+    let k = parens-close _ _ (at-loop .loop .inv .parens) (at-loop-test .loop-test .taken) _ (at-blanks-end .blanks-end .ensures) _
+    (at-close-of .close-of .ensures) (at-token-at .token-at .ensures .0) (at-token-at .token-at .ensures .1) in
+    let operation = parens-first _ _ (at-loop .loop .inv .parens) (at-loop-test .loop-test .taken) _ (at-blanks-end .blanks-end .ensures) k in (
+      entry .pre .0,
       (
-        part-short (c .before .before .before .blanks-end .result + 1) (c .before .close-of .result) (c .before .before .before .before .before .before .before .before .before .before .args .s .now) (k .closes) (omega arith),
-        ap (λ (w : List ℕ). isOperation (c .before .before .before .before .before .before .before .before .before .before .args .b) (split w)) (part-slice (c .before .before .before .blanks-end .result + 1) (c .before .close-of .result) (c .before .before .before .before .before .before .before .before .before .before .args .s .now)) ∙ operation,
+        part-short (at-blanks-end .blanks-end .result + 1) (at-close-of .close-of .result) (entry .args .s .now) (k .closes)
+            (omega (arith, entry .good .1 .1 .1 .1 .0 .1)),
+        ap (λ (w : List ℕ). isOperation (entry .args .b) (split w)) (part-slice (at-blanks-end .blanks-end .result + 1)
+            (at-close-of .close-of .result) (entry .args .s .now)) ∙ operation,
       ),
     )
 
 returns : tie.Need-returns Inv-loop μ-loop
 returns c =
-    let k = parens-close _ _ (c .before .before .before .before .before .before .before .loop .inv .parens) (c .before .before .before .before .before .before .loop-test .taken) _ (c .before .before .before .before .before .blanks-end .ensures) _ (c .before .before .before .close-of .ensures) (c .before .before .before .before .token-at .ensures .0) (c .before .before .before .before .token-at .ensures .1) in
-    using-found _ _ _ _ (c .before .before .before .before .before .before .before .loop .inv) (c .before .before .before .before .before .before .loop-test .taken) _ (c .before .before .before .before .before .blanks-end .ensures) k
-    (ap (λ (w : List ℕ). any (missing (c .before .before .before .before .before .before .before .before .before .before .before .before .args .b) (c .before .before .before .before .before .before .before .before .before .before .before .before .args .text .now)) (callsIn (c .before .before .before .before .before .before .before .before .before .before .before .before .args .b) (split w))) (sym (part-slice (c .before .before .before .before .before .blanks-end .result + 1) (c .before .before .before .close-of .result) (c .before .before .before .before .before .before .before .before .before .before .before .before .args .s .now))) ∙ sym (c .before .calls-missing .ensures) ∙ c .if1 .taken)
+    let at-calls-missing = c .before in
+    let at-close-of = at-calls-missing .before .before in
+    let at-token-at = at-close-of .before in
+    let at-blanks-end = at-token-at .before in
+    let at-loop-test = at-blanks-end .before in
+    let at-loop = at-loop-test .before in
+    let entry = at-loop .before .before .before .before .before in
+    let k = parens-close _ _ (at-loop .loop .inv .parens) (at-loop-test .loop-test .taken) _ (at-blanks-end .blanks-end .ensures) _
+    (at-close-of .close-of .ensures) (at-token-at .token-at .ensures .0) (at-token-at .token-at .ensures .1) in
+    using-found _ _ _ _ (at-loop .loop .inv) (at-loop-test .loop-test .taken) _ (at-blanks-end .blanks-end .ensures) k
+    (ap (λ (w : List ℕ). any (missing (entry .args .b) (entry .args .text .now)) (callsIn (entry .args .b) (split w))) (sym (part-slice
+    (at-blanks-end .blanks-end .result + 1) (at-close-of .close-of .result) (entry .args .s .now))) ∙ sym (at-calls-missing .calls-missing .ensures)
+    ∙ c .if1 .taken)
 
 add-place : tie.Need-add-place Inv-loop μ-loop
-add-place c = let k = parens-close _ _ (c .before .before .before .before .before .before .before .loop .inv .parens) (c .before .before .before .before .before .before .loop-test .taken) _ (c .before .before .before .before .before .blanks-end .ensures) _ (c .before .before .before .close-of .ensures) (c .before .before .before .before .token-at .ensures .0) (c .before .before .before .before .token-at .ensures .1) in omega (arith, k .opens, k .closes)
+add-place c =
+    let at-close-of = c .before .before .before in
+    let at-token-at = at-close-of .before in
+    let at-blanks-end = at-token-at .before in
+    let at-loop-test = at-blanks-end .before in
+    let at-loop = at-loop-test .before in
+    let entry = at-loop .before .before .before .before .before in
+    let k = parens-close _ _ (at-loop .loop .inv .parens) (at-loop-test .loop-test .taken) _ (at-blanks-end .blanks-end .ensures) _
+    (at-close-of .close-of .ensures) (at-token-at .token-at .ensures .0) (at-token-at .token-at .ensures .1) in
+    omega (arith, k .opens, k .closes, entry .good .1 .1 .1 .1 .0 .1)
 
 sub-left : tie.Need-sub-left Inv-loop μ-loop
 sub-left c = search needs
@@ -76,9 +129,19 @@ loop-less c = search needs
 
 loop-again : tie.Need-loop-again Inv-loop μ-loop
 loop-again c =
-    let k = parens-close _ _ (c .before .before .before .before .before .before .before .loop .inv .parens) (c .before .before .before .before .before .before .loop-test .taken) _ (c .before .before .before .before .before .blanks-end .ensures) _ (c .before .before .before .close-of .ensures) (c .before .before .before .before .token-at .ensures .0) (c .before .before .before .before .token-at .ensures .1) in
-    using-more _ _ _ _ (c .before .before .before .before .before .before .before .loop .inv) (c .before .before .before .before .before .before .loop-test .taken) _ (c .before .before .before .before .before .blanks-end .ensures) k
-    (ap (λ (w : List ℕ). any (missing (c .before .before .before .before .before .before .before .before .before .before .before .before .args .b) (c .before .before .before .before .before .before .before .before .before .before .before .before .args .text .now)) (callsIn (c .before .before .before .before .before .before .before .before .before .before .before .before .args .b) (split w))) (sym (part-slice (c .before .before .before .before .before .blanks-end .result + 1) (c .before .before .before .close-of .result) (c .before .before .before .before .before .before .before .before .before .before .before .before .args .s .now))) ∙ sym (c .before .calls-missing .ensures) ∙ c .if1 .left)
+    let at-calls-missing = c .before in
+    let at-close-of = at-calls-missing .before .before in
+    let at-token-at = at-close-of .before in
+    let at-blanks-end = at-token-at .before in
+    let at-loop-test = at-blanks-end .before in
+    let at-loop = at-loop-test .before in
+    let entry = at-loop .before .before .before .before .before in
+    let k = parens-close _ _ (at-loop .loop .inv .parens) (at-loop-test .loop-test .taken) _ (at-blanks-end .blanks-end .ensures) _
+    (at-close-of .close-of .ensures) (at-token-at .token-at .ensures .0) (at-token-at .token-at .ensures .1) in
+    using-more _ _ _ _ (at-loop .loop .inv) (at-loop-test .loop-test .taken) _ (at-blanks-end .blanks-end .ensures) k
+    (ap (λ (w : List ℕ). any (missing (entry .args .b) (entry .args .text .now)) (callsIn (entry .args .b) (split w))) (sym (part-slice
+    (at-blanks-end .blanks-end .result + 1) (at-close-of .close-of .result) (entry .args .s .now))) ∙ sym (at-calls-missing .calls-missing .ensures)
+    ∙ c .if1 .left)
 
 returns-2 : tie.Need-returns-2 Inv-loop μ-loop
 returns-2 c = using-all _ _ _ _ (c .before .loop .inv) (c .loop-test .left)

@@ -8,81 +8,77 @@ use lib.ListN.{length}
 use Rattle.lines.specs.Reading.{readLine}
 use Rattle.lines.specs.Program.{declares, keptLines}
 use Rattle.lines.proofs.Parts.{part-slice}
-use Rattle.faults.proofs.Texting.{Sought, sought-none, sought-all, sought-end, sought-here, sought-more, line-inside}
+use Rattle.faults.proofs.Texting.{Sought, sought-none, sought-all, sought-here, sought-more, line-inside}
 use borrow.Author.Needs.{needs}
 use Rattle.faults.proofs.labels.declared.Statement.{statement}
 use Rattle.faults.proofs.labels.declared.Tie as tie
 
 abbrev Inv-loop : tie.InvT-loop
-Inv-loop b text lines label left₀ from₀ left from = Sought b text label lines left from
+Inv-loop b text label from₀ from = Sought b text label from
 
 abbrev μ-loop : tie.MeasureT-loop
-μ-loop b text lines label left₀ from₀ left from = left
+μ-loop b text label from₀ from = length text - from
 
 loop-holds : tie.Need-loop-holds Inv-loop μ-loop
-loop-holds c = sought-none _ _ _ _
-
-returns : tie.Need-returns Inv-loop μ-loop
-returns c = sought-end _ _ _ _ (c .before .before .loop .inv) (c .before .loop-test .taken) (c .if1 .taken)
+loop-holds c = sought-none _ _ _
 
 line-end-requires : tie.Need-line-end-requires Inv-loop μ-loop
 line-end-requires c κs = search needs
 
 sub-declares-it : tie.Need-sub-declares-it Inv-loop μ-loop
 sub-declares-it c =
-    let at-if1 = c .before in
-    let entry = at-if1 .before .before .before .before .before in
-    let inside = line-inside (entry .args .text .now) _ _ (at-if1 .if1 .left) (c .line-end .ensures) in omega arith
+    let at-loop-test = c .before in
+    let entry = at-loop-test .before .before .before .before in
+    let inside = line-inside (entry .args .text .now) _ _ (at-loop-test .loop-test .taken) (c .line-end .ensures) in omega arith
 
 part-declares-it-start : tie.Need-part-declares-it-start Inv-loop μ-loop
 part-declares-it-start c =
-    let at-if1 = c .before in
-    let entry = at-if1 .before .before .before .before .before in
-    let inside = line-inside (entry .args .text .now) _ _ (at-if1 .if1 .left) (c .line-end .ensures) in omega arith
+    let at-loop-test = c .before in
+    let entry = at-loop-test .before .before .before .before in
+    let inside = line-inside (entry .args .text .now) _ _ (at-loop-test .loop-test .taken) (c .line-end .ensures) in omega arith
 
 part-declares-it-end : tie.Need-part-declares-it-end Inv-loop μ-loop
 part-declares-it-end c =
-    let at-if1 = c .before in
-    let entry = at-if1 .before .before .before .before .before in
-    let inside = line-inside (entry .args .text .now) _ _ (at-if1 .if1 .left) (c .line-end .ensures) in omega arith
+    let at-loop-test = c .before in
+    let entry = at-loop-test .before .before .before .before in
+    let inside = line-inside (entry .args .text .now) _ _ (at-loop-test .loop-test .taken) (c .line-end .ensures) in omega arith
 
 declares-it-requires : tie.Need-declares-it-requires Inv-loop μ-loop
 declares-it-requires c κs = search needs
 
-returns-2 : tie.Need-returns-2 Inv-loop μ-loop
-returns-2 c =
+returns : tie.Need-returns Inv-loop μ-loop
+returns c =
     let at-declares-it = c .before in
     let at-line-end = at-declares-it .before .before in
-    let at-if1 = at-line-end .before in
-    let at-loop-test = at-if1 .before in
+    let at-loop-test = at-line-end .before in
     let at-loop = at-loop-test .before in
     let entry = at-loop .before .before .before in
-    sought-here _ _ _ _ (at-loop .loop .inv) (at-loop-test .loop-test .taken) _ (at-if1 .if1 .left) (at-line-end .line-end .ensures)
+    sought-here _ _ _ (at-loop .loop .inv) _ (at-loop-test .loop-test .taken) (at-line-end .line-end .ensures)
     (ap (λ (s : List ℕ). declares (keptLines (readLine (entry .args .b) s ∷ [])) (entry .args .label .now))
     (sym (part-slice (at-loop .loop .from) (at-line-end .line-end .result) (entry .args .text .now))) ∙ sym (at-declares-it .declares-it .ensures)
-    ∙ c .if2 .taken)
-
-sub-left : tie.Need-sub-left Inv-loop μ-loop
-sub-left c = search needs
+    ∙ c .if1 .taken)
 
 loop-less : tie.Need-loop-less Inv-loop μ-loop
-loop-less c = search needs
+loop-less c =
+    let at-line-end = c .before .before .before in
+    let at-loop-test = at-line-end .before in
+    let entry = at-loop-test .before .before .before .before in
+    let inside = line-inside (entry .args .text .now) _ _ (at-loop-test .loop-test .taken) (at-line-end .line-end .ensures) in omega arith
 
 loop-again : tie.Need-loop-again Inv-loop μ-loop
 loop-again c =
     let at-declares-it = c .before in
     let at-line-end = at-declares-it .before .before in
-    let at-if1 = at-line-end .before in
-    let at-loop-test = at-if1 .before in
+    let at-loop-test = at-line-end .before in
     let at-loop = at-loop-test .before in
     let entry = at-loop .before .before .before in
-    sought-more _ _ _ _ (at-loop .loop .inv) (at-loop-test .loop-test .taken) _ (at-if1 .if1 .left) (at-line-end .line-end .ensures)
+    sought-more _ _ _ (at-loop .loop .inv) _ (at-loop-test .loop-test .taken) (at-line-end .line-end .ensures)
     (ap (λ (s : List ℕ). declares (keptLines (readLine (entry .args .b) s ∷ [])) (entry .args .label .now))
     (sym (part-slice (at-loop .loop .from) (at-line-end .line-end .result) (entry .args .text .now))) ∙ sym (at-declares-it .declares-it .ensures)
-    ∙ c .if2 .left)
+    ∙ c .if1 .left)
 
-returns-3 : tie.Need-returns-3 Inv-loop μ-loop
-returns-3 c = sought-all _ _ _ _ (c .before .loop .inv) (c .loop-test .left)
+returns-2 : tie.Need-returns-2 Inv-loop μ-loop
+returns-2 c = sought-all _ _ _ (c .before .loop .inv) (c .loop-test .left)
 
 pub declared-spec : {M : Type 1} → statement M
 declared-spec =
@@ -91,14 +87,12 @@ declared-spec =
     Inv-loop
     μ-loop
     loop-holds
-    returns
     line-end-requires
     sub-declares-it
     part-declares-it-start
     part-declares-it-end
     declares-it-requires
-    returns-2
-    sub-left
+    returns
     loop-less
     loop-again
-    returns-3)
+    returns-2)

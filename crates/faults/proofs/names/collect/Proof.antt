@@ -19,7 +19,7 @@ abbrev μ-loop : tie.MeasureT-loop
 μ-loop b text keys₀ rows₀ from₀ n₀ before₀ keys rows from n before = length text - from
 
 loop-holds : tie.Need-loop-holds Inv-loop μ-loop
-loop-holds c = collecting-none _ _ _ _ (c .before .before .before .pre .1)
+loop-holds c = collecting-none _ _ _ _ (c .before .before .before .pre .1 .1)
 
 same-length : tie.Need-same-length Inv-loop μ-loop
 same-length c = search needs
@@ -29,9 +29,13 @@ same-length-2 c = search needs
 
 returns : tie.Need-returns Inv-loop μ-loop
 returns c =
-    let at-loop = c .before .before in (
+    let at-loop = c .before .before in
+    let entry = at-loop .before .before .before .before in (
       omega (arith, at-loop .loop .inv .most, at-loop .loop .inv .keys-long),
-      (omega (arith, at-loop .loop .inv .most, at-loop .loop .inv .rows-long), collecting-known _ _ (at-loop .loop .inv)),
+      (
+        omega (arith, at-loop .loop .inv .most, at-loop .loop .inv .rows-long),
+        collecting-known _ _ (at-loop .loop .inv) (λ _. omega (arith, c .if1 .taken, entry .pre .1 .0, at-loop .loop .inv .keys-long)),
+      ),
     )
 
 line-end-requires : tie.Need-line-end-requires Inv-loop μ-loop
@@ -109,7 +113,10 @@ returns-2 : tie.Need-returns-2 Inv-loop μ-loop
 returns-2 c =
     let at-loop = c .before in (
       omega (arith, at-loop .loop .inv .most, at-loop .loop .inv .keys-long),
-      (omega (arith, at-loop .loop .inv .most, at-loop .loop .inv .rows-long), collecting-known _ _ (at-loop .loop .inv)),
+      (
+        omega (arith, at-loop .loop .inv .most, at-loop .loop .inv .rows-long),
+        collecting-known _ _ (at-loop .loop .inv) (λ l. absurd (omega (arith, c .loop-test .left))),
+      ),
     )
 
 pub collect-spec : {M : Type 1} → statement M

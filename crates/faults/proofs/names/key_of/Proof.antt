@@ -1,6 +1,6 @@
 -- `faults::names::key_of` meets its contract: six bytes. Assumes nothing.
 use native.Mathlib.Omega.{arith}
-use Rattle.faults.proofs.Naming.{key-bytes}
+use Rattle.faults.proofs.Keys.{key-bytes}
 use borrow.Author.Needs.{needs}
 use Rattle.faults.proofs.names.key_of.Statement.{statement}
 use Rattle.faults.proofs.names.key_of.Tie as tie

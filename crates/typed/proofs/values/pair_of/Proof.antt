@@ -54,7 +54,10 @@ plain-requires-2 : tie.Need-plain-requires-2
 plain-requires-2 c κs = search needs
 
 labelled-requires : tie.Need-labelled-requires
-labelled-requires c κs = c .before .before .before .before .before .pre .0
+unfolding isKind kindOf
+labelled-requires c κs =
+    let entry = c .before .before .before .before .before in
+    (entry .pre .0, sym (of-kind _ _ (c .match .keys9)) ∙ entry .pre .1)
 
 plain-requires-3 : tie.Need-plain-requires-3
 plain-requires-3 c κs = search needs

@@ -3,6 +3,7 @@ use mathlib.Core.Path.{sym, _∙_}
 use Rattle.lines.specs.Words.{spelled, isDone}
 use Rattle.faults.specs.Names.{labelRow}
 use Rattle.faults.proofs.Using.{empty-word, filled-word}
+use Rattle.faults.proofs.Telling.{ready-row}
 use Rattle.typed.proofs.Grouping.{goes-nowhere, goes-done, goes-to}
 use borrow.Author.Needs.{needs}
 use Rattle.typed.proofs.writing.go_to_row.Statement.{statement}
@@ -28,8 +29,8 @@ returns-2 c =
     goes-done _ (labelRow (entry .args .b) (entry .args .text .now)) _ (filled-word (entry .args .w .now) (at-if1 .if1 .left))
     (sym (at-is-same .is-same .ensures) ∙ c .if2 .taken)
 
-label-row-requires : tie.Need-label-row-requires
-label-row-requires c κs = c .before .before .before .before .before .before .before .before .pre
+known-row-requires : tie.Need-known-row-requires
+known-row-requires c κs = c .before .before .before .before .before .before .before .before .pre .known .room
 
 returns-3 : tie.Need-returns-3
 unfolding isDone spelled
@@ -38,7 +39,8 @@ returns-3 c =
     let at-is-same = at-if2 .before in
     let at-if1 = at-is-same .before .before in
     let entry = at-if1 .before .before .before .before .before in
-    c .label-row .ensures
+    c .known-row .ensures
+    ∙ ready-row (entry .pre) (entry .args .w .now) (filled-word (entry .args .w .now) (at-if1 .if1 .left))
     ∙ goes-to _ (labelRow (entry .args .b) (entry .args .text .now)) _ (filled-word (entry .args .w .now) (at-if1 .if1 .left))
     (sym (at-is-same .is-same .ensures) ∙ at-if2 .if2 .left)
 
@@ -50,5 +52,5 @@ go-to-row-spec =
     slice-aggregate-is-same
     is-same-requires
     returns-2
-    label-row-requires
+    known-row-requires
     returns-3)
