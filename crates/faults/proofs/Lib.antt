@@ -11,3 +11,4 @@ pub mod Judged
 pub mod Keys
 pub mod Naming
 pub mod Telling
+pub mod Finding

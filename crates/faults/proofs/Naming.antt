@@ -12,11 +12,11 @@ use lib.Dec.{eqb, ltb}
 use lib.ListN.{length, take, drop, getD, set, length-append, length-set, drop-of-length-le}
 use lib.Seq.{slice, drop-cons, length-take-le, length-slice, take-suc-set}
 use Rattle.word.proofs.Tests.{by-test, by-eqb}
-use Rattle.lines.specs.Words.{same, isEmpty, all, isLabel}
+use Rattle.lines.specs.Words.{same, isEmpty, all, any, isLabel}
 use Rattle.lines.specs.Grammar.{Line, Typed}
 use Rattle.lines.specs.Reading.{cut, readLine}
-use Rattle.lines.specs.Program.{size, rowOf, keptLines}
-use Rattle.lines.proofs.Lists.{true-false, same-eq, all-first, all-others, and-both}
+use Rattle.lines.specs.Program.{size, rowOf, keptLines, declares}
+use Rattle.lines.proofs.Lists.{true-false, same-eq, same-refl, all-first, all-others, and-both}
 use Rattle.lines.proofs.Lines.{label-parts, parts, spacing, line-sound}
 use Rattle.faults.specs.declared.Noted.{Noted}
 use Rattle.faults.specs.declared.Scan.{Scan}
@@ -24,7 +24,7 @@ use Rattle.faults.specs.declared.Scanned.{Scanned}
 use Rattle.faults.specs.declared.Scanned.the-variants.{Good, Bad}
 use Rattle.faults.specs.Checking.{lineRead, lineAt, scannedLine, Placed, PlacedIn}
 use Rattle.faults.specs.Places.{lineLength, sizeOf, linesIn}
-use Rattle.faults.specs.Names.{keyOf, beside, knownRow, labelRow, Known, noted, keysOf, rowsOf, Put, PutLine}
+use Rattle.faults.specs.Names.{keyOf, beside, knownRow, capped, labelRow, Known, noted, keysOf, rowsOf, Put, PutLine}
 use Rattle.faults.proofs.Texting.{line-inside, cut-from, cut-none, onLine, kept-cons, size-line, size-none}
 use Rattle.faults.proofs.Keys.{key-eqb}
 use Rattle.faults.proofs.Using.{empty-word, filled-word}
@@ -57,7 +57,7 @@ module _ (keys rows : List ℕ) (key : ℕ) where
     seeking-all l = rw (drop-of-length-le keys l) at (h .rest)
 
 -- more numbers after those where it is found
-beside-append : (xs ys rows more : List ℕ) (key : ℕ) → length xs ≡ length rows → (beside xs rows key ≡ 0 → ⊥)
+pub beside-append : (xs ys rows more : List ℕ) (key : ℕ) → length xs ≡ length rows → (beside xs rows key ≡ 0 → ⊥)
     → beside (xs ++ ys) (rows ++ more) key ≡ beside xs rows key
 unfolding beside
 beside-append [] ys rows more key l = λ h. absurd (h refl)
@@ -67,7 +67,7 @@ beside-append (x ∷ xs) ys (r ∷ rows) more key l =
     (λ _ h. refl) (λ _ h. beside-append xs ys rows more key (omega arith) h)
 
 -- and after those where it is not, where each has a row
-beside-past : (xs ys rows more : List ℕ) (key : ℕ) → length xs ≡ length rows → all (ltb 0) rows ≡ true → beside xs rows key ≡ 0
+pub beside-past : (xs ys rows more : List ℕ) (key : ℕ) → length xs ≡ length rows → all (ltb 0) rows ≡ true → beside xs rows key ≡ 0
     → beside (xs ++ ys) (rows ++ more) key ≡ beside ys more key
 unfolding beside
 beside-past [] ys [] more key l p = λ _. refl
@@ -258,8 +258,9 @@ module _ (b : ℕ) (text : List ℕ) where
         record {
           room = omega (arith, keys-taken, rows-taken);
           right = λ w. by-test (λ t. isLabel w ≡ t → (cond t (beside (take n keys) (take n rows) (keyOf w)) 0 ≡ 0 → ⊥)
-              → cond t (beside (take n keys) (take n rows) (keyOf w)) 0 ≡ labelRow b text w) (isLabel w)
-              (λ _ is found. found-right w is found) (λ _ _ found. absurd (found refl)) refl;
+              → capped (cond t (beside (take n keys) (take n rows) (keyOf w)) 0) ≡ capped (labelRow b text w)) (isLabel w)
+              (λ _ is found. ap capped (found-right w is found)) (λ _ _ found. absurd (found refl)) refl;
+          some = positive;
           near = λ w f z small. none-left w f z (λ l. omega (arith, full l));
           whole = λ few w f z. none-left w f z (λ l. absurd (omega (arith, full l, keys-taken)));
         }
@@ -345,6 +346,15 @@ module _ (b : ℕ) (s : List ℕ) where
   kept-bad : {r : Scanned} → r ≡ Bad → scannedLine s r ≡ lineRead (readLine b s) → keptLines (readLine b s ∷ []) ≡ []
   unfolding scannedLine onLine keptLines
   kept-bad {r} is e = kept-cons (readLine b s) [] ∙ ap (λ (o : Option Line). onLine o []) (sym e ∙ ap (scannedLine s) is)
+
+  -- its label is one that the line declares
+  pub line-told : {r : Scanned} {c : Scan} → r ≡ Good c → scannedLine s r ≡ lineRead (readLine b s) → isEmpty (slice (c .from) (c .label) s) ≡ false
+      → (isLabel (slice (c .from) (c .label) s) ≡ true) × (declares (keptLines (readLine b s ∷ [])) (slice (c .from) (c .label) s) ≡ true)
+  unfolding lineAt declares any
+  line-told {r} {c} is e filled =
+      let w = slice (c .from) (c .label) s in
+      let good = all-first labelled (lineAt s c) [] (subst (λ (ls : List Line). all labelled ls ≡ true) (kept-good is e) (read-labelled b (s ∷ []))) in
+      (rw filled at good, subst (λ (ls : List Line). declares ls w ≡ true) (sym (kept-good is e)) (rw (same-refl w)))
 
   module _ (n before : ℕ) (keys rows : List ℕ) where
     pub put-bad : {r : Scanned} → r ≡ Bad → scannedLine s r ≡ lineRead (readLine b s)

@@ -4,24 +4,22 @@ use native.Mathlib.Nat.{zero-add}
 use native.Mathlib.Omega.{arith}
 use mathlib.Core.Path.{_≡_, refl, ap, ap₂, sym, subst, _∙_}
 use mathlib.Core.Bool.{Bool, true, false, _||_, cond}
-use mathlib.Core.List.{List, [], _∷_, _++_, map, append-assoc}
+use mathlib.Core.List.{List, [], _∷_, _++_, map}
 use mathlib.Core.Option.{Option, none, some}
-use borrow.Author.Tests.{eq-eqb, ne-eqb, eqb-true}
+use borrow.Author.Tests.{eq-eqb, ne-eqb}
 use lib.Dec.{eqb}
 use lib.ListN.{length, take, drop, getD, length-drop, drop-of-length-le}
-use lib.Seq.{slice, drop-cons, drop-drop, take-add, take-at, drop-at, length-take-le}
+use lib.Seq.{slice, drop-cons, drop-drop, take-add, drop-at, length-take-le}
 use Rattle.word.proofs.Tests.{by-test, by-eqb}
 use Rattle.faults.specs.declared.Scanned.{Scanned}
 use Rattle.faults.specs.declared.Scanned.the-variants.{Good, Bad}
 use Rattle.faults.specs.declared.Scan.{Scan}
-use Rattle.lines.specs.Words.{same, isEmpty, any, modeWords}
-use Rattle.lines.specs.Grammar.{Line, Token, word, paren, Typed, optional, thenWord, tokens, writtenToken, writtenPieces, pieces, writtenLine, indented}
+use Rattle.lines.specs.Words.{same, any}
+use Rattle.lines.specs.Grammar.{Line, Typed}
 use Rattle.lines.specs.Reading.{onto, cut, readLine}
 use Rattle.lines.specs.Program.{size, declares, keptLines, rowCount}
 use Rattle.faults.specs.Checking.{lineRead, scannedLine, lineAt, Placed, PlacedIn}
 use Rattle.faults.specs.Places.{lineLength, sizeOf, linesIn}
-use Rattle.lines.proofs.Lists.{true-false, same-eq, same-refl}
-use Rattle.lines.proofs.Lines.{line-sound, spacing}
 use Rattle.lines.proofs.Parts.{part-slice}
 
 -- where a line ends
@@ -142,55 +140,6 @@ module _ (b : ℕ) (s w : List ℕ) where
       let line : lineRead (readLine b s) ≡ none = sym e ∙ ap (scannedLine s) is in
       sym (ap (λ (ls : List Line). declares ls w) (kept-cons (readLine b s) [] ∙ ap (λ (o : Option Line). onLine o []) line))
 
--- a line that declares a label begins with it
-record Begins (w s : List ℕ) : Type 0 where
-  more : List ℕ
-  whole : s ≡ w ++ more
-
-front-same : (w s : List ℕ) → Begins w s → same (take (length w) s) w ≡ true
-front-same w s h = rw (h .whole, take-at w (h .more) (length w) refl) (same-refl w)
-
-begins-pieces : (blanks label : List ℕ) (rest : List Token) → isEmpty label ≡ false → eqb (getD blanks 0 1) 0 ≡ true
-    → Begins label (writtenPieces (pieces blanks (optional label ++ rest)))
-unfolding writtenPieces pieces optional writtenToken
-begins-pieces [] label rest f e = absurd (true-false e refl)
-begins-pieces (n ∷ ns) [] rest f e = absurd (true-false refl f)
-begins-pieces (n ∷ ns) (x ∷ v) rest f e = record { more = writtenPieces (pieces ns rest); whole = rw (eqb-true n 0 e) }
-
-begins-label : (t : Typed) → isEmpty (t .line .label) ≡ false → indented t ≡ true → Begins (t .line .label) (writtenLine t)
-unfolding indented writtenLine tokens
-begins-label t f e =
-    let first = begins-pieces (t .blanks) (t .line .label)
-    (word (getD modeWords (t .line .mode) [])
-    ∷ (map paren (t .line .tests) ++ (thenWord (t .line) ++ (map paren (t .line .operations) ++ optional (t .line .goTo))))) f (rw f at e) in
-    record { more = first .more ++ 10 ∷ []; whole = rw (first .whole) (append-assoc (t .line .label) (first .more) (10 ∷ [])) }
-
-module _ (b : ℕ) (s w : List ℕ) where
-  label-first : (t : Typed) → readLine b s ≡ some t → t .line .label ≡ w → same (take (length w) s) w ≡ true
-  unfolding same
-  label-first t e is =
-      let reads = line-sound b s t e in
-      let indent = spacing b t (reads .typed) .indent in
-      by-test (λ x. isEmpty w ≡ x → same (take (length w) s) w ≡ true) (isEmpty w)
-      (λ _ z. rw (no-word w z))
-      (λ _ f. front-same w s
-      (subst (λ (v : List ℕ). Begins v s) is
-      (subst (λ (u : List ℕ). Begins (t .line .label) u) (reads .written) (begins-label t (ap isEmpty is ∙ f) indent)))) refl
-    where
-      no-word : (v : List ℕ) → isEmpty v ≡ true → v ≡ []
-      no-word [] z = refl
-      no-word (x ∷ v) z = absurd (true-false z refl)
-
-  declares-first : (o : Option Typed) → readLine b s ≡ o → declares (keptLines (o ∷ [])) w ≡ true → same (take (length w) s) w ≡ true
-  unfolding declares keptLines any
-  declares-first none e f = absurd (true-false f refl)
-  declares-first (some t) e f = label-first t e (sym (same-eq w (t .line .label) (sym (or-right b s w (same w (t .line .label))) ∙ f)))
-
-  pub declares-begins : same (take (length w) s) w ≡ false → false ≡ declares (keptLines (readLine b s ∷ [])) w
-  declares-begins e =
-      by-test (λ t. declares (keptLines (readLine b s ∷ [])) w ≡ t → false ≡ t) (declares (keptLines (readLine b s ∷ [])) w)
-      (λ _ is. absurd (true-false (declares-first (readLine b s) refl is) e)) (λ _ _. refl) refl
-
 -- whether the lines declare a label, one line after the other
 module _ (b : ℕ) (text w : List ℕ) where
   abbrev leftFrom : ℕ → List Line
@@ -204,7 +153,7 @@ module _ (b : ℕ) (text w : List ℕ) where
   unfolding linesIn
   sought-none = record { inside = omega arith; rest = refl }
 
-  declares-cons : (o : Option Typed) (ts : List (Option Typed))
+  pub declares-cons : (o : Option Typed) (ts : List (Option Typed))
       → declares (keptLines (o ∷ ts)) w ≡ (declares (keptLines (o ∷ [])) w || declares (keptLines ts) w)
   unfolding declares keptLines any
   declares-cons none ts = refl

@@ -2,15 +2,15 @@
 -- Assumes nothing.
 use Prim.Native.Nat.{ℕ, suc, _+_, _≤_, _<_}
 use mathlib.Core.Path.{_≡_}
-use mathlib.Core.Bool.{Bool, false, not, _&&_, cond}
+use mathlib.Core.Bool.{Bool, true, false, not, _&&_, cond}
 use mathlib.Core.List.{List, [], _∷_, _++_}
-use lib.Dec.{eqb, ltb}
+use lib.Dec.{eqb, leb, ltb}
 use lib.ListN.{length, take, drop, getD}
 use Rattle.character.specs.Character.{number}
-use Rattle.lines.specs.Words.{isEmpty, isLabel}
+use Rattle.lines.specs.Words.{isEmpty, all, isLabel}
 use Rattle.lines.specs.Grammar.{Line}
 use Rattle.lines.specs.Reading.{readLine}
-use Rattle.lines.specs.Program.{size, rowOf, rowCount, keptLines}
+use Rattle.lines.specs.Program.{size, rowOf, rowCount, keptLines, declares}
 use Rattle.lines.specs.Walking.{padded}
 use Rattle.faults.specs.declared.Noted.{Noted}
 use Rattle.faults.specs.Checking.{lineRead}
@@ -36,12 +36,36 @@ labelRow b text w = rowOf 1 (linesIn b text) w
 unfoldable pub knownBefore : List ℕ → List ℕ → ℕ → List ℕ → Bool
 knownBefore keys rows count w = not (eqb (knownRow keys rows w) 0) && ltb (knownRow keys rows w) count
 
--- a row that is found is the label's; a label without one has no row up to 800, and none at all where fewer than 800 are put by
+-- a row up to 800, 801 for any past it
+unfoldable pub capped : ℕ → ℕ
+capped r = cond (leb r 800) r 801
+
+-- a row that is found is the label's, as far as 800; a label without one has no row up to 800, and none at all where fewer than 800 are put by
 pub record Known (b : ℕ) (text keys rows : List ℕ) : Type 0 where
   pub room : length keys ≤ length rows
-  pub right : (w : List ℕ) → (knownRow keys rows w ≡ 0 → ⊥) → knownRow keys rows w ≡ labelRow b text w
+  pub right : (w : List ℕ) → (knownRow keys rows w ≡ 0 → ⊥) → capped (knownRow keys rows w) ≡ capped (labelRow b text w)
+  pub some : all (ltb 0) rows ≡ true
   pub near : (w : List ℕ) → isEmpty w ≡ false → knownRow keys rows w ≡ 0 → labelRow b text w ≤ 800 → labelRow b text w ≡ 0
   pub whole : length keys < 800 → (w : List ℕ) → isEmpty w ≡ false → knownRow keys rows w ≡ 0 → labelRow b text w ≡ 0
+
+-- numbers of labels that lines declare
+abbrev pub Found : ℕ → List ℕ → List ℕ → Type 0
+Found b text keys = (w : List ℕ) → isLabel w ≡ true → (j : ℕ) → j < length keys → getD keys j 0 ≡ keyOf w → declares (linesIn b text) w ≡ true
+
+-- the first m of some numbers, and then the first r of others
+abbrev pub Kept : ℕ → List ℕ → ℕ → List ℕ → ℕ → List ℕ → Type 0
+Kept b text m sought r after = Found b text (take m sought) → Found b text (take r after)
+
+pub record Moved (m : ℕ) (sought : List ℕ) (r : ℕ) (after : List ℕ) : Type 0 where
+  pub few : r ≤ suc m
+  pub long : length after ≡ length sought
+
+-- a word that lines declare unless it is empty, and a line of whose labels this holds
+abbrev pub Told : ℕ → List ℕ → List ℕ → Type 0
+Told b text w = isEmpty w ≡ false → (isLabel w ≡ true) × (declares (linesIn b text) w ≡ true)
+
+abbrev pub LineOf : ℕ → List ℕ → List ℕ → Type 0
+LineOf b text s = (w : List ℕ) → declares (keptLines (readLine b s ∷ [])) w ≡ true → declares (linesIn b text) w ≡ true
 
 -- what looking up a label asks for in a text without a refusal
 pub record Ready (b : ℕ) (text keys rows : List ℕ) : Type 0 where

@@ -9,7 +9,7 @@ ghost use Rattle.lines.specs.Reading.{split, readLine};
 ghost use Rattle.lines.specs.Program.{calledIn, badLabels, faultOf, rowCount, tooLong, refusalOf, program};
 ghost use Rattle.faults.specs.Checking.{parensIn, operationsAt, lineAt, Placed, lineRead};
 ghost use Rattle.lines.specs.Walking.{callsIn};
-ghost use Rattle.faults.specs.Names.{knownBefore, Known};
+ghost use Rattle.faults.specs.Names.{knownBefore, Known, Found};
 ghost use Rattle.faults.specs.Places.{linesIn, missing, closeOf, goesTo, linesBefore, sizeOf};
 use crate::Fault;
 use crate::Scan;
@@ -18,6 +18,7 @@ use crate::Verdict;
 use crate::labels;
 use crate::line;
 use crate::names;
+use crate::seeking;
 use lines::Spot;
 use lines::arguments;
 use lines::spots;
@@ -38,12 +39,16 @@ fn is_missing(b: u64, text: &[u8], keys: &[u64], rows: &[u64], label: &[u8]) -> 
 }
 
 // Whether an operation, by what stands inside it, calls a label that no line declares.
-fn calls_missing(b: u64, text: &[u8], keys: &[u64], rows: &[u64], s: &[u8]) -> bool
-    requires { ⌜ ((b ≤ 48) × Known b (now text) (now keys) (now rows)) × ((length (now s) + 1 < 2 ^ 64) × (isOperation b (split (now s)) ≡ true)) ⌝ }
+fn calls_missing(b: u64, text: &[u8], keys: &[u64], rows: &[u64], found: &[u64], s: &[u8]) -> bool
+    requires { ⌜ (((b ≤ 48) × Known b (now text) (now keys) (now rows)) × Found b (now text) (now found))
+        × ((length (now s) + 1 < 2 ^ 64) × (isOperation b (split (now s)) ≡ true)) ⌝ }
     ensures { λ r. ⌜ r ≡ any (missing b (now (text .entry))) (callsIn b (split (now (s .entry)))) ⌝ }
 {
     let n = arguments::call_at(s);
     if n == 0 {
+        return false;
+    }
+    if seeking::is_found(found, &s[n..]) {
         return false;
     }
     is_missing(b, text, keys, rows, &s[n..])
@@ -60,8 +65,41 @@ pub fn close_of(spot: Spot) -> usize
     }
 }
 
-// Whether one of the operations from a place of a line on calls a label that no line declares.
-pub fn misses_call(
+// Whether one of the operations from a place of a line on calls a label that no line declares; with room for labels that are found.
+fn misses_any(
+    b: u64,
+    text: &[u8],
+    keys: &[u64],
+    rows: &[u64],
+    s: &[u8],
+    at: usize,
+    count: usize,
+    found: &mut [u64],
+) -> bool
+    requires { ⌜ ((b ≤ 48) × Known b (now text) (now keys) (now rows)) × ((at ≤ length (now s))
+        × ((length (parensIn count (drop at (now s))) ≡ count)
+        × (all (isOperation b) (parensIn count (drop at (now s))) ≡ true))) ⌝ }
+    ensures { λ r. ⌜ r ≡ any (missing b (now (text .entry))) (calledIn b (parensIn count (drop at (now (s .entry))))) ⌝ }
+{
+    let mut left = count;
+    let mut place = at;
+    let mut n = 0;
+    while 0 < left {
+        let start = words::blanks_end(s, place);
+        let close = close_of(spots::token_at(s, start));
+        let from = start + 1;
+        n = seeking::renew(b, text, &s[start..], close - start, keys, rows, found, n);
+        if calls_missing(b, text, keys, rows, &found[0..n], &s[from..close]) {
+            return true;
+        }
+        place = close + 1;
+        left -= 1;
+    }
+    false
+}
+
+// The same, with that room.
+fn misses_call(
     b: u64,
     text: &[u8],
     keys: &[u64],
@@ -70,22 +108,16 @@ pub fn misses_call(
     at: usize,
     count: usize,
 ) -> bool
-    requires { ⌜ ((b ≤ 48) × Known b (now text) (now keys) (now rows)) × ((at ≤ length (now s)) × ((length (parensIn count (drop at (now s))) ≡ count) × (all (isOperation b) (parensIn count (drop at (now s))) ≡ true))) ⌝ }
+    requires { ⌜ ((b ≤ 48) × Known b (now text) (now keys) (now rows)) × ((at ≤ length (now s))
+        × ((length (parensIn count (drop at (now s))) ≡ count)
+        × (all (isOperation b) (parensIn count (drop at (now s))) ≡ true))) ⌝ }
     ensures { λ r. ⌜ r ≡ any (missing b (now (text .entry))) (calledIn b (parensIn count (drop at (now (s .entry))))) ⌝ }
 {
-    let mut left = count;
-    let mut place = at;
-    while 0 < left {
-        let start = words::blanks_end(s, place);
-        let close = close_of(spots::token_at(s, start));
-        let from = start + 1;
-        if calls_missing(b, text, keys, rows, &s[from..close]) {
-            return true;
-        }
-        place = close + 1;
-        left -= 1;
+    if count == 0 {
+        return false;
     }
-    false
+    let mut found = seeking::no_labels();
+    misses_any(b, text, keys, rows, s, at, count, &mut found)
 }
 
 // Whether a go-to is a label that no line declares.
@@ -133,8 +165,10 @@ fn is_mislabelled(
     count: u64,
     c: Scan,
 ) -> bool
-    requires { ⌜ (((b ≤ 48) × Known b (now text) (now keys) (now rows)) × (count ≤ 800)) × (Placed (now s) c × (all (isOperation b) (operationsAt (now s) c) ≡ true)) ⌝ }
-    ensures { λ r. ⌜ ((lines : ℕ) → count ≡ rowCount (linesBefore b (now (text .entry)) lines) → r ≡ badLabels b (linesIn b (now (text .entry))) (linesBefore b (now (text .entry)) lines) (lineAt (now (s .entry)) c)) ⌝ }
+    requires { ⌜ (((b ≤ 48) × Known b (now text) (now keys) (now rows)) × (count ≤ 800)) × (Placed (now s) c
+        × (all (isOperation b) (operationsAt (now s) c) ≡ true)) ⌝ }
+    ensures { λ r. ⌜ ((lines : ℕ) → count ≡ rowCount (linesBefore b (now (text .entry)) lines)
+        → r ≡ badLabels b (linesIn b (now (text .entry))) (linesBefore b (now (text .entry)) lines) (lineAt (now (s .entry)) c)) ⌝ }
 {
     let from = c.from;
     let end = c.label;
@@ -156,7 +190,9 @@ fn fault_of(
     lent: u64,
 ) -> Fault
     requires { ⌜ ((b ≤ 48) × Known b (now text) (now keys) (now rows)) × (count ≤ 800) ⌝ }
-    ensures { λ r. ⌜ ((lines : ℕ) → count ≡ rowCount (linesBefore b (now (text .entry)) lines) → r .number ≡ faultOf b lent (linesIn b (now (text .entry))) (linesBefore b (now (text .entry)) lines) (readLine b (now (s .entry)))) × (r .size ≡ sizeOf (lineRead (readLine b (now (s .entry))))) ⌝ }
+    ensures { λ r. ⌜ ((lines : ℕ) → count ≡ rowCount (linesBefore b (now (text .entry)) lines)
+        → r .number ≡ faultOf b lent (linesIn b (now (text .entry))) (linesBefore b (now (text .entry)) lines) (readLine b (now
+        (s .entry)))) × (r .size ≡ sizeOf (lineRead (readLine b (now (s .entry))))) ⌝ }
 {
     let scanned = line::scan(b, s);
     let Scanned::Good(c) = scanned else {
@@ -178,7 +214,8 @@ fn fault_of(
 // The refusal of a text and its line, 0 where there is none, and then the row count.
 pub fn judge(b: u64, text: &[u8], keys: &[u64], rows: &[u64], lent: u64) -> Verdict
     requires { ⌜ (b ≤ 48) × Known b (now text) (now keys) (now rows) ⌝ }
-    ensures { λ r. ⌜ (record { number = r .number; line = r .line } ≡ refusalOf b lent (now (text .entry))) × (r .number ≡ 0 → r .count ≡ rowCount (program b (now (text .entry)))) ⌝ }
+    ensures { λ r. ⌜ (record { number = r .number; line = r .line } ≡ refusalOf b lent (now (text .entry))) × (r .number ≡ 0
+        → r .count ≡ rowCount (program b (now (text .entry)))) ⌝ }
 {
     if text.len() == 0 {
         return Verdict {

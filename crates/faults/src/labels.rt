@@ -30,9 +30,6 @@ fn declares_it(b: u64, s: &[u8], label: &[u8]) -> bool
     requires { ⌜ b ≤ 48 ⌝ }
     ensures { λ r. ⌜ r ≡ declares (keptLines (readLine b (now (s .entry)) ∷ [])) (now (label .entry)) ⌝ }
 {
-    if !words::begins(s, label) {
-        return false;
-    }
     let scanned = line::scan(b, s);
     let Scanned::Good(c) = scanned else {
         return false;

@@ -80,7 +80,8 @@ fn note(keys: &mut [u64], rows: &mut [u64], n: usize, w: &[u8], row: u64) -> usi
 // The label of a line put after the first n, and the line's rows.
 fn note_line(b: u64, s: &[u8], n: usize, before: u64, keys: &mut [u64], rows: &mut [u64]) -> Noted
     requires { ⌜ (b ≤ 48) × ((before + 1 < 2 ^ 64) × ((n < length (now keys)) × (n < length (now rows)))) ⌝ }
-    ensures { λ r. ⌜ PutLine b (now (s .entry)) n before (now (keys .entry)) (now (rows .entry)) (now (keys .exit)) (now (rows .exit)) r ⌝ }
+    ensures { λ r. ⌜ PutLine b (now (s .entry)) n before (now (keys .entry)) (now (rows .entry)) (now (keys .exit)) (now
+        (rows .exit)) r ⌝ }
 {
     let scanned = line::scan(b, s);
     let Scanned::Good(c) = scanned else {
@@ -93,16 +94,17 @@ fn note_line(b: u64, s: &[u8], n: usize, before: u64, keys: &mut [u64], rows: &m
     Noted { count, size }
 }
 
-// The labels of a text's lines, as many as there is room for: how many.
+// The labels of a text's lines, the first 800: how many.
 pub fn collect(b: u64, text: &[u8], keys: &mut [u64], rows: &mut [u64]) -> usize
     requires { ⌜ (b ≤ 48) × ((800 ≤ length (now keys)) × (length (now keys) ≡ length (now rows))) ⌝ }
-    ensures { λ r. ⌜ (r ≤ length (now (keys .exit))) × ((r ≤ length (now (rows .exit))) × Known b (now (text .entry)) (take r (now (keys .exit))) (take r (now (rows .exit)))) ⌝ }
+    ensures { λ r. ⌜ (r ≤ length (now (keys .exit))) × ((r ≤ length (now (rows .exit)))
+        × Known b (now (text .entry)) (take r (now (keys .exit))) (take r (now (rows .exit)))) ⌝ }
 {
     let mut from = 0;
     let mut n = 0;
     let mut before: u64 = 0;
     while from < text.len() {
-        if keys.len() <= n {
+        if 800 <= n {
             return n;
         }
         let to = labels::line_end(text, from);

@@ -10,7 +10,7 @@ pub mod values;
 pub mod writing;
 
 use faults::judging::judge;
-use faults::names::collect;
+use faults::seeking::learn;
 use lines::Read;
 use writing::put_text;
 
@@ -36,8 +36,8 @@ fn refuse(number: u64, line: u64) -> Read
 }
 
 // Room for the labels of a text.
-fn no_labels() -> [u64; 800] {
-    [0; 800]
+fn no_labels() -> [u64; 1600] {
+    [0; 1600]
 }
 
 // Reads a text whose labels are put by.
@@ -59,7 +59,7 @@ fn read_with(b: u64, text: &[u8], keys: &mut [u64], rows: &mut [u64], table: &mu
     requires { ⌜ (b ≤ 48) × ((800 ≤ length (now keys)) × (length (now keys) ≡ length (now rows))) ⌝ }
     ensures { λ r. ⌜ record { answer = r; table = now (table .exit) } ≡ reading b (now (text .entry)) (now (table .entry)) ⌝ }
 {
-    let n = collect(b, text, keys, rows);
+    let n = learn(b, text, keys, rows);
     read_known(b, text, &keys[0..n], &rows[0..n], table)
 }
 

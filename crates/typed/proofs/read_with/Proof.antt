@@ -10,8 +10,8 @@ use borrow.Author.Needs.{needs}
 use Rattle.typed.proofs.read_with.Statement.{statement}
 use Rattle.typed.proofs.read_with.Tie as tie
 
-collect-requires : tie.Need-collect-requires
-collect-requires c κs = search needs
+learn-requires : tie.Need-learn-requires
+learn-requires c κs = search needs
 
 sub-read-known : tie.Need-sub-read-known
 sub-read-known c = search needs
@@ -33,9 +33,9 @@ part-read-known-end-2 c = search needs
 
 read-known-requires : tie.Need-read-known-requires
 read-known-requires c κs =
-    let at-collect = c .before .before .before .before .before .before .before .before .before in
-    let entry = at-collect .before .before .before .before .before .before .before in
-    (entry .pre .0, known-parts (entry .args .b) (entry .args .text .now) (at-collect .collect .result) _ _ (at-collect .collect .ensures .1 .1))
+    let at-learn = c .before .before .before .before .before .before .before .before .before in
+    let entry = at-learn .before .before .before .before .before .before .before in
+    (entry .pre .0, known-parts (entry .args .b) (entry .args .text .now) (at-learn .learn .result) _ _ (at-learn .learn .ensures .1 .1))
 
 same-length : tie.Need-same-length
 same-length c = search needs
@@ -53,7 +53,7 @@ pub read-with-spec : {M : Type 1} → statement M
 read-with-spec =
     tie.close
     (tie.spec
-    collect-requires
+    learn-requires
     sub-read-known
     part-read-known-start
     part-read-known-end

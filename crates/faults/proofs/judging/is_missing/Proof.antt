@@ -8,6 +8,7 @@ use Rattle.word.proofs.Tests.{and-true}
 use lib.Dec.{ltb}
 use lib.ListN.{length}
 use Rattle.faults.specs.Places.{missing}
+use Rattle.faults.specs.Names.{capped}
 use Rattle.faults.proofs.Using.{filled-word}
 use Rattle.faults.proofs.Telling.{known-there, known-nowhere}
 use borrow.Author.Needs.{needs}
@@ -22,7 +23,7 @@ returns c =
     let at-known-row = c .before in
     let entry = at-known-row .before .before .before .before .before in
     known-there (entry .args .b) (entry .args .text .now) (entry .args .label .now) (at-known-row .known-row .result) (c .if1 .taken)
-    (at-known-row .known-row .ensures ∙ entry .pre .1 .right (entry .args .label .now) (λ e. c .if1 .taken (at-known-row .known-row .ensures ∙ e)))
+    (ap capped (at-known-row .known-row .ensures) ∙ entry .pre .1 .right (entry .args .label .now) (λ e. c .if1 .taken (at-known-row .known-row .ensures ∙ e)))
 
 returns-2 : tie.Need-returns-2
 returns-2 c =
