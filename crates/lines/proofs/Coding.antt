@@ -121,6 +121,19 @@ pub operations-count : length (formsOf false) ≡ 58
 unfolding formsOf operationForms
 operations-count = refl
 
+-- the numbers of all forms: eight for each
+pub coded-length : (fs : List Form) → length (coded fs) ≡ 8 * length fs
+unfolding coded
+coded-length [] = refl
+coded-length (f ∷ fs) =
+    let later = coded-length fs in
+    let size = length-eight f in
+    ap length (coded-eight f fs) ∙ length-append (eight f) (coded fs) ∙ omega arith
+
+pub number-there : (tests : Bool) {table : List ℕ} → table ≡ coded (formsOf tests) → (n k : ℕ) → n < length (formsOf tests) → k < 8
+    → 8 * n + k < length table
+number-there tests {table} e n k h l = let long = ap length e ∙ coded-length (formsOf tests) in omega arith
+
 -- arguments compared with the numbers of kinds, one after the other
 no-more : (b : ℕ) (s : List ℕ) (at : ℕ) → ltb (length s) at ≡ areKinds b [] (partsFrom s at)
 unfolding areKinds

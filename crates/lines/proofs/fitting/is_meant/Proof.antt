@@ -1,21 +1,23 @@
 -- `lines::fitting::is_meant` meets its contract. Assumes nothing.
 use native.Mathlib.Omega.{arith}
-use mathlib.Core.Path.{_≡_, sym, ap, _∙_}
+use mathlib.Core.Path.{sym, ap, _∙_}
 use mathlib.Core.List.{List}
-use Prim.Native.Nat.{ℕ}
+use Prim.Native.Nat.{ℕ, _+_, _*_}
 use borrow.Author.Tests.{not-true}
-use lib.ListN.{length, getD}
+use lib.ListN.{getD}
 use Rattle.lines.specs.Words.{isKind}
 use Rattle.lines.specs.Forms.{noForm}
 use Rattle.lines.specs.Walking.{formsOf, kindOf}
-use Rattle.lines.proofs.Coding.{kindNumbers, kind-at, of-kind}
+use Rattle.lines.proofs.Coding.{kindNumbers, kind-at, of-kind, number-there}
 use Rattle.lines.proofs.Meant.{not-meant}
 use borrow.Author.Needs.{needs}
 use Rattle.lines.proofs.fitting.is_meant.Statement.{statement}
 use Rattle.lines.proofs.fitting.is_meant.Tie as tie
 
-form-number-requires : tie.Need-form-number-requires
-form-number-requires c κs = (c .before .before .pre .0 .1 .0, omega arith)
+number-in-requires : tie.Need-number-in-requires
+number-in-requires c κs =
+    let entry = c .before .before .before in
+    number-there (entry .args .tests) (entry .pre .0 .0) (entry .args .form) 2 (entry .pre .0 .1 .1 .0) (omega arith)
 
 is-kind-requires : tie.Need-is-kind-requires
 is-kind-requires c κs = search needs
@@ -23,15 +25,20 @@ is-kind-requires c κs = search needs
 returns : tie.Need-returns
 returns c =
     let at-is-kind = c .before in
-    let at-form-number = at-is-kind .before in
-    let entry = at-form-number .before .before .before in
-    not-meant (entry .args .b) (entry .args .tests) (entry .args .form) _ (entry .pre .0 .1 .0) (entry .pre .1 .0)
-    (ap (isKind (entry .args .b) (kindOf (getD (kindNumbers (getD (formsOf (entry .args .tests)) (entry .args .form) noForm)) 1 0))) (entry .pre .1 .1)
-    ∙ of-kind (entry .args .b) (entry .args .second .now) (sym (at-form-number .form-number .ensures ∙ kind-at (formsOf (entry .args .tests)) (entry .args .form) 1 (entry .pre .0 .1 .0) (omega arith)))
+    let at-number-in = at-is-kind .before in
+    let entry = at-number-in .before .before .before .before in
+    not-meant (entry .args .b) (entry .args .tests) (entry .args .form) _ (entry .pre .0 .1 .1 .0) (entry .pre .1 .0)
+    (ap (isKind (entry .args .b) (kindOf (getD (kindNumbers (getD (formsOf (entry .args .tests)) (entry .args .form) noForm)) 1 0)))
+    (entry .pre .1 .1)
+    ∙ of-kind (entry .args .b) (entry .args .second .now) (sym (at-number-in .number-in .ensures ∙ ap (λ (t : List ℕ). getD t
+    (8 * entry .args .form + 2) 0) (entry .pre .0 .0) ∙ kind-at (formsOf (entry .args .tests)) (entry .args .form) 1 (entry .pre .0 .1 .1 .0)
+    (omega arith)))
     ∙ sym (at-is-kind .is-kind .ensures) ∙ not-true _ (c .if1 .taken))
 
 is-form-requires : tie.Need-is-form-requires
-is-form-requires c κs = c .before .before .before .before .before .pre .0
+is-form-requires c κs =
+    let entry = c .before .before .before .before .before .before in
+    entry .pre .0
 
 returns-2 : tie.Need-returns-2
 returns-2 c = c .is-form .ensures
@@ -40,7 +47,7 @@ pub is-meant-spec : {M : Type 1} → statement M
 is-meant-spec =
     tie.close
     (tie.spec
-    form-number-requires
+    number-in-requires
     is-kind-requires
     returns
     is-form-requires
