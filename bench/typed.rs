@@ -20,11 +20,23 @@ fn calls(count: usize) -> String {
     let lines: String = (0..count).map(|i| format!("L{i} THEN DONE\n")).collect();
     format!(" THEN {calls}\n{lines}")
 }
-/// One line of DOs of A, 800 other labels, a broken line that begins like a declaration of A, and this declaration. Half of it are DOs.
-fn broken(bytes: usize) -> String {
-    let half = bytes / 2;
-    let others: String = (0..800).map(|i| format!("L{i} THEN DONE\n")).collect();
-    format!(" THEN {}\n{others}A THEN {}.\nA THEN DONE\n", "(DO,A)".repeat(half / 6), "(W,CH,ZZZZZZ)".repeat(half / 13))
+/// Three capital letters and digits, another word for each number.
+fn label(i: usize) -> String { [i / 1296, i / 36, i].iter().map(|n| char::from_digit((n % 36) as u32, 36).unwrap().to_ascii_uppercase()).collect() }
+/// So many lines, each with a label of four, that none of the others below declares.
+fn others(count: usize) -> String { (0..count).map(|i| format!("X{} THEN A\n", label(i % 40_000))).collect() }
+/// A megabyte: one line of DOs of so many labels, other lines, and the lines that declare these, the first label last.
+fn late(count: usize) -> String {
+    let calls: String = (0..count).map(|i| format!("(DO,{})", label(i))).collect();
+    let lines: String = (0..count).rev().map(|i| format!("{} THEN A\n", label(i))).collect();
+    format!(" THEN {calls}\n{}{lines}", others((1_000_000 - calls.len() - lines.len()) / 12))
+}
+/// A megabyte: one line of DOs of so many labels in turn, 800 others, long broken lines that begin like declarations of these, and the
+/// declarations. Half of it are DOs.
+fn broken(labels: usize) -> String {
+    let calls: String = (0..62_500).map(|i| format!("(DO,{})", label(i % labels))).collect();
+    let lines: String = (0..1_000).map(|i| format!("{} THEN {}.\n", label(i % labels), "(A,CH,B)".repeat(60))).collect();
+    let declared: String = (0..labels).map(|i| format!("{} THEN A\n", label(i))).collect();
+    format!(" THEN {calls}\n{}{lines}{declared}", others(800))
 }
 
 /// The least time of some calls, of one where it takes longer than a second.
@@ -49,8 +61,9 @@ fn main() {
         ("a megabyte: one line of operations of the last form", operations(80_000)),
         ("a megabyte: lines with a label and a go-to", labelled(64_000, false)),
         ("a megabyte: one line of DOs, each of another label", calls(37_000)),
-        ("one line of DOs of A, and a long broken line that begins like A's", broken(8_000)),
-        ("twice as much of both", broken(16_000)),
+        ("a megabyte: one line of DOs of one label, and broken lines that begin like its own", broken(1)),
+        ("a megabyte: one line of DOs of 801 labels in turn, and broken lines that begin like theirs", broken(801)),
+        ("a megabyte: one line of DOs of 25,000 labels, declared in the other order after 43,750 other lines", late(25_000)),
     ];
     for (name, text) in texts {
         let (bytes, mut table) = (text.as_bytes(), vec![77; 8000]);
