@@ -1,6 +1,7 @@
 //! The proved engine through libplayer.a, in a folder with tour.tab and stops.in: what the program laps does and prints.
-//!   boundary run LIMIT CALLS   so many calls of run, one where CALLS is left out
-//!   boundary step CALLS        so many calls of step
+//!   boundary run LIMIT CALLS WIDTH   so many calls of run, one where CALLS is left out
+//!   boundary step CALLS WIDTH        so many calls of step
+//! Words have WIDTH bits, 36 where it is left out.
 #[path = "../host/l6.rs"]
 mod l6;
 
@@ -29,8 +30,9 @@ fn main() {
     let (table, input): (Vec<u64>, Vec<u8>) = (numbers(&load("tour.tab")).collect(), load("stops.in"));
     let (mut storage, mut output) = ([0; 4096], [0; 4096]);
     let mut lent = Lent { table: &table, storage: &mut storage, input: &input, output: &mut output };
-    let (mut state, mut answer, mut count, mut sum) = (State::fresh(), Answer::Running, 0, 1);
     let steps = arguments.first().is_some_and(|mode| mode == "step");
+    let width = number(if steps { 2 } else { 3 }, 36);
+    let (mut state, mut answer, mut count, mut sum) = (State::fresh(width).unwrap(), Answer::Running, 0, 1);
     let limit = number(1, 0);
     let mut left = if steps { limit } else { number(2, 1) };
     while left > 0 && answer == Answer::Running {
@@ -43,7 +45,7 @@ fn main() {
         }
         left -= 1;
     }
-    let told = match answer { Answer::Running => 0, Answer::Finished => 22, Answer::Refused(refusal) => refusal.number() };
+    let told = match answer { Answer::Running => 0, Answer::Finished => 100, Answer::Refused(refusal) => refusal.number() };
     let sum = numbers(&state.bytes()[51..259]).chain(storage).fold(sum, fold);
     println!("{told} {count} {sum}");
 }

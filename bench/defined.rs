@@ -90,7 +90,7 @@ fn main() {
         ("a shared chain of 100 restores", slow(100, 35)),
     ];
     for (name, table) in tables {
-        let time = least(|| assert_eq!(l6::defined(&table), Ok(())));
+        let time = least(|| assert_eq!(l6::defined(36, &table), Ok(())));
         println!("| {name} | {} | {} | {time:.4} |", table.len() / 10, visits(&table));
     }
 }

@@ -1,15 +1,15 @@
 //! An engine for L6 tours (document 01) written for speed in plain safe Rust: one state that is changed in place, with the
 //! same calls, checks, order of refusals and addresses as the proved engine. `make bench` times the two beside each other.
+//! What a call does is compiled for each width of words B, 36 and 48; the state's width chooses once a call.
 
 pub type Row = [u64; 10]; // kind, next, code, name, then three pairs
 type Checked<T> = Result<T, Refusal>;
 
-const WORD: u64 = (1 << 36) - 1;
 const BLANK: u64 = 0o60;
-const BLANKS: u64 = 0o606060606060;
+const BLANKS: u64 = 0o6060606060606060;
 const DONE: u64 = 65535;
 
-/// Document 01's refusals, by their numbers.
+/// Document 01's refusals, and 31 of ticket 9, by their numbers.
 #[derive(Clone, Copy, PartialEq)]
 pub enum Refusal {
     TableLength = 1,
@@ -34,6 +34,7 @@ pub enum Refusal {
     StackEmpty,
     OutputFull,
     SubtrahendGreater,
+    NoWidth = 31,
 }
 use Refusal::*;
 
@@ -77,6 +78,7 @@ pub struct Stack<T> {
 /// the block is free and 2k + 2 if it is live, otherwise zero.
 #[derive(Clone)]
 pub struct State {
+    pub width: u8,
     pub place: Place,
     pub bugs: [u64; 26],
     pub fields: [Option<Field>; 36],
@@ -126,11 +128,11 @@ impl Field {
     fn width(self) -> u32 {
         (u32::from(self.right) + 1).saturating_sub(u32::from(self.left))
     }
-    fn shift(self) -> u32 {
-        35 - u32::from(self.right)
+    fn shift<const B: u32>(self) -> u32 {
+        B - 1 - u32::from(self.right)
     }
-    fn of(self, word: u64) -> u64 {
-        word >> self.shift() & ones(self.width())
+    fn of<const B: u32>(self, word: u64) -> u64 {
+        word >> self.shift::<B>() & ones(self.width())
     }
 }
 
@@ -210,10 +212,10 @@ fn operands(code: u64) -> [Operand; 3] {
     }
 }
 
-fn is_operand(form: u64, value: u64, wanted: Operand, rows: u64) -> bool {
+fn is_operand<const B: u32>(form: u64, value: u64, wanted: Operand, rows: u64) -> bool {
     match (wanted, form) {
         (Absent | MaybeReference, 0) => value == 0,
-        (Literal | Either, 1) => value <= WORD,
+        (Literal | Either, 1) => value <= ones(B),
         (ReferenceOrZero, 1) => value == 0,
         (Row, 1) => (1..rows).contains(&value),
         (Reference | Either | MaybeReference | ReferenceOrZero, 2) => is_reference(value),
@@ -221,10 +223,10 @@ fn is_operand(form: u64, value: u64, wanted: Operand, rows: u64) -> bool {
     }
 }
 
-fn are_operands(row: &Row, wanted: [Operand; 3], rows: u64) -> bool {
-    is_operand(row[4], row[5], wanted[0], rows)
-        && is_operand(row[6], row[7], wanted[1], rows)
-        && is_operand(row[8], row[9], wanted[2], rows)
+fn are_operands<const B: u32>(row: &Row, wanted: [Operand; 3], rows: u64) -> bool {
+    is_operand::<B>(row[4], row[5], wanted[0], rows)
+        && is_operand::<B>(row[6], row[7], wanted[1], rows)
+        && is_operand::<B>(row[8], row[9], wanted[2], rows)
 }
 
 fn is_line(row: &Row, rows: u64) -> bool {
@@ -239,39 +241,40 @@ fn is_line(row: &Row, rows: u64) -> bool {
         && (operation != 0 || goto != 0)
 }
 
-fn is_well_formed(row: &Row, number: u64, rows: u64) -> bool {
+fn is_well_formed<const B: u32>(row: &Row, number: u64, rows: u64) -> bool {
     let [kind, next, code, name, ..] = *row;
     if next != 0 && !(number + 1..rows).contains(&next) {
         return false;
     }
     match kind {
         1 => is_line(row, rows),
-        2 => (1..=7).contains(&code) && name == 0 && are_operands(row, [Reference, Either, Absent], rows),
+        2 => (1..=7).contains(&code) && name == 0 && are_operands::<B>(row, [Reference, Either, Absent], rows),
         3 => {
             let highest = if matches!(code, 2 | 34 | 35) { 35 } else { 0 };
-            (1..=36).contains(&code) && name <= highest && are_operands(row, operands(code), rows)
+            (1..=36).contains(&code) && name <= highest && are_operands::<B>(row, operands(code), rows)
         }
         _ => false,
     }
 }
 
-fn is_table(rows: &[Row]) -> bool {
-    rows.iter().enumerate().skip(1).all(|(number, row)| is_well_formed(row, number as u64, rows.len() as u64))
+fn is_table<const B: u32>(rows: &[Row]) -> bool {
+    rows.iter().enumerate().skip(1).all(|(number, row)| is_well_formed::<B>(row, number as u64, rows.len() as u64))
 }
 
 // ---------------------------------------------------------------- soundness
 
-fn are_words(words: &[u64]) -> bool {
-    words.iter().fold(0, |all, word| all | word) <= WORD
+fn are_words<const B: u32>(words: &[u64]) -> bool {
+    words.iter().fold(0, |all, word| all | word) <= ones(B)
 }
 fn are_zero(bytes: &[u8]) -> bool {
     bytes.iter().fold(0, |all, byte| all | byte) == 0
 }
+#[inline(always)]
 fn sum(bytes: &[u8]) -> u64 {
     bytes.chunks(256).map(|part| u64::from(part.iter().map(|&byte| u16::from(byte)).sum::<u16>())).sum()
 }
-fn is_field(field: &Option<Field>) -> bool {
-    field.is_none_or(|f| f.word <= 127 && f.left <= 35 && f.right <= 35)
+fn is_field<const B: u32>(field: &Option<Field>) -> bool {
+    field.is_none_or(|f| f.word <= 127 && u32::from(f.left) < B && u32::from(f.right) < B)
 }
 fn is_place(place: &Place) -> bool {
     let named = |row: u16| (1..=799).contains(&row);
@@ -284,24 +287,25 @@ fn is_place(place: &Place) -> bool {
 
 impl State {
     /// Refusal 11.
-    fn is_sound(&self, lent: &Lent) -> bool {
-        are_words(&self.bugs)
-            && self.fields.iter().all(is_field)
+    fn is_sound<const B: u32>(&self, lent: &Lent) -> bool {
+        are_words::<B>(&self.bugs)
+            && self.fields.iter().all(is_field::<B>)
             && (self.place == Place::Finished || is_place(&self.place))
-            && self.contents.used().is_some_and(are_words)
-            && self.saved.used().is_some_and(|saved| saved.iter().all(is_field))
+            && self.contents.used().is_some_and(are_words::<B>)
+            && self.saved.used().is_some_and(|saved| saved.iter().all(is_field::<B>))
             && self.calls.used().is_some_and(|calls| calls.iter().all(is_place))
-            && self.is_storage_sound(lent.storage)
+            && self.is_storage_sound::<B>(lent.storage)
             && self.taken <= lent.input.len()
             && self.written <= lent.output.len()
     }
-    fn is_storage_sound(&self, storage: &[u64]) -> bool {
+    fn is_storage_sound<const B: u32>(&self, storage: &[u64]) -> bool {
         let Some(SetUp { d, s1, s2 }) = self.setup else { return are_zero(&self.map) };
         let Some(setup) = SetUp::new(d.into(), s1.into(), s2.into(), storage.len()) else { return false };
-        self.tags(setup) == Some(sum(&self.map)) && are_words(&storage[..setup.words()])
+        self.tags(setup) == Some(sum(&self.map)) && are_words::<B>(&storage[..setup.words()])
     }
     /// The sum of the tags of blocks of up to d words that tile the words, each on a place that its size divides, no two free halves
     /// standing separately. It is the sum of the whole map exactly where every other byte is zero.
+    #[inline(always)]
     fn tags(&self, setup: SetUp) -> Option<u64> {
         let (largest, map) = (free_tag(u32::from(setup.d).ilog2()), &self.map[..setup.words()]);
         let (mut i, mut tags) = (0, 0);
@@ -394,9 +398,9 @@ fn blanks_to_zeros(value: u64, width: u32) -> u64 {
     value & ones(left)
 }
 /// 27, 28.
-fn to_binary(value: u64, base: u64) -> Checked<u64> {
+fn to_binary<const B: u32>(value: u64, base: u64) -> Checked<u64> {
     let mut number = 0;
-    for place in (0..6).rev() {
+    for place in (0..B / 6).rev() {
         let digit = value >> (6 * place) & 63;
         if digit >= base {
             return Err(NotADigit);
@@ -405,24 +409,25 @@ fn to_binary(value: u64, base: u64) -> Checked<u64> {
     }
     Ok(number)
 }
-/// 29: the last six digits.
-fn to_decimal(value: u64) -> u64 {
+/// 29: the last six digits, of words of 48 bits the last eight.
+fn to_decimal<const B: u32>(value: u64) -> u64 {
     let six = (value % 1_000_000) as usize;
-    u64::from(TRIPLES[six / 1000]) << 18 | u64::from(TRIPLES[six % 1000])
+    let low = u64::from(TRIPLES[six / 1000]) << 18 | u64::from(TRIPLES[six % 1000]);
+    if B == 36 { low } else { u64::from(TRIPLES[(value / 1_000_000 % 100) as usize]) << 36 | low }
 }
-/// 30: 18 bits.
-fn to_octal(value: u64) -> u64 {
-    (0..6).fold(0, |all, place| all | (value >> (3 * place) & 7) << (6 * place))
+/// 30: a digit of three bits for each character.
+fn to_octal<const B: u32>(value: u64) -> u64 {
+    (0..B / 6).fold(0, |all, place| all | (value >> (3 * place) & 7) << (6 * place))
 }
-/// 31: leading zeros of six characters become blanks.
-fn zeros_to_blanks(value: u64) -> u64 {
+/// 31: leading zeros of a word's characters become blanks.
+fn zeros_to_blanks<const B: u32>(value: u64) -> u64 {
     let used = (64 - value.leading_zeros()).next_multiple_of(6);
-    value | BLANKS & !ones(used)
+    value | BLANKS & ones(B) & !ones(used)
 }
 
 /// The value that an operation stores in a; x and y are the contents of a and of the other operand.
 #[inline(always)]
-fn compute(code: u64, x: u64, x_width: u32, y: u64, y_width: u32) -> Checked<u64> {
+fn compute<const B: u32>(code: u64, x: u64, x_width: u32, y: u64, y_width: u32) -> Checked<u64> {
     let value = match code {
         6 => y,
         8 => x.wrapping_add(y),
@@ -447,13 +452,13 @@ fn compute(code: u64, x: u64, x_width: u32, y: u64, y_width: u32) -> Checked<u64
         23 if y < x_width.into() => x >> y,
         22 | 23 => 0,
         26 => blanks_to_zeros(y, y_width),
-        27 => to_binary(y, 10)?,
-        28 => to_binary(y, 8)?,
-        29 => to_decimal(y),
-        30 => to_octal(y),
-        _ => zeros_to_blanks(y),
+        27 => to_binary::<B>(y, 10)?,
+        28 => to_binary::<B>(y, 8)?,
+        29 => to_decimal::<B>(y),
+        30 => to_octal::<B>(y),
+        _ => zeros_to_blanks::<B>(y),
     };
-    Ok(value & WORD)
+    Ok(value & ones(B))
 }
 /// The place of the leftmost one from the left of a field, or the width.
 fn leftmost_one(value: u64, width: u32) -> u64 {
@@ -484,15 +489,15 @@ enum Spot {
 }
 
 impl Spot {
-    fn width(self) -> u32 {
+    fn width<const B: u32>(self) -> u32 {
         match self {
-            Spot::Bug(_) => 36,
+            Spot::Bug(_) => B,
             Spot::Word(_, field) => field.width(),
         }
     }
 }
 
-struct Walk<'a> {
+struct Walk<'a, const B: u32> {
     state: &'a mut State,
     rows: &'a [Row],
     storage: &'a mut [u64],
@@ -502,12 +507,12 @@ struct Walk<'a> {
     report: Report,
 }
 
-impl<'a> Walk<'a> {
+impl<'a, const B: u32> Walk<'a, B> {
     /// 2: row missing, ill-formed or of another kind.
     #[inline(always)]
     fn row(&self, number: u64, kind: u64) -> Checked<&'a Row> {
         let row = self.rows.get(number as usize).ok_or(BadRow)?;
-        let usable = row[0] == kind && (self.judged || is_well_formed(row, number, self.rows.len() as u64));
+        let usable = row[0] == kind && (self.judged || is_well_formed::<B>(row, number, self.rows.len() as u64));
         if usable { Ok(row) } else { Err(BadRow) }
     }
 
@@ -539,7 +544,7 @@ impl<'a> Walk<'a> {
             }
             let at = start + usize::from(field.word);
             spot = Spot::Word(at, field);
-            pointer = if new == Some(start) { 0 } else { field.of(self.storage[at]) };
+            pointer = if new == Some(start) { 0 } else { field.of::<B>(self.storage[at]) };
         }
         Ok(spot)
     }
@@ -554,17 +559,17 @@ impl<'a> Walk<'a> {
     fn read(&self, spot: Spot) -> u64 {
         match spot {
             Spot::Bug(bug) => self.state.bugs[bug],
-            Spot::Word(at, field) => field.of(self.storage[at]),
+            Spot::Word(at, field) => field.of::<B>(self.storage[at]),
         }
     }
     /// An operand's contents and width.
     #[inline(always)]
     fn operand(&self, form: u64, value: u64) -> Checked<(u64, u32)> {
         if form != 2 {
-            return Ok((value, 36));
+            return Ok((value, B));
         }
         let spot = self.locate(value)?;
-        Ok((self.read(spot), spot.width()))
+        Ok((self.read(spot), spot.width::<B>()))
     }
     /// Stores the rightmost bits that fit, and gives what is to be reported.
     #[inline(always)]
@@ -575,7 +580,7 @@ impl<'a> Walk<'a> {
                 let fits = ones(field.width());
                 let bits = value & fits;
                 let word = &mut self.storage[at];
-                *word = *word & !(fits << field.shift()) | bits << field.shift();
+                *word = *word & !(fits << field.shift::<B>()) | bits << field.shift::<B>();
                 let address = at as u64 + self.state.setup.map_or(0, |setup| setup.s1.into());
                 return Store { address, left: field.left, right: field.right, bits };
             }
@@ -663,7 +668,7 @@ impl<'a> Walk<'a> {
             5 => self.duplicate(setup, a, y),
             24 => self.take_input(a, y),
             _ => {
-                let value = compute(code, self.read(a), a.width(), y, y_width)?;
+                let value = compute::<B>(code, self.read(a), a.width::<B>(), y, y_width)?;
                 self.report.first = self.store(a, value);
                 Ok(())
             }
@@ -685,7 +690,7 @@ impl<'a> Walk<'a> {
         let (word, _) = self.operand(row[4], row[5])?;
         let (left, _) = self.operand(row[6], row[7])?;
         let (right, _) = self.operand(row[8], row[9])?;
-        if word > 127 || left > 35 || right > 35 {
+        if word > 127 || left >= B.into() || right >= B.into() {
             return Err(DefinitionNumber);
         }
         let field = Field { word: word as u8, left: left as u8, right: right as u8 };
@@ -758,7 +763,7 @@ impl<'a> Walk<'a> {
     }
     /// 24: refusals 10, 5, 4.
     fn take_input(&mut self, a: Spot, count: u64) -> Checked<()> {
-        if count > 6 {
+        if count > (B / 6).into() {
             return Err(CharacterCount);
         }
         if self.input.is_empty() {
@@ -816,8 +821,9 @@ fn next_line(next: u64) -> Place {
 
 impl State {
     /// At the tests of row 1, nothing set up, defined, saved, taken or written.
-    pub fn fresh() -> State {
+    pub fn fresh(width: u8) -> State {
         State {
+            width,
             place: Place::Tests(1),
             bugs: [0; 26],
             fields: [None; 36],
@@ -842,10 +848,18 @@ impl State {
         let (answer, _, count) = self.walk(lent, limit);
         (answer, count)
     }
-    /// Refusal 11, a finish and refusal 1 are judged once; the whole table too where there are steps enough.
+    /// The width is judged once, refusal 31.
     fn walk(&mut self, lent: &mut Lent, limit: u64) -> (Answer, Report, u64) {
+        match self.width {
+            36 => self.walk_words::<36>(lent, limit),
+            48 => self.walk_words::<48>(lent, limit),
+            _ => (Answer::Refused(NoWidth), Report::default(), 1),
+        }
+    }
+    /// Refusal 11, a finish and refusal 1 are judged once; the whole table too where there are steps enough.
+    fn walk_words<const B: u32>(&mut self, lent: &mut Lent, limit: u64) -> (Answer, Report, u64) {
         let stopped = |answer| (answer, Report::default(), 1);
-        if !self.is_sound(lent) {
+        if !self.is_sound::<B>(lent) {
             return stopped(Answer::Refused(Unsound));
         }
         if self.place == Place::Finished {
@@ -855,9 +869,9 @@ impl State {
         if !(2..=800).contains(&rows.len()) || !rest.is_empty() {
             return stopped(Answer::Refused(TableLength));
         }
-        let judged = limit >= rows.len() as u64 && is_table(rows);
+        let judged = limit >= rows.len() as u64 && is_table::<B>(rows);
         let Lent { storage, input, output, .. } = lent;
-        let mut walk = Walk { state: self, rows, storage, input, output, judged, report: Report::default() };
+        let mut walk = Walk::<B> { state: self, rows, storage, input, output, judged, report: Report::default() };
         let mut count = 0;
         while count < limit {
             count += 1;

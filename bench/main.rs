@@ -1,8 +1,8 @@
 //! The program of the engine written for speed, in a folder with tour.tab and stops.in.
-//!   rival run LIMIT CALLS   so many calls of run, one where CALLS is left out
-//!   rival step CALLS        so many calls of step
-//! Both print what the program laps prints: the last answer's number (0 running, 100 finished), the count of steps and a
-//! checksum over the reports of the calls of step, the bugs and the storage.
+//!   rival run LIMIT CALLS WIDTH   so many calls of run, one where CALLS is left out
+//!   rival step CALLS WIDTH        so many calls of step
+//! Words have WIDTH bits, 36 where it is left out. Both print what the program laps prints: the last answer's number (0 running,
+//! 100 finished), the count of steps and a checksum over the reports of the calls of step, the bugs and the storage.
 //!   rival tour              what tourrun prints
 mod engine;
 
@@ -76,8 +76,10 @@ fn main() {
     input.truncate(4096);
     let (mut storage, mut output) = ([0; 4096], [0; 4096]);
     let mut lent = Lent { table: &table, storage: &mut storage, input: &input, output: &mut output };
-    let mut state = State::fresh();
-    let (answer, count, reports) = match arguments.first().map(String::as_str) {
+    let mode = arguments.first().map(String::as_str);
+    let width = number(if mode == Some("step") { 2 } else { 3 }, 36);
+    let mut state = State::fresh((width % 256) as u8);
+    let (answer, count, reports) = match mode {
         Some("run") => runs(&mut state, &mut lent, number(1, 0), number(2, 1)),
         Some("step") => steps(&mut state, &mut lent, number(1, 0)),
         _ => return tour(&mut state, &mut lent),

@@ -67,10 +67,10 @@ fn main() {
     ];
     for (name, text) in texts {
         let (bytes, mut table) = (text.as_bytes(), vec![77; 8000]);
-        let wanted = typed::read(bytes, table.len()).map(|rows| rows.len() / 10);
+        let wanted = typed::read(36, bytes, table.len()).map(|rows| rows.len() / 10);
         let answer = wanted.map_or_else(|(refusal, line)| format!("{refusal}, line {line}"), |rows| format!("{rows} rows"));
-        let proved = least(|| assert_eq!(l6::read(bytes, &mut table).map_err(|(refusal, line)| (refusal.number(), line)), wanted));
-        let plain = least(|| assert_eq!(typed::read(bytes, 8000).map(|rows| rows.len() / 10), wanted));
+        let proved = least(|| assert_eq!(l6::read(36, bytes, &mut table).map_err(|(refusal, line)| (refusal.number(), line)), wanted));
+        let plain = least(|| assert_eq!(typed::read(36, bytes, 8000).map(|rows| rows.len() / 10), wanted));
         println!("| {name} | {} | {answer} | {proved:.3} | {plain:.3} |", bytes.len());
     }
 }

@@ -5,7 +5,7 @@
 //! and output, which the tour goes on with. Whoever saves a tour saves state, storage and output. All of them may hold anything: a
 //! call answers with a [`Refusal`] where they are not sound.
 //!
-//!     let mut state = State::fresh();
+//!     let mut state = State::fresh(36)?;
 //!     let (mut storage, mut output) = (vec![0; 4096], vec![0; 4096]);
 //!     let mut lent = Lent { table: &table, storage: &mut storage, input: &stops, output: &mut output };
 //!     match state.run(&mut lent, 100_000).0 {
@@ -18,7 +18,7 @@
 use std::fmt;
 
 /// How many bytes a state has.
-pub const STATE_LENGTH: usize = 6675;
+pub const STATE_LENGTH: usize = 6676;
 const REPORT_LENGTH: usize = 12;
 
 /// Why a step is refused: the refusals of document 01 and of the later tickets, with their numbers. As text it is explained in words.
@@ -54,12 +54,13 @@ pub enum Refusal {
     CorrectionsShort,
     Hours,
     Kinds,
-    LastAddress = 32,
+    NoWidth,
+    LastAddress,
 }
 use Refusal::*;
 
 /// Every refusal, and what it means.
-pub const REFUSALS: [(Refusal, &str); 31] = [
+pub const REFUSALS: [(Refusal, &str); 32] = [
     (TableLength, "the table has fewer than 20 numbers, more than 8,000, or no multiple of ten"),
     (BadRow, "the row, or a test of it, is missing, ill-formed or of another kind than is needed here"),
     (SetUpNumbers, "the set-up's numbers are not allowed, or ask for more words than there are"),
@@ -69,7 +70,7 @@ pub const REFUSALS: [(Refusal, &str); 31] = [
     (DefinitionNumber, "a number of a field's definition is out of range"),
     (BlockSize, "a block of no words, or of more than the set-up allows, is wanted"),
     (ZeroDivisor, "a division by zero"),
-    (CharacterCount, "more than 6 characters to take, or more than 120 to print"),
+    (CharacterCount, "more characters to take than a word has, or more than 120 to print"),
     (Unsound, "the state is damaged, or does not go with the storage, stop list and output"),
     (BeforeSetUp, "an operation before the set-up"),
     (SecondSetUp, "a second set-up"),
@@ -90,6 +91,7 @@ pub const REFUSALS: [(Refusal, &str); 31] = [
     (CorrectionsShort, "there is no room for the corrected stops"),
     (Hours, "the opening hours break their rules, or the minute is above 1,439"),
     (Kinds, "row 1 is no line, or a row names one of the wrong kind"),
+    (NoWidth, "the width is neither 36 nor 48"),
     (LastAddress, "the new last address is none, or asks for more words than there are"),
 ];
 
@@ -186,11 +188,15 @@ pub struct Block {
 pub struct State([u8; STATE_LENGTH]);
 
 impl State {
-    /// A tour at the tests of row 1, nothing set up, defined, saved, taken or written.
-    pub fn fresh() -> State {
+    /// A tour of words of 36 or 48 bits at the tests of row 1, nothing set up, defined, saved, taken or written.
+    pub fn fresh(width: u64) -> Result<State, Refusal> {
         let mut state = State([0; STATE_LENGTH]);
-        unsafe { raw::l6_fresh(state.0.as_mut_ptr(), STATE_LENGTH) };
-        state
+        done(unsafe { raw::l6_fresh(width, state.0.as_mut_ptr(), STATE_LENGTH) })?;
+        Ok(state)
+    }
+    /// How many bits its words have.
+    pub fn width(&self) -> u64 {
+        self.0[STATE_LENGTH - 1] as u64
     }
     /// The state of bytes that were saved. `None` where they are not STATE_LENGTH; any others are a state, if no sound one.
     pub fn from_bytes(bytes: &[u8]) -> Option<State> {
@@ -282,12 +288,14 @@ impl State {
 /// What is wrong with a table.
 #[derive(Clone, Copy, Debug, PartialEq, Eq)]
 pub enum BadTable {
+    Width,
     Length,
     Row(u64),
 }
 impl fmt::Display for BadTable {
     fn fmt(&self, f: &mut fmt::Formatter) -> fmt::Result {
         match self {
+            BadTable::Width => write!(f, "{NoWidth}"),
             BadTable::Length => write!(f, "{TableLength}"),
             BadTable::Row(row) => write!(f, "row {row} is ill-formed"),
         }
@@ -295,17 +303,20 @@ impl fmt::Display for BadTable {
 }
 impl std::error::Error for BadTable {}
 
-/// The table check: whether every row is well-formed, those too that no step comes to. If not, the lowest that is not.
-pub fn check(table: &[u64]) -> Result<(), BadTable> {
+/// The table check: whether every row is well-formed for words of so many bits, those too that no step comes to. If not, the lowest that is
+/// not.
+pub fn check(width: u64, table: &[u64]) -> Result<(), BadTable> {
     let mut row = 0;
-    done(unsafe { raw::l6_check(table.as_ptr(), table.len(), &mut row) }).map_err(|_| BadTable::Length)?;
+    let answer = done(unsafe { raw::l6_check(width, table.as_ptr(), table.len(), &mut row) });
+    answer.map_err(|refusal| if refusal == NoWidth { BadTable::Width } else { BadTable::Length })?;
     if row == 0 { Ok(()) } else { Err(BadTable::Row(row)) }
 }
 
-/// Why the fields of a table do not pass: its length, the lowest ill-formed row, row 1 that is no line or the lowest row that names one of
+/// Why the fields of a table do not pass: the width, its length, the lowest ill-formed row, row 1 that is no line or the lowest row that names one of
 /// the wrong kind, or the lowest row that uses a field where it is not defined, with the field's name number.
 #[derive(Clone, Copy, Debug, PartialEq, Eq)]
 pub enum NotDefined {
+    Width,
     Length,
     Row(u64),
     Kinds(u64),
@@ -314,6 +325,7 @@ pub enum NotDefined {
 impl fmt::Display for NotDefined {
     fn fmt(&self, f: &mut fmt::Formatter) -> fmt::Result {
         match self {
+            NotDefined::Width => write!(f, "{NoWidth}"),
             NotDefined::Length => write!(f, "{TableLength}"),
             NotDefined::Row(row) => write!(f, "row {row} is ill-formed"),
             NotDefined::Kinds(row) => write!(f, "row {row} names a row of the wrong kind, or is row 1 and no line"),
@@ -328,14 +340,15 @@ pub fn field_name(field: u64) -> char {
     b"0123456789ABCDEFGHIJKLMNOPQRSTUVWXYZ".get(field as usize).map_or('?', |&name| name as char)
 }
 
-/// Whether each field of a table is defined before it is used (l6.h). A fresh tour played with such a table alone never meets
+/// Whether each field of a table for words of so many bits is defined before it is used (l6.h). A fresh tour played with such a table alone never meets
 /// [`Refusal::UndefinedField`].
-pub fn defined(table: &[u64]) -> Result<(), NotDefined> {
+pub fn defined(width: u64, table: &[u64]) -> Result<(), NotDefined> {
     let (mut row, mut field) = (0, 0);
-    match unsafe { raw::l6_defined(table.as_ptr(), table.len(), &mut row, &mut field) } {
+    match unsafe { raw::l6_defined(width, table.as_ptr(), table.len(), &mut row, &mut field) } {
         0 => Ok(()),
         1 => Err(NotDefined::Length),
         30 => Err(NotDefined::Kinds(row)),
+        31 => Err(NotDefined::Width),
         107 => Err(NotDefined::Row(row)),
         _ => Err(NotDefined::Field { row, field }),
     }
@@ -369,11 +382,11 @@ pub fn hours(windows: &[u64], exceptions: &[u64], day: u64, minute: u64) -> Open
     }
 }
 
-/// A tour typed as L6 lines (docs/TOURS.md): its table at the start of the one lent, and how many rows it has, ten numbers each. The other
-/// numbers stay; all do where it is refused, and then the line of the fault is told, counted from 1.
-pub fn read(text: &[u8], table: &mut [u64]) -> Result<usize, (Refusal, u64)> {
+/// A tour typed as L6 lines (docs/TOURS.md) for words of so many bits: its table at the start of the one lent, and how many rows it has, ten numbers each. The other
+/// numbers stay; all do where it is refused, and then the line of the fault is told, counted from 1; 0 where the width is none.
+pub fn read(width: u64, text: &[u8], table: &mut [u64]) -> Result<usize, (Refusal, u64)> {
     let (mut count, mut line) = (0, 0);
-    done(unsafe { raw::l6_read(text.as_ptr(), text.len(), table.as_mut_ptr(), table.len(), &mut count, &mut line) })
+    done(unsafe { raw::l6_read(width, text.as_ptr(), text.len(), table.as_mut_ptr(), table.len(), &mut count, &mut line) })
         .map_err(|refusal| (refusal, line))?;
     Ok(count as usize)
 }
@@ -398,17 +411,17 @@ pub fn numbers(bytes: &[u8]) -> Vec<u64> {
 /// Why words are not saved or loaded, with its number. As text it is explained in words.
 #[derive(Clone, Copy, Debug, PartialEq, Eq)]
 pub enum NotKept {
+    NoWidth = 31,
     WordTooWide = 33,
     NotSaved,
     OutputShort,
-    BadWidth = 105,
 }
 /// Every such reason, and what it means.
 pub const NOT_KEPT: [(NotKept, &str); 4] = [
+    (NotKept::NoWidth, "the width is neither 36 nor 48"),
     (NotKept::WordTooWide, "a word to save does not fit the width"),
     (NotKept::NotSaved, "the bytes to load are not those of so many saved words"),
     (NotKept::OutputShort, "there is no room for what is saved or loaded"),
-    (NotKept::BadWidth, "the width is neither 36 nor 48"),
 ];
 impl NotKept {
     /// Its number.
@@ -465,7 +478,7 @@ fn done(answer: u64) -> Result<(), Refusal> {
 pub mod raw {
     #[link(name = "player", kind = "static")]
     unsafe extern "C" {
-        pub fn l6_fresh(state: *mut u8, state_length: usize) -> u64;
+        pub fn l6_fresh(width: u64, state: *mut u8, state_length: usize) -> u64;
         pub fn l6_step(
             table: *const u64, table_length: usize, storage: *mut u64, storage_length: usize, input: *const u8, input_length: usize,
             output: *mut u8, output_length: usize, state: *mut u8, state_length: usize, report: *mut u64, report_length: usize,
@@ -474,8 +487,8 @@ pub mod raw {
             table: *const u64, table_length: usize, storage: *mut u64, storage_length: usize, input: *const u8, input_length: usize,
             output: *mut u8, output_length: usize, state: *mut u8, state_length: usize, limit: u64, count: *mut u64,
         ) -> u64;
-        pub fn l6_check(table: *const u64, table_length: usize, row: *mut u64) -> u64;
-        pub fn l6_defined(table: *const u64, table_length: usize, row: *mut u64, field: *mut u64) -> u64;
+        pub fn l6_check(width: u64, table: *const u64, table_length: usize, row: *mut u64) -> u64;
+        pub fn l6_defined(width: u64, table: *const u64, table_length: usize, row: *mut u64, field: *mut u64) -> u64;
         pub fn l6_count_blocks(state: *const u8, state_length: usize, counts: *mut u64, counts_length: usize) -> u64;
         pub fn l6_list_blocks(state: *const u8, state_length: usize, live: u64, list: *mut u64, list_length: usize) -> u64;
         pub fn l6_hours(
@@ -484,7 +497,7 @@ pub mod raw {
         ) -> u64;
         pub fn l6_extend(storage: *mut u64, storage_length: usize, state: *mut u8, state_length: usize, last: u64) -> u64;
         pub fn l6_read(
-            text: *const u8, text_length: usize, table: *mut u64, table_length: usize, count: *mut u64, line: *mut u64,
+            width: u64, text: *const u8, text_length: usize, table: *mut u64, table_length: usize, count: *mut u64, line: *mut u64,
         ) -> u64;
         pub fn l6_recordings(list: *const u64, list_length: usize, output: *mut u64, output_length: usize, count: *mut u64) -> u64;
         pub fn l6_save(width: u64, words: *const u64, words_length: usize, bytes: *mut u8, bytes_length: usize, count: *mut u64) -> u64;

@@ -1,9 +1,10 @@
-/* An example host: plays the tour of a folder.   player FOLDER [--stop-after STEPS]
+/* An example host: plays the tour of a folder.   player FOLDER [--width 36|48] [--stop-after STEPS]
  * It reads the table tour.tab, or where there is none the typed lines tour.l6, and the stop list stops.in, and prints what the guide says;
  * progress goes to standard error. Where there are opening hours, windows.tab and exceptions.tab, the tour starts at the entry line for the
  * time (of UTC), or not at all. Where there are corrections, corrections.tab, the recordings that stand are put into the stop list (that of
  * tours/museum.l6). With --stop-after it stops after so many steps and saves the tour as tour.saved; the next call goes on from there. Where
- * a tour has no room for a block, its storage is extended once to all the words there are, and it goes on. */
+ * a tour has no room for a block, its storage is extended once to all the words there are, and it goes on. Words have 36 bits where no
+ * width is given; a saved tour goes on at its own. */
 #include <inttypes.h>
 #include <stdio.h>
 #include <stdlib.h>
@@ -48,10 +49,11 @@ static uint64_t correct(size_t given) {
     return answer;
 }
 /* Starts a tour, where hours are kept at the entry line for the time. */
-static uint64_t begin(void) {
+static uint64_t begin(uint64_t width) {
     size_t w = numbers("windows.tab", windows, sizeof windows), x = numbers("exceptions.tab", exceptions, sizeof exceptions);
     uint64_t now = time(NULL), day = now / 86400 - 10957, minute = now % 86400 / 60;
-    l6_fresh(state, sizeof state);
+    uint64_t answer = l6_fresh(width, state, sizeof state);
+    if (answer != 0) return answer;
     return w + x == 0 ? L6_RUNNING : l6_hours(windows, w, exceptions, x, day, minute, &table[ENTRY]);
 }
 /* Gives a tour all the words there are, in whole blocks. */
@@ -63,10 +65,10 @@ static int extend(void) {
     return 1;
 }
 /* The table of the typed lines of tour.l6, where there is no tour.tab: the answer of l6_read, and its line. */
-static uint64_t type(size_t *length, uint64_t *line) {
+static uint64_t type(uint64_t width, size_t *length, uint64_t *line) {
     size_t given = access("tour.tab", F_OK) == 0 ? 0 : load("tour.l6", typed, sizeof typed);
     if (given == sizeof typed) return LONG;
-    uint64_t rows = 0, answer = given == 0 ? 0 : l6_read(typed, given, table, 8000, &rows, line);
+    uint64_t rows = 0, answer = given == 0 ? 0 : l6_read(width, typed, given, table, 8000, &rows, line);
     if (rows != 0) *length = 10 * rows;
     return answer;
 }
@@ -75,23 +77,33 @@ static int end(int status, const char *why) {
     return status;
 }
 int main(int count, char **arguments) {
-    int stops = count == 4 && strcmp(arguments[2], "--stop-after") == 0;
-    if (count != 2 && !stops) return end(2, "usage: player FOLDER [--stop-after STEPS]");
+    uint64_t width = 36, left = UINT64_MAX, *option;
+    for (int i = 2; i < count; i += 2) {
+        option = strcmp(arguments[i], "--width") == 0 ? &width : strcmp(arguments[i], "--stop-after") == 0 ? &left : NULL;
+        if (!option || i + 1 == count) count = 0;
+        else *option = strtoull(arguments[i + 1], NULL, 10);
+    }
+    if (count < 2) return end(2, "usage: player FOLDER [--width 36|48] [--stop-after STEPS]");
     if (chdir(arguments[1]) != 0) return end(2, "there is no such folder");
     size_t length = numbers("tour.tab", table, sizeof table), given = load("stops.in", input, sizeof input);
-    uint64_t line, fault = type(&length, &line);
-    if (fault == LONG) return end(1, "tour.l6 has more than 65535 bytes");
-    if (fault != 0) return fprintf(stderr, "tour.l6: %" PRIu64 " %" PRIu64 " %s\n", line, fault, l6_words(fault)), 1;
     FILE *file = fopen("tour.saved", "rb");
+    uint64_t entry;
     if (file && !EACH(fread)) return end(1, "tour.saved is no saved tour");
+    entry = table[ENTRY];
+    if (file) width = l6_width(state);
+    uint64_t line = 0, fault = type(width, &length, &line);
+    if (fault == LONG) return end(1, "tour.l6 has more than 65535 bytes");
+    if (fault == L6_NO_WIDTH) return end(1, l6_words(fault));
+    if (fault != 0) return fprintf(stderr, "tour.l6: %" PRIu64 " %" PRIu64 " %s\n", line, fault, l6_words(fault)), 1;
+    if (file) table[ENTRY] = entry;
     uint64_t row, answer = correct(given);
     if (answer != 0) return end(1, l6_words(answer));
-    answer = file ? fclose(file), L6_RUNNING : begin();
-    if (answer != L6_RUNNING || (answer = l6_check(table, length, &row)) != 0) return end(1, l6_words(answer));
+    answer = file ? fclose(file), L6_RUNNING : begin(width);
+    if (answer != L6_RUNNING || (answer = l6_check(width, table, length, &row)) != 0) return end(1, l6_words(answer));
     if (row != 0) return fprintf(stderr, "row %" PRIu64 " is ill-formed\n", row), 1;
 
     int extended = 0;
-    uint64_t left = stops ? strtoull(arguments[3], NULL, 10) : UINT64_MAX, steps = 0;
+    uint64_t steps = 0;
     do {
         uint64_t taken, limit = left < 1000 ? left : 1000, said = l6_written(state);
         answer = l6_run(table, length, storage, WORDS, input, given, output, sizeof output, state, sizeof state, limit, &taken);

@@ -1,9 +1,10 @@
-//! An example host: plays the tour of a folder.   player FOLDER [--stop-after STEPS]
+//! An example host: plays the tour of a folder.   player FOLDER [--width 36|48] [--stop-after STEPS]
 //! It reads the table tour.tab, or where there is none the typed lines tour.l6, and the stop list stops.in, and prints what the guide says;
 //! progress goes to standard error. Where there are opening hours, windows.tab and exceptions.tab, the tour starts at the entry line for the
 //! time (of UTC), or not at all. Where there are corrections, corrections.tab, the recordings that stand are put into the stop list (that of
 //! tours/museum.l6). With --stop-after it stops after so many steps and saves the tour as tour.saved; the next call goes on from there.
-//! Where a tour has no room for a block, its storage is extended once to all the words there are, and it goes on.
+//! Where a tour has no room for a block, its storage is extended once to all the words there are, and it goes on. Words have 36 bits where no
+//! width is given; a saved tour goes on at its own.
 mod l6;
 
 use l6::{numbers, Answer, Lent, Refusal, State, STATE_LENGTH};
@@ -59,7 +60,7 @@ fn correct(list: &[u64], input: &mut [u8]) -> Result<(), String> {
 }
 
 /// The table of tour.tab, or where there is none that of the typed lines of tour.l6. A text of more than 65,535 bytes is not taken.
-fn table() -> Result<Vec<u64>, String> {
+fn table(width: u64) -> Result<Vec<u64>, String> {
     let typed = std::fs::read("tour.l6").unwrap_or_default();
     match std::fs::read("tour.tab") {
         Ok(bytes) => Ok(numbers(&bytes)),
@@ -67,7 +68,10 @@ fn table() -> Result<Vec<u64>, String> {
         Err(_) if typed.len() > 65535 => Err("tour.l6 has more than 65535 bytes".into()),
         Err(_) => {
             let mut table = vec![0; 8000];
-            let rows = l6::read(&typed, &mut table).map_err(|(refusal, line)| format!("tour.l6: {line} {} {refusal}", refusal.number()))?;
+            let rows = l6::read(width, &typed, &mut table).map_err(|(refusal, line)| match refusal {
+                Refusal::NoWidth => refusal.to_string(),
+                _ => format!("tour.l6: {line} {} {refusal}", refusal.number()),
+            })?;
             table.truncate(10 * rows);
             Ok(table)
         }
@@ -75,19 +79,27 @@ fn table() -> Result<Vec<u64>, String> {
 }
 
 /// Plays the tour of a folder: how it ended, or why it did not.
-fn play(folder: &str, mut left: u64) -> Result<&str, String> {
+fn play(folder: &str, asked: u64, mut left: u64) -> Result<&str, String> {
     std::env::set_current_dir(folder).map_err(|_| "there is no such folder")?;
     let load = |name| std::fs::read(name).unwrap_or_default(); // a missing file counts as empty
-    let (mut table, windows, exceptions) = (table()?, numbers(&load("windows.tab")), numbers(&load("exceptions.tab")));
+    let saved = match std::fs::read("tour.saved") {
+        Ok(bytes) => Some(Tour::of_bytes(&bytes).ok_or("tour.saved is no saved tour")?),
+        Err(_) => None,
+    };
+    let width = saved.as_ref().map_or(asked, |tour| tour.0.width());
+    let (mut table, windows, exceptions) = (table(width)?, numbers(&load("windows.tab")), numbers(&load("exceptions.tab")));
     let mut input: Vec<u8> = load("stops.in").into_iter().take(4096).collect();
     correct(&numbers(&load("corrections.tab")), &mut input)?;
     let own = table.get(ENTRY).copied().unwrap_or(0);
-    let Tour(mut state, mut storage, mut output, entry) = match std::fs::read("tour.saved") {
-        Ok(bytes) => Tour::of_bytes(&bytes).ok_or("tour.saved is no saved tour")?,
-        Err(_) => Tour(State::fresh(), vec![0; 4096], vec![0; 4096], enter(&windows, &exceptions, own)?),
+    let Tour(mut state, mut storage, mut output, entry) = match saved {
+        Some(tour) => tour,
+        None => {
+            let state = State::fresh(width).map_err(|refusal| refusal.to_string())?;
+            Tour(state, vec![0; 4096], vec![0; 4096], enter(&windows, &exceptions, own)?)
+        }
     };
     table.iter_mut().skip(ENTRY).take(1).for_each(|go_to| *go_to = entry);
-    l6::check(&table).map_err(|bad| bad.to_string())?;
+    l6::check(width, &table).map_err(|bad| bad.to_string())?;
 
     let mut lent = Lent { table: &table, storage: &mut storage, input: &input, output: &mut output };
     let (mut steps, mut answer, mut extended) = (0, Answer::Running, false);
@@ -113,11 +125,20 @@ fn play(folder: &str, mut left: u64) -> Result<&str, String> {
 
 fn main() -> ExitCode {
     let arguments: Vec<String> = std::env::args().skip(1).collect();
-    let ended = match arguments.iter().map(String::as_str).collect::<Vec<_>>()[..] {
-        [folder] => play(folder, u64::MAX),
-        [folder, "--stop-after", steps] => play(folder, steps.parse().unwrap_or(0)),
-        _ => Err("usage: player FOLDER [--stop-after STEPS]".to_string()),
-    };
+    let (mut width, mut left) = (36, u64::MAX);
+    let mut good = arguments.len() % 2 == 1;
+    for pair in arguments.get(1..).unwrap_or_default().chunks(2) {
+        match pair {
+            [name, number] if name == "--width" => width = number.parse().unwrap_or(0),
+            [name, number] if name == "--stop-after" => left = number.parse().unwrap_or(0),
+            _ => good = false,
+        }
+    }
+    if !good {
+        eprintln!("usage: player FOLDER [--width 36|48] [--stop-after STEPS]");
+        return ExitCode::from(2);
+    }
+    let ended = play(&arguments[0], width, left);
     eprintln!("{}", ended.as_deref().unwrap_or_else(|why| why));
     ExitCode::from(ended.is_err() as u8)
 }

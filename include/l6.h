@@ -42,7 +42,7 @@ enum {
     L6_DEFINITION_NUMBER = 7, /* a number of a field's definition is out of range */
     L6_BLOCK_SIZE = 8,        /* a block of no words, or of more than the set-up allows, is wanted */
     L6_ZERO_DIVISOR = 9,      /* a division by zero */
-    L6_CHARACTER_COUNT = 10,  /* more than 6 characters to take, or more than 120 to print */
+    L6_CHARACTER_COUNT = 10,  /* more characters to take than a word has, 6 or 8, or more than 120 to print */
     L6_UNSOUND = 11,          /* the state is no sound one, or does not go with the storage, input and output lent */
     L6_BEFORE_SET_UP = 12,    /* an operation before the set-up */
     L6_SECOND_SET_UP = 13,    /* a second set-up */
@@ -70,6 +70,7 @@ enum {
 
     L6_KINDS = 30,            /* l6_defined: row 1 is no line, or a row names one of the wrong kind */
 
+    L6_NO_WIDTH = 31,         /* the width, given or in the state, is neither 36 nor 48; it is judged before anything else */
     L6_LAST_ADDRESS = 32,     /* l6_extend: a new last address that is none, or asks for more words than there are */
 
     /* l6_save and l6_load */
@@ -85,7 +86,6 @@ enum {
     L6_BAD_LIST_LENGTH = 103,   /* the counts have not 2 numbers, or the list not two for each block */
 
     L6_CLOSED = 104,          /* by the opening hours no tour starts at this time */
-    L6_BAD_WIDTH = 105,         /* the width is neither 36 nor 48 */
 
     /* l6_defined */
     L6_NOT_DEFINED = 106,     /* a row uses a field that is not defined there on some path */
@@ -95,8 +95,8 @@ enum {
 /* ---------------------------------------------------------------- the state */
 
 /* The state's bytes. Numbers stand low byte first. Every buffer of this length is a state; one that is not sound is refused by
- * L6_UNSOUND at every step. */
-#define L6_STATE_LENGTH 6675
+ * L6_UNSOUND at every step, and one of another width than 36 or 48 by L6_NO_WIDTH at every call. */
+#define L6_STATE_LENGTH 6676
 
 /* Where a host may look. The rest is laid out in docs/EMBEDDING.md. */
 enum {
@@ -105,7 +105,8 @@ enum {
     L6_AT_LINE = 3,    /* 2 bytes: the row of the line; 0 where the tour is finished */
     L6_AT_TAKEN = 5,   /* 8 bytes: how many bytes of the input are taken */
     L6_AT_WRITTEN = 13, /* 8 bytes: how many bytes of the output are written */
-    L6_AT_SET_UP = 21  /* three times 2 bytes: the set-up's largest block size, first and last address; zeros before it */
+    L6_AT_SET_UP = 21, /* three times 2 bytes: the set-up's largest block size, first and last address; zeros before it */
+    L6_AT_WIDTH = 6675 /* 1 byte: how many bits a word has */
 };
 
 /* Where a tour stands: at the tests of a line, at an operation, at the exit of a line, or at its end. */
@@ -121,6 +122,7 @@ static inline uint64_t l6_number(const uint8_t *bytes, size_t length) {
 /* What stands in a state of L6_STATE_LENGTH bytes. In one that is refused by L6_UNSOUND these are any numbers: a host that takes
  * l6_written for an index compares it with its output's length first. */
 static inline uint64_t l6_kind(const uint8_t *state) { return state[L6_AT_KIND]; }
+static inline uint64_t l6_width(const uint8_t *state) { return state[L6_AT_WIDTH]; }
 static inline uint64_t l6_line(const uint8_t *state) { return l6_number(state + L6_AT_LINE, 2); }
 static inline uint64_t l6_taken(const uint8_t *state) { return l6_number(state + L6_AT_TAKEN, 8); }
 static inline uint64_t l6_written(const uint8_t *state) { return l6_number(state + L6_AT_WRITTEN, 8); }
@@ -138,9 +140,11 @@ static inline uint64_t l6_row(const uint8_t *state) {
 
 /* ---------------------------------------------------------------- the calls */
 
-/* A fresh tour: at the tests of row 1, nothing set up, defined, saved, taken or written.
- * Writes all of state. Answers 0, or L6_BAD_STATE_LENGTH, and then nothing is written. */
-uint64_t l6_fresh(uint8_t *state, size_t state_length);
+/* A fresh tour of words of 36 or 48 bits: at the tests of row 1, nothing set up, defined, saved, taken or written. Each call that is lent
+ * the state goes by its width.
+ * Writes all of state. Answers 0, L6_NO_WIDTH, or L6_BAD_STATE_LENGTH; nothing is written then. The order of these is the order of the
+ * tests. */
+uint64_t l6_fresh(uint64_t width, uint8_t *state, size_t state_length);
 
 /* The numbers of a report, each 0 where there is none. A store is its address, leftmost and rightmost bit, and the bits kept; one into
  * a bug or a null field is not reported. */
@@ -171,33 +175,33 @@ uint64_t l6_run(const uint64_t *table, size_t table_length, uint64_t *storage, s
                 size_t input_length, uint8_t *output, size_t output_length, uint8_t *state, size_t state_length, uint64_t limit,
                 uint64_t *count);
 
-/* The table check: whether every row is well-formed, those too that no step comes to.
- * Reads the table. Answers 0 and writes into row the lowest ill-formed row, or 0 where there is none; or answers L6_TABLE_LENGTH and
- * row is unchanged. */
-uint64_t l6_check(const uint64_t *table, size_t table_length, uint64_t *row);
+/* The table check: whether every row is well-formed for words of so many bits, those too that no step comes to.
+ * Reads the table. Answers 0 and writes into row the lowest ill-formed row, or 0 where there is none; or answers L6_NO_WIDTH, or else
+ * L6_TABLE_LENGTH, and row is unchanged. */
+uint64_t l6_check(uint64_t width, const uint64_t *table, size_t table_length, uint64_t *row);
 
-/* Whether each field of a table is defined before it is used: on every path that starts at row 1, takes either outcome of each test,
- * follows operations, DOs into the lines that they name, go-tos and next lines, and leads from a DONE to the place after any DO. A
- * definition row defines its name, a restore of a definition makes it unknown again. With a table that gets a 0, a fresh tour that is
- * played with this table alone is never refused by L6_UNDEFINED_FIELD.
+/* Whether each field of a table for words of so many bits is defined before it is used: on every path that starts at row 1, takes either
+ * outcome of each test, follows operations, DOs into the lines that they name, go-tos and next lines, and leads from a DONE to the place
+ * after any DO. A definition row defines its name, a restore of a definition makes it unknown again. With a table that gets a 0, a fresh
+ * tour that is played with this table alone is never refused by L6_UNDEFINED_FIELD.
  * Reads the table. Answers 0; or
- *   L6_TABLE_LENGTH, and row and field are unchanged;
+ *   L6_NO_WIDTH or L6_TABLE_LENGTH, and row and field are unchanged;
  *   L6_ILL_FORMED, and writes into row the lowest ill-formed row, as l6_check does;
  *   L6_KINDS, and writes into row 1, where row 1 is no line, or the lowest row that names a row of the wrong kind, all rows counted;
  *   L6_NOT_DEFINED, and writes into row the lowest row that some path reaches with a reference to a field that is not defined there, and
  *   into field the name number of the first such field of the row: l6_field gives its name.
  * field is otherwise unchanged. The order of these is the order of the tests. */
-uint64_t l6_defined(const uint64_t *table, size_t table_length, uint64_t *row, uint64_t *field);
+uint64_t l6_defined(uint64_t width, const uint64_t *table, size_t table_length, uint64_t *row, uint64_t *field);
 
 /* How many blocks are in use, and how many are free.
  * Reads state. Writes the two numbers into counts, whose length is 2; where there was no set-up yet both are 0.
- * Answers 0, L6_BAD_STATE_LENGTH, L6_BAD_LIST_LENGTH, or L6_UNSOUND where the set-up numbers or the blocks in the state are not
+ * Answers 0, L6_BAD_STATE_LENGTH, L6_NO_WIDTH, L6_BAD_LIST_LENGTH, or L6_UNSOUND where the set-up numbers or the blocks in the state are not
  * sound; nothing is written then. The order of these is the order of the tests. */
 uint64_t l6_count_blocks(const uint8_t *state, size_t state_length, uint64_t *counts, size_t counts_length);
 
 /* The blocks in use (live is not 0) or the free ones (live is 0), the lowest first.
  * Reads state. Writes address and size of each into list, whose length is twice their number.
- * Answers 0, L6_BAD_STATE_LENGTH, L6_UNSOUND as above, or L6_BAD_LIST_LENGTH; nothing is written then. The order of these is the
+ * Answers 0, L6_BAD_STATE_LENGTH, L6_NO_WIDTH, L6_UNSOUND as above, or L6_BAD_LIST_LENGTH; nothing is written then. The order of these is the
  * order of the tests. */
 uint64_t l6_list_blocks(const uint8_t *state, size_t state_length, uint64_t live, uint64_t *list, size_t list_length);
 
@@ -205,7 +209,7 @@ uint64_t l6_list_blocks(const uint8_t *state, size_t state_length, uint64_t live
  * The new last address is the old one plus a positive multiple of d. The storage is lent long enough from the start; the added words
  * are zeroed. All else carries on, in a tour that is finished or was refused by L6_NO_RUN too: right after an extension no get and no
  * duplicate is refused so.
- * Reads and writes storage and state. Answers 0, L6_BAD_STATE_LENGTH, L6_UNSOUND (how much of input and output is used aside),
+ * Reads and writes storage and state. Answers 0, L6_BAD_STATE_LENGTH, L6_NO_WIDTH, L6_UNSOUND (how much of input and output is used aside),
  * L6_BEFORE_SET_UP, or L6_LAST_ADDRESS where the new last address is not of that form, passes 32,767, or makes more than 4,096 words or
  * more than are lent; nothing is changed then. The order of these is the order of the tests. */
 uint64_t l6_extend(uint64_t *storage, size_t storage_length, uint8_t *state, size_t state_length, uint64_t last);
@@ -234,17 +238,18 @@ uint64_t l6_hours(const uint64_t *windows, size_t windows_length, const uint64_t
  * order of the tests, each over the whole list. */
 uint64_t l6_recordings(const uint64_t *list, size_t list_length, uint64_t *output, size_t output_length, uint64_t *count);
 
-/* Tours typed as L6 lines (docs/TOURS.md).
+/* Tours typed as L6 lines (docs/TOURS.md), for words of so many bits.
  * Reads text, all of it. Writes the table at the start of table, row 0 as zeros, and into count how many rows it has, ten numbers each; the
- * numbers past them stay, and line. Every table that is read passes l6_check.
- * Answers 0, L6_TYPED_LINE, L6_TYPED_LABEL or L6_TYPED_TOO_LONG; then line is the line of the fault, counted from 1, and nothing else is
- * written. The lowest line with a fault decides, and on it the lower number.
+ * numbers past them stay, and line. Every table that is read passes l6_check at its width.
+ * Answers 0; L6_NO_WIDTH, and nothing is written; or L6_TYPED_LINE, L6_TYPED_LABEL or L6_TYPED_TOO_LONG: then line is the line of the
+ * fault, counted from 1, and nothing else is written. The lowest line with a fault decides, and on it the lower number.
  * Takes three passes over the text; one more where it has more than 800 labels, and one for each 800 DOs of a line that is refused. A call
  * takes some 39 kB of stack. */
-uint64_t l6_read(const uint8_t *text, size_t text_length, uint64_t *table, size_t table_length, uint64_t *count, uint64_t *line);
+uint64_t l6_read(uint64_t width, const uint8_t *text, size_t text_length, uint64_t *table, size_t table_length, uint64_t *count,
+                 uint64_t *line);
 
 /* Words kept by bit columns, for a card. They are taken in groups of eight, the last filled up with zero words; for each bit place,
- * leftmost first, one byte holds that bit of the eight words, the first word highest. The width is 36, that of the storage, or 48; a
+ * leftmost first, one byte holds that bit of the eight words, the first word highest. The width is the state's, 36 or 48; a
  * group has so many bytes, and no words have none. */
 
 /* How many bytes so many words have. */
@@ -252,13 +257,13 @@ static inline size_t l6_saved_length(uint64_t width, size_t words) { return (wor
 
 /* Saves words.
  * Reads words. Writes l6_saved_length bytes at the start of bytes, and into count how many; bytes past them stay.
- * Answers 0, L6_BAD_WIDTH, L6_WORD_TOO_WIDE, or L6_OUTPUT_SHORT where bytes has no room; nothing is written then. The order of these
+ * Answers 0, L6_NO_WIDTH, L6_WORD_TOO_WIDE, or L6_OUTPUT_SHORT where bytes has no room; nothing is written then. The order of these
  * is the order of the tests. */
 uint64_t l6_save(uint64_t width, const uint64_t *words, size_t words_length, uint8_t *bytes, size_t bytes_length, uint64_t *count);
 
 /* Loads n words: what l6_save wrote for them.
  * Reads bytes, all of which are those of the words. Writes n words at the start of words; words past them stay.
- * Answers 0, L6_BAD_WIDTH, L6_NOT_SAVED where bytes has not the length that n words have, or words that fill up are not zero, or
+ * Answers 0, L6_NO_WIDTH, L6_NOT_SAVED where bytes has not the length that n words have, or words that fill up are not zero, or
  * L6_OUTPUT_SHORT where words has no room; nothing is written then. The order of these is the order of the tests. */
 uint64_t l6_load(uint64_t width, const uint8_t *bytes, size_t bytes_length, size_t n, uint64_t *words, size_t words_length);
 
@@ -277,7 +282,7 @@ static inline const char *l6_words(uint64_t answer) {
     case L6_DEFINITION_NUMBER: return "a number of a field's definition is out of range";
     case L6_BLOCK_SIZE: return "a block of no words, or of more than the set-up allows, is wanted";
     case L6_ZERO_DIVISOR: return "a division by zero";
-    case L6_CHARACTER_COUNT: return "more than 6 characters to take, or more than 120 to print";
+    case L6_CHARACTER_COUNT: return "more characters to take than a word has, or more than 120 to print";
     case L6_UNSOUND: return "the state is damaged, or does not go with the storage, stop list and output";
     case L6_BEFORE_SET_UP: return "an operation before the set-up";
     case L6_SECOND_SET_UP: return "a second set-up";
@@ -298,6 +303,7 @@ static inline const char *l6_words(uint64_t answer) {
     case L6_CORRECTIONS_SHORT: return "there is no room for the corrected stops";
     case L6_HOURS: return "the opening hours break their rules, or the minute is above 1,439";
     case L6_KINDS: return "row 1 is no line, or a row names one of the wrong kind";
+    case L6_NO_WIDTH: return "the width is neither 36 nor 48";
     case L6_LAST_ADDRESS: return "the new last address is none, or asks for more words than there are";
     case L6_WORD_TOO_WIDE: return "a word to save does not fit the width";
     case L6_NOT_SAVED: return "the bytes to load are not those of so many saved words";
@@ -307,7 +313,6 @@ static inline const char *l6_words(uint64_t answer) {
     case L6_BAD_REPORT_LENGTH: return "the report's length is wrong";
     case L6_BAD_LIST_LENGTH: return "the list's length is wrong";
     case L6_CLOSED: return "closed at this time";
-    case L6_BAD_WIDTH: return "the width is neither 36 nor 48";
     case L6_NOT_DEFINED: return "a row uses a field that is not defined there";
     case L6_ILL_FORMED: return "a row is ill-formed";
     default: return "an answer that this header does not know";

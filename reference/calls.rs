@@ -12,16 +12,16 @@ type Run = unsafe extern "C" fn(
 ) -> u64;
 type Hours = unsafe extern "C" fn(*const u64, usize, *const u64, usize, u64, u64, *mut u64) -> u64;
 type Recordings = unsafe extern "C" fn(*const u64, usize, *mut u64, usize, *mut u64) -> u64;
-type Read = unsafe extern "C" fn(*const u8, usize, *mut u64, usize, *mut u64, *mut u64) -> u64;
+type Read = unsafe extern "C" fn(u64, *const u8, usize, *mut u64, usize, *mut u64, *mut u64) -> u64;
 type Save = unsafe extern "C" fn(u64, *const u64, usize, *mut u8, usize, *mut u64) -> u64;
 type Load = unsafe extern "C" fn(u64, *const u8, usize, usize, *mut u64, usize) -> u64;
 
 pub struct Calls {
-    fresh: unsafe extern "C" fn(*mut u8, usize) -> u64,
+    fresh: unsafe extern "C" fn(u64, *mut u8, usize) -> u64,
     step: Step,
     run: Run,
-    check: unsafe extern "C" fn(*const u64, usize, *mut u64) -> u64,
-    defined: unsafe extern "C" fn(*const u64, usize, *mut u64, *mut u64) -> u64,
+    check: unsafe extern "C" fn(u64, *const u64, usize, *mut u64) -> u64,
+    defined: unsafe extern "C" fn(u64, *const u64, usize, *mut u64, *mut u64) -> u64,
     count_blocks: unsafe extern "C" fn(*const u8, usize, *mut u64, usize) -> u64,
     list_blocks: unsafe extern "C" fn(*const u8, usize, u64, *mut u64, usize) -> u64,
     hours: Hours,
@@ -33,7 +33,7 @@ pub struct Calls {
 }
 
 extern "C" {
-    fn header_fresh(state: *mut u8, length: usize) -> u64;
+    fn header_fresh(width: u64, state: *mut u8, length: usize) -> u64;
     fn header_step(
         table: *const u64, numbers: usize, storage: *mut u64, words: usize, input: *const u8, given: usize, output: *mut u8, room: usize,
         state: *mut u8, length: usize, report: *mut u64, reports: usize,
@@ -42,15 +42,15 @@ extern "C" {
         table: *const u64, numbers: usize, storage: *mut u64, words: usize, input: *const u8, given: usize, output: *mut u8, room: usize,
         state: *mut u8, length: usize, limit: u64, count: *mut u64,
     ) -> u64;
-    fn header_check(table: *const u64, numbers: usize, row: *mut u64) -> u64;
-    fn header_defined(table: *const u64, numbers: usize, row: *mut u64, field: *mut u64) -> u64;
+    fn header_check(width: u64, table: *const u64, numbers: usize, row: *mut u64) -> u64;
+    fn header_defined(width: u64, table: *const u64, numbers: usize, row: *mut u64, field: *mut u64) -> u64;
     fn header_count_blocks(state: *const u8, length: usize, counts: *mut u64, numbers: usize) -> u64;
     fn header_list_blocks(state: *const u8, length: usize, live: u64, list: *mut u64, numbers: usize) -> u64;
     fn header_hours(
         windows: *const u64, n: usize, exceptions: *const u64, m: usize, day: u64, minute: u64, row: *mut u64,
     ) -> u64;
     fn header_recordings(list: *const u64, given: usize, output: *mut u64, room: usize, count: *mut u64) -> u64;
-    fn header_read(text: *const u8, given: usize, table: *mut u64, room: usize, count: *mut u64, line: *mut u64) -> u64;
+    fn header_read(width: u64, text: *const u8, given: usize, table: *mut u64, room: usize, count: *mut u64, line: *mut u64) -> u64;
     fn header_save(width: u64, words: *const u64, given: usize, bytes: *mut u8, room: usize, count: *mut u64) -> u64;
     fn header_load(width: u64, bytes: *const u8, given: usize, n: usize, words: *mut u64, room: usize) -> u64;
     fn header_extend(storage: *mut u64, words: usize, state: *mut u8, length: usize, last: u64) -> u64;
@@ -60,9 +60,9 @@ extern "C" {
     pub fn header_character(code: u8) -> u8;
     pub fn header_field(field: u64) -> u8;
     pub static header_undefined: [u64; 3];
-    pub static header_constants: [u64; 35];
+    pub static header_constants: [u64; 36];
     pub fn header_saved_length(width: u64, words: usize) -> usize;
-    pub static header_kept: [u64; 4];
+    pub static header_kept: [u64; 3];
     pub static header_typed: [u64; 3];
 }
 
@@ -83,7 +83,7 @@ pub static MODULE: Calls = Calls {
 pub struct Given { pub table: Vec<u64>, pub input: Vec<u8> }
 
 impl Calls {
-    pub fn fresh(&self, state: &mut [u8]) -> u64 { unsafe { (self.fresh)(state.as_mut_ptr(), state.len()) } }
+    pub fn fresh(&self, width: u64, state: &mut [u8]) -> u64 { unsafe { (self.fresh)(width, state.as_mut_ptr(), state.len()) } }
     pub fn step(&self, Given { table, input }: &Given, tour: &mut Tour, report: &mut [u64]) -> u64 {
         let Tour { state, storage, output } = tour;
         unsafe {
@@ -106,9 +106,9 @@ impl Calls {
         let Tour { state, storage, .. } = tour;
         unsafe { (self.extend)(storage.as_mut_ptr(), storage.len(), state.as_mut_ptr(), state.len(), last) }
     }
-    pub fn check(&self, table: &[u64], row: &mut u64) -> u64 { unsafe { (self.check)(table.as_ptr(), table.len(), row) } }
-    pub fn defined(&self, table: &[u64], row: &mut u64, field: &mut u64) -> u64 {
-        unsafe { (self.defined)(table.as_ptr(), table.len(), row, field) }
+    pub fn check(&self, width: u64, table: &[u64], row: &mut u64) -> u64 { unsafe { (self.check)(width, table.as_ptr(), table.len(), row) } }
+    pub fn defined(&self, width: u64, table: &[u64], row: &mut u64, field: &mut u64) -> u64 {
+        unsafe { (self.defined)(width, table.as_ptr(), table.len(), row, field) }
     }
     pub fn count_blocks(&self, state: &[u8], counts: &mut [u64]) -> u64 {
         unsafe { (self.count_blocks)(state.as_ptr(), state.len(), counts.as_mut_ptr(), counts.len()) }
@@ -122,8 +122,8 @@ impl Calls {
     pub fn recordings(&self, list: &[u64], output: &mut [u64], count: &mut u64) -> u64 {
         unsafe { (self.recordings)(list.as_ptr(), list.len(), output.as_mut_ptr(), output.len(), count) }
     }
-    pub fn read(&self, text: &[u8], table: &mut [u64], count: &mut u64, line: &mut u64) -> u64 {
-        unsafe { (self.read)(text.as_ptr(), text.len(), table.as_mut_ptr(), table.len(), count, line) }
+    pub fn read(&self, width: u64, text: &[u8], table: &mut [u64], count: &mut u64, line: &mut u64) -> u64 {
+        unsafe { (self.read)(width, text.as_ptr(), text.len(), table.as_mut_ptr(), table.len(), count, line) }
     }
     pub fn save(&self, width: u64, words: &[u64], bytes: &mut [u8], count: &mut u64) -> u64 {
         unsafe { (self.save)(width, words.as_ptr(), words.len(), bytes.as_mut_ptr(), bytes.len(), count) }

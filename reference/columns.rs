@@ -1,5 +1,5 @@
 //! Storage kept by bit columns, from the ticket's text alone: words and bytes are written out as texts of binary digits, one below the
-//! other, and read by columns. The order of the tests is the ticket's, with a width that is none first (105).
+//! other, and read by columns. The order of the tests is the ticket's, with a width that is none first (31).
 
 /// How many groups of eight so many words have.
 pub fn groups(words: usize) -> usize {
@@ -19,7 +19,7 @@ fn is_width(b: u64) -> bool {
 
 /// The bytes of words, where there is room for so many.
 pub fn save(b: u64, words: &[u64], room: usize) -> Result<Vec<u8>, u64> {
-    if !is_width(b) { return Err(105); }
+    if !is_width(b) { return Err(31); }
     let mut lines: Vec<String> = words.iter().map(|word| format!("{word:0width$b}", width = b as usize)).collect();
     if lines.iter().any(|line| line.len() as u64 > b) { return Err(33); }
     lines.resize(8 * groups(words.len()), "0".repeat(b as usize));
@@ -28,7 +28,7 @@ pub fn save(b: u64, words: &[u64], room: usize) -> Result<Vec<u8>, u64> {
 }
 /// The n words of bytes, where there is room for so many.
 pub fn load(b: u64, bytes: &[u8], n: usize, room: usize) -> Result<Vec<u64>, u64> {
-    if !is_width(b) { return Err(105); }
+    if !is_width(b) { return Err(31); }
     // counted in 128 bits: n may be any number
     if bytes.len() as u128 != b as u128 * ((n as u128 + 7) / 8) { return Err(34); }
     let lines: Vec<String> = bytes.iter().map(|byte| format!("{byte:08b}")).collect();

@@ -1,4 +1,5 @@
 //! Holds libplayer.a against the reference engine, byte for byte.   compare SEED STEPS
+//! Tours have words of 36 and of 48 bits in turn, and widths that are none are among the damages.
 //! First come the cases of `comparison` that are not drawn and set-ups of 4,096 words, then generated tours until so many steps are
 //! compared: each is stepped and run from its start, and again from places on its way after damages of its state's bytes, storage,
 //! table, input or lengths. Calls go through the header and through the Rust module in turn; wrong lengths are tried with both.
@@ -31,11 +32,15 @@ mod texts;
 mod typed;
 
 use bytes::*;
+use raw::is_width;
 use calls::*;
 use engine::*;
 use generator::*;
 use l6::{BadTable, State};
 use std::ffi::CStr;
+
+/// Widths that are none.
+const OTHERS: [u64; 8] = [0, 35, 37, 40, 47, 49, 1 << 32 | 36, u64::MAX];
 
 /// How many lists are saved and loaded by bit columns, and how many lists of corrections are answered.
 const LISTS: u64 = 20_000;
@@ -50,7 +55,7 @@ const DRAFTS: u64 = 40_000;
 #[derive(Default)]
 struct Compared {
     steps: u64, calls: u64, extensions: u64, answers: Vec<u64>, differences: u64, label: String, checked: [u64; 5], runs: u64, used: u64,
-    read: [u64; 4],
+    read: [u64; 5],
 }
 
 /// Gets and frees in a drawn order, so that live blocks come to stand between free ones.
@@ -82,7 +87,7 @@ fn closing(sizes: &[u64], order: &[u64], wanted: &[u64]) -> Given {
 }
 /// The reference engine on what is lent.
 fn engine_of(given: &Given, tour: &Tour) -> Engine {
-    Engine::fresh(given.table.clone(), given.input.clone(), vec![], tour.output.len())
+    Engine::fresh(given.table.clone(), given.input.clone(), vec![], tour.output.len(), 36) // it goes by the tour's width
 }
 
 impl Compared {
@@ -172,7 +177,7 @@ impl Compared {
         let answer = calls.count_blocks(&tour.state, &mut counts);
         self.answered(answer, 0);
         let wanted = expected.as_ref().map_or([77; 2], |lists| [0, 1].map(|i| lists[i].len() as u64 / 2));
-        let refusal = if expected.is_some() { 0 } else { 11 };
+        let refusal = expected.as_ref().err().copied().unwrap_or(0);
         self.same("an answer on counts of blocks", answer, refusal);
         self.same("counts of blocks", counts, wanted);
         for (live, which) in [(1, 0), (u64::MAX, 0), (0, 1)] {
@@ -184,39 +189,43 @@ impl Compared {
             self.same("a list of blocks", list, wanted);
         }
     }
-    fn table(&mut self, calls: &Calls, table: &[u64]) {
-        let mut row = 77;
-        let answer = calls.check(table, &mut row);
-        self.answered(answer, 0);
-        let expected = lowest_ill_formed(table).map_or((1, 77), |lowest| (0, lowest));
-        self.same("the table check", (answer, row), expected);
+    fn table(&mut self, calls: &Calls, rng: &mut Rng, table: &[u64]) {
+        for width in [36, 48, rng.pick(&OTHERS)] {
+            let mut row = 77;
+            let answer = calls.check(width, table, &mut row);
+            self.answered(answer, 0);
+            let expected = lowest_ill_formed(width, table).map_or_else(|refusal| (refusal, 77), |lowest| (0, lowest));
+            self.same("the table check", (answer, row), expected);
+        }
     }
     /// The check of fields by a call, and by the Rust module's safe one. Gives whether the table got a yes.
-    fn fields(&mut self, calls: &Calls, table: &[u64]) -> bool {
+    fn fields(&mut self, calls: &Calls, width: u64, table: &[u64]) -> bool {
         let (mut row, mut field) = (77, 77);
-        let answer = calls.defined(table, &mut row, &mut field);
+        let answer = calls.defined(width, table, &mut row, &mut field);
         self.answered(answer, 0);
-        let expected = defined::check(table);
+        let expected = defined::check(width, table);
         let (wanted, safe) = match expected {
             defined::Finding::Yes => ((0, 77, 77), Ok(())),
             defined::Finding::No(row, field) => ((106, row, field), Err(l6::NotDefined::Field { row, field })),
+            defined::Finding::NoWidth => ((31, 77, 77), Err(l6::NotDefined::Width)),
             defined::Finding::BadLength => ((1, 77, 77), Err(l6::NotDefined::Length)),
             defined::Finding::IllFormed(row) => ((107, row, 77), Err(l6::NotDefined::Row(row))),
             defined::Finding::WrongKind(row) => ((30, row, 77), Err(l6::NotDefined::Kinds(row))),
         };
         self.same("the check of fields", (answer, row, field), wanted);
-        self.same("a safe check of fields", l6::defined(table), safe);
+        self.same("a safe check of fields", l6::defined(width, table), safe);
         answer == 0
     }
     /// A draft of a table: checked, and run from fresh engines with drawn stops where it got a yes; no run may meet 14.
     fn draft(&mut self, rng: &mut Rng, turn: u64) {
         let table = drafts::draft(rng);
         let calls = if turn % 2 == 0 { &HEADER } else { &MODULE };
-        let yes = self.fields(calls, &table);
-        let kind = match defined::check(&table) {
+        let width = [36, 36, 48, 48][turn as usize % 4];
+        let yes = self.fields(calls, width, &table);
+        let kind = match defined::check(width, &table) {
             defined::Finding::Yes => 0,
             defined::Finding::No(..) => 1,
-            defined::Finding::BadLength => 2,
+            defined::Finding::NoWidth | defined::Finding::BadLength => 2,
             defined::Finding::IllFormed(_) => 3,
             defined::Finding::WrongKind(_) => 4,
         };
@@ -224,7 +233,7 @@ impl Compared {
         if !yes { return; }
         for _ in 0..4 {
             let given = Given { table: table.clone(), input: (0..rng.below(40)).map(|_| rng.below(10) as u8).collect() };
-            let mut tour = Tour::fresh((0..64).map(|_| rng.next() >> 28).collect(), vec![0; 64]);
+            let mut tour = Tour::fresh(width, (0..64).map(|_| rng.next() >> 28).collect(), vec![0; 64]);
             let mut count = 77;
             let answer = calls.run(&given, &mut tour, 500, &mut count);
             self.answered(answer, 0);
@@ -266,19 +275,19 @@ impl Compared {
         self.answered(answer, 0);
         self.same("an answer on lengths of a step", answer, bad(102));
         if state != STATE {
-            let answers = [calls.run(given, &mut wrong, 9, &mut count), calls.fresh(&mut wrong.state), calls.extend(&mut wrong, 15)];
+            let answers = [calls.run(given, &mut wrong, 9, &mut count), calls.fresh(48, &mut wrong.state), calls.extend(&mut wrong, 15)];
             for answer in answers { self.answered(answer, 0) }
             self.same("answers on a state's length", answers, [101; 3]);
         }
         let answer = calls.count_blocks(&wrong.state, &mut list);
         self.answered(answer, 0);
-        self.same("an answer on lengths of counts", answer, bad(103));
+        self.same("an answer on lengths of counts", answer, bad(if blocks == Err(31) { 31 } else { 103 }));
         for (live, which) in [(0, 1), (1, 0)] {
-            let fits = blocks.as_ref().is_some_and(|lists| lists[which].len() == numbers);
+            let fits = blocks.as_ref().is_ok_and(|lists| lists[which].len() == numbers);
             if state == STATE && fits { continue; }
             let answer = calls.list_blocks(&wrong.state, live, &mut list);
             self.answered(answer, 0);
-            self.same("an answer on lengths of a list", answer, bad(if blocks.is_some() { 103 } else { 11 }));
+            self.same("an answer on lengths of a list", answer, bad(blocks.as_ref().err().copied().unwrap_or(103)));
         }
         self.same("what is lent with wrong lengths", (list, count), (vec![77; numbers], 77));
         self.same_tour(&wrong, &before);
@@ -306,22 +315,30 @@ impl Compared {
         self.same_tour(&tour, &other);
         let list = |blocks: Vec<l6::Block>| blocks.iter().flat_map(|b| [b.address, b.size]).collect::<Vec<_>>();
         let lists = state.live_blocks().and_then(|live| Ok([list(live), list(state.free_blocks()?)]));
-        self.same("a safe list", lists.ok(), other.blocks());
-        let expected = match lowest_ill_formed(&given.table) { None => Err(BadTable::Length), Some(0) => Ok(()), Some(k) => Err(BadTable::Row(k)) };
-        self.same("a safe check", l6::check(&given.table), expected);
-        let mut reads = [0; 8];
+        self.same("a safe list", lists.map_err(|refusal| refusal.number()), other.blocks());
+        for width in [36, 48, 40] {
+            let expected = match lowest_ill_formed(width, &given.table) {
+                Err(31) => Err(BadTable::Width),
+                Err(_) => Err(BadTable::Length),
+                Ok(0) => Ok(()),
+                Ok(k) => Err(BadTable::Row(k)),
+            };
+            self.same("a safe check", l6::check(width, &given.table), expected);
+        }
+        let mut reads = [0; 9];
         unsafe { header_reads(tour.state.as_ptr(), reads.as_mut_ptr()) };
         let two = |i: usize| tour.state[i] as u64 + 256 * tour.state[i + 1] as u64;
         let row = if tour.state[0] == 1 { two(1) } else { two(3) };
         let eight = |i: usize| u64::from_le_bytes(tour.state[i..i + 8].try_into().unwrap());
-        self.same("what the header reads", reads, [tour.state[0] as u64, row, two(3), eight(5), eight(13), two(21), two(23), two(25)]);
+        self.same("what the header reads", reads, [tour.state[0] as u64, row, two(3), eight(5), eight(13), two(21), two(23), two(25), tour.state[STATE - 1] as u64]);
         let safe = [state.place() as usize, state.row(), state.taken(), state.written()].map(|n| n as u64);
         self.same("what the module reads", safe, [tour.state[0].min(4) as u64, row, eight(5), eight(13)]);
+        self.same("the width that the module reads", state.width(), tour.state[STATE - 1] as u64);
         self.same("the set-up that the module reads", state.setup().map(|n| n as u64), [two(21), two(23), two(25)]);
     }
     /// Numbers and words of the header against the Rust module's.
     fn constants(&mut self) {
-        let numbers: Vec<u64> = [6675, 12].into_iter().chain(0..=22).chain(26..=29).chain([32]).chain(100..=104).collect();
+        let numbers: Vec<u64> = [6676, 12].into_iter().chain(0..=22).chain(26..=29).chain([31, 32]).chain(100..=104).collect();
         self.same("the header's numbers", unsafe { header_constants }, numbers[..].try_into().unwrap());
         self.same("the module's length", l6::STATE_LENGTH, STATE);
         let words = |answer| unsafe { CStr::from_ptr(header_words(answer)) }.to_str().unwrap();
@@ -330,11 +347,16 @@ impl Compared {
         let characters = |code| (unsafe { header_character(code) } as char, l6::character(code));
         (0..=255).for_each(|code| { let (c, rust) = characters(code); self.same("a character", c, rust); });
         for calls in [&HEADER, &MODULE] {
-            let mut state = vec![77; STATE];
-            let answer = calls.fresh(&mut state);
-            self.same("a fresh state", (answer, state), (0, Tour::fresh(vec![], vec![]).state));
+            for width in [36, 48, 0, 35, 37, 40, 47, 49, 1 << 8 | 36, 1 << 32 | 48, u64::MAX] {
+                let mut state = vec![77; STATE];
+                let answer = calls.fresh(width, &mut state);
+                self.same("an answer on a width without a state", calls.fresh(width, &mut []), if answer == 0 { 101 } else { 31 });
+                let expected = if is_width(width) { (0, Tour::fresh(width, vec![], vec![]).state) } else { (31, vec![77; STATE]) };
+                self.same("a fresh state", (answer, &state), (expected.0, &expected.1));
+                let safe = State::fresh(width).map(|made| made.bytes().to_vec()).map_err(|refusal| refusal.number());
+                self.same("a safe fresh state", safe, if expected.0 == 0 { Ok(expected.1) } else { Err(31) });
+            }
         }
-        self.same("a safe fresh state", &State::fresh().bytes()[..], &Tour::fresh(vec![], vec![]).state);
     }
 
     /// Re-recorded stops of drawn corrections.
@@ -363,7 +385,7 @@ impl Compared {
         let mut answers = [vec![], vec![]];
         for (turn, calls) in [&HEADER, &MODULE].into_iter().enumerate() {
             (1..order.len()).for_each(|i| order.swap(i, rng.below(i as u64 + 1) as usize));
-            let (given, mut tour, mut report) = (closing(&sizes, &order, &wanted), Tour::fresh(vec![0; 96], vec![]), [0; 12]);
+            let (given, mut tour, mut report) = (closing(&sizes, &order, &wanted), Tour::fresh([36, 48][turn], vec![0; 96], vec![]), [0; 12]);
             let mut answer = 0;
             while answer == 0 {
                 answer = calls.step(&given, &mut tour, &mut report);
@@ -377,34 +399,36 @@ impl Compared {
     /// A drawn text of L6 lines, read into a drawn length of table; what is read passes the table check.
     fn typed(&mut self, rng: &mut Rng) {
         let text = texts::text(rng);
-        let room = texts::room(rng, &text);
-        let expected = typed::read(&text, room);
-        let (answer, line) = expected.as_ref().err().copied().unwrap_or((0, 77));
+        let width = rng.pick(&[36, 36, 36, 48, 48, 48, 40]);
+        let room = texts::room(rng, width, &text);
+        let expected = typed::read(width, &text, room);
+        let (answer, told) = expected.as_ref().err().copied().unwrap_or((0, 77));
+        let line = if answer == 31 { 77 } else { told };
         let rows = expected.as_ref().map_or(77, |rows| rows.len() as u64 / 10);
         let mut wanted = expected.unwrap_or_default();
         let read = wanted.len();
         wanted.resize(room, 77);
         for calls in [&HEADER, &MODULE] {
             let (mut table, mut count, mut at) = (vec![77; room], 77, 77);
-            let found = calls.read(&text, &mut table, &mut count, &mut at);
+            let found = calls.read(width, &text, &mut table, &mut count, &mut at);
             self.answered(found, 0);
             self.same("typed lines", (found, count, at), (answer, rows, line));
             self.same("the table of typed lines", &table, &wanted);
             if found != 0 { continue; }
             let mut lowest = 77;
-            let checked = calls.check(&table[..read], &mut lowest);
+            let checked = calls.check(width, &table[..read], &mut lowest);
             self.same("the check of a table that was typed", (checked, lowest), (0, 0));
         }
         if answer == 0 {
             let mut again = vec![77; room];
-            let back = l6::read(printed::printed(&wanted[..read]).as_bytes(), &mut again).ok();
+            let back = l6::read(width, printed::printed(&wanted[..read]).as_bytes(), &mut again).ok();
             self.same("a table printed as typed lines and read again", (back, &again), (Some(rows as usize), &wanted));
         }
         let mut table = vec![77; room];
-        let safe = l6::read(&text, &mut table).map_err(|(refusal, line)| (refusal.number(), line));
-        self.same("typed lines read safely", safe, if answer == 0 { Ok(rows as usize) } else { Err((answer, line)) });
+        let safe = l6::read(width, &text, &mut table).map_err(|(refusal, line)| (refusal.number(), line));
+        self.same("typed lines read safely", safe, if answer == 0 { Ok(rows as usize) } else { Err((answer, told)) });
         self.same("the table of typed lines read safely", table, wanted);
-        self.read[if answer == 0 { 0 } else { answer as usize - 22 }] += 1;
+        self.read[match answer { 0 => 0, 31 => 4, _ => answer as usize - 22 }] += 1;
     }
 
     // ------------------------------------------------------------ storage kept by bit columns
@@ -462,7 +486,7 @@ impl Compared {
     }
     /// Numbers, words and lengths of the header against the Rust module's.
     fn kept_constants(&mut self) {
-        self.same("the header's numbers of what is kept", unsafe { header_kept }, [33, 34, 35, 105]);
+        self.same("the header's numbers of what is kept", unsafe { header_kept }, [33, 34, 35]);
         for (reason, _) in l6::NOT_KEPT {
             let words = unsafe { CStr::from_ptr(header_words(reason.number())) }.to_str().unwrap();
             self.same("words of what is kept", words, &reason.to_string());
@@ -484,8 +508,8 @@ impl Compared {
         self.by_runs(other, rng, given, start, limit);
         let last = &passed[passed.len() - 1];
         self.blocks(one, last);
-        self.table(other, &given.table);
-        self.fields(one, &given.table);
+        self.table(other, rng, &given.table);
+        for width in [36, 48, 40] { self.fields(one, width, &given.table); }
         for calls in [one, other] { self.opening(calls, rng) }
         self.lengths(one, rng, given, last);
         self.lengths(other, rng, given, start);
@@ -495,10 +519,11 @@ impl Compared {
     /// A generated tour, every eighth of gets and frees alone, and again after damages on its way.
     fn drawn(&mut self, seed: u64, i: u64) {
         let mut rng = Rng(seed ^ !i << 20);
-        let case = if i % 8 == 7 { gets_and_frees(&mut rng) } else { make(seed, i) };
+        let bits = [36, 48][i as usize % 2];
+        let case = if i % 8 >= 6 { Case { bits, ..gets_and_frees(&mut rng) } } else { make(bits, seed, i) };
         let given = Given { table: case.table(), input: case.input };
         let storage = (0..case.storage).map(|_| rng.next() >> rng.below(64)).collect();
-        let start = Tour::fresh(storage, (0..case.output).map(|_| rng.next() as u8).collect());
+        let start = Tour::fresh(bits, storage, (0..case.output).map(|_| rng.next() as u8).collect());
         let passed = self.whole(i, &mut rng, &given, &start, case.limit);
         for turn in 0..12 {
             let mut tour = passed[rng.below(passed.len() as u64) as usize].clone();
@@ -514,7 +539,7 @@ impl Compared {
             let gets = Line { operations: vec![row(3, 3, 0, &[named("W"), (1, 1)])], goto: 2, ..Line::default() };
             let lines = vec![Line { operations: vec![set_up], ..Line::default() }, gets];
             let given = Given { table: Case { lines, ..Case::default() }.table(), input: vec![] };
-            let start = Tour::fresh(vec![u64::MAX; 4100], vec![]);
+            let start = Tour::fresh(if d % 3 == 1 { 36 } else { 48 }, vec![u64::MAX; 4100], vec![]);
             for tour in self.whole(d, &mut Rng(d), &given, &start, 100) { self.blocks(&HEADER, &tour) }
         }
     }
@@ -527,7 +552,7 @@ fn main() {
     compared.constants();
     compared.label = "large set-ups".to_string();
     compared.large();
-    for (i, trial) in comparison::fixed().iter().enumerate() {
+    for (i, trial) in [comparison::fixed(36), comparison::fixed(48)].concat().iter().enumerate() {
         compared.label = format!("case {i} of comparison");
         let (engine, raw) = trial.started();
         let given = Given { table: engine.lent.table, input: engine.lent.input };
@@ -569,18 +594,17 @@ fn main() {
     println!("{LISTS} lists saved, as many loaded, and as many of corrections, each by three calls");
     let [yes, no, length, rows, kinds] = compared.checked;
     println!("{DRAFTS} drafts checked: {yes} yes ({} in a hundred), {no} no, {kinds} by 30, {rows} ill-formed, {length} by 1; {} runs of those with a yes, {} of them with references to fields", 100 * yes / DRAFTS, compared.runs, compared.used);
-    let [tables, lines, labels, lengths] = compared.read;
-    println!("{TEXTS} texts read, each by three calls: {tables} tables, {lines} by 23, {labels} by 24, {lengths} by 25; the tables printed and read again");
+    let [tables, lines, labels, lengths, widths] = compared.read;
+    println!("{TEXTS} texts read, each by three calls: {tables} tables, {lines} by 23, {labels} by 24, {lengths} by 25, {widths} by 31; the tables printed and read again");
     for (answer, count) in compared.answers.iter().enumerate() {
         match answer {
             0 => println!("running, or done: {count} calls"),
             100 => println!("finished: {count}"),
             101..=103 => println!("wrong length, {answer}: {count}"),
             104 => println!("closed: {count}"),
-            105 => println!("no width, 105: {count}"),
             106 => println!("a field not defined: {count}"),
             107 => println!("an ill-formed row: {count}"),
-            1..=30 | 32..=35 => println!("refusal {answer}: {count}"),
+            1..=35 => println!("refusal {answer}: {count}"),
             _ if *count > 0 => println!("an unknown answer, {answer}: {count}"),
             _ => {}
         }

@@ -3,9 +3,9 @@
 //! The input is numbers, each in groups of seven bits, the lowest first, every byte but the last with 128 added: how many
 //! cases there are; then for each case how many numbers it has, these, the length of its label and its characters. The
 //! numbers of a case are the lengths of the table, the input, the storage and the output, the steps before the damages, how
-//! many damages there are, the limit of the steps after them, then the table, the input, and for each damage the index of a byte
-//! of the state and its new value (from 6,675 on, of a word of the storage). After the cases stands for each count what it is of,
-//! its length before it.
+//! many damages there are, the limit of the steps after them, the width, then the table, the input, and for each damage the index of a byte
+//! of the state and its new value (from 6,676 on, of a word of the storage). After the cases stands for each count of the cases of 36
+//! bits, and then of 48, what it is of, its length before it.
 //!
 //! A case starts from a fresh engine over a storage and an output of known patterns. After the steps and damages that it
 //! begins with, it is stepped until its limit, a finish or a refusal; and from the start again, run with that limit.
@@ -16,20 +16,21 @@ use crate::raw::*;
 
 #[derive(Clone, Default)]
 pub struct Trial {
-    label: String, table: Vec<u64>, input: Vec<u8>, storage: usize, output: usize,
+    bits: u64, label: String, table: Vec<u64>, input: Vec<u8>, storage: usize, output: usize,
     before: u64, damages: Vec<Damage>, pub limit: u64,
 }
 
 impl Trial {
     fn of(label: &str, case: &Case) -> Trial {
-        let Case { input, storage, output, limit, .. } = case.clone();
-        Trial { label: label.to_string(), table: case.table(), input, storage, output, limit, ..Trial::default() }
+        let Case { bits, input, storage, output, limit, .. } = case.clone();
+        let label = if bits == 36 { label.to_string() } else { format!("{label}, {bits} bits") };
+        Trial { bits, label, table: case.table(), input, storage, output, limit, ..Trial::default() }
     }
     fn numbers(&self) -> Vec<u64> {
         let lengths = [self.table.len(), self.input.len(), self.storage, self.output];
         let damages: Vec<(usize, u64)> = self.damages.iter().flat_map(|d| d.bytes()).collect();
         let mut all = lengths.map(|n| n as u64).to_vec();
-        all.extend([self.before, damages.len() as u64, self.limit]);
+        all.extend([self.before, damages.len() as u64, self.limit, self.bits]);
         all.extend(&self.table);
         all.extend(self.input.iter().map(|&byte| byte as u64));
         all.extend(damages.iter().flat_map(|&(index, value)| [index as u64, value]));
@@ -39,8 +40,8 @@ impl Trial {
     pub fn started(&self) -> (Engine, Raw) {
         let storage: Vec<u64> = (1..=self.storage as u64).map(next).collect();
         let output: Vec<u8> = (0..self.output).map(|i| 128 + (i % 128) as u8).collect();
-        let mut engine = Engine::fresh(self.table.clone(), self.input.clone(), vec![], self.output);
-        let mut raw = Raw::fresh(storage, output);
+        let mut engine = Engine::fresh(self.table.clone(), self.input.clone(), vec![], self.output, self.bits);
+        let mut raw = Raw::fresh(self.bits, storage, output);
         for _ in 0..self.before { if raw.step(&mut engine).0 != Answer::Running { break; } }
         self.damages.iter().for_each(|&damage| raw.change(damage));
         (engine, raw)
@@ -85,7 +86,7 @@ const OPERATIONS: [&str; 36] = [
 const TESTS: [&str; 7] = ["equal", "unequal", "greater", "less", "same pointer", "ones", "zeros"];
 const MODES: [&str; 5] = ["THEN", "IFALL", "IFANY", "IFNONE", "IFNALL"];
 
-/// What each count is of, in the order of the counts.
+/// What each count is of for a width, in the order of the counts.
 fn names() -> Vec<String> {
     let mut names: Vec<String> = (1..).zip(OPERATIONS).map(|(code, name)| format!("operation {code}, {name}")).collect();
     for (code, name) in (1..).zip(TESTS) {
@@ -97,6 +98,7 @@ fn names() -> Vec<String> {
     for k in 0..8 { names.push(format!("set up with d {}", 1 << k)) }
     for what in ["a bug", "a whole word", "a narrow field", "a null field"] { names.push(format!("store into {what}")) }
     for what in ["no free block", "a free block too small"] { names.push(format!("refusal 17 with {what}")) }
+    names.push("refusal 31".to_string());
     names
 }
 /// The counts that a step adds to; `before` is the place that it was taken from.
@@ -105,7 +107,7 @@ fn reached(table: &[u64], before: [u64; 3], after: &Raw, answer: Answer, report:
     let [kind, row, line] = before;
     if let Answer::Refused(k) = answer {
         let free = after.map.iter().any(|tag| tag % 2 == 1) as usize;
-        return if k == 17 { vec![75, 93 + free] } else { vec![58 + k as usize] };
+        return match k { 17 => vec![75, 93 + free], 31 => vec![95], _ => vec![58 + k as usize] };
     }
     if kind == 0 {
         let (mode, test, satisfied) = (number(line, 2), number(line, 4) as u64, matches!(after.place[0], 1 | 2));
@@ -118,70 +120,74 @@ fn reached(table: &[u64], before: [u64; 3], after: &Raw, answer: Answer, report:
     let code = number(row, 2);
     let mut all = vec![code - 1];
     if code == 1 { all.push(81 + after.setup[0].trailing_zeros() as usize) }
-    if matches!(code, 6 | 8..=24 | 26..=31 | 33) { all.push(stored(number(row, 5) as u64, report.first)) }
+    if matches!(code, 6 | 8..=24 | 26..=31 | 33) { all.push(stored(number(row, 5) as u64, report.first, after.width)) }
     all
 }
 /// The count of a first store, by its destination's reference and its report.
-fn stored(reference: u64, store: Store) -> usize {
-    if reference < 64 { 89 } else if store.address == 0 { 92 } else if store.right - store.left == 35 { 90 } else { 91 }
+fn stored(reference: u64, store: Store, bits: u64) -> usize {
+    if reference < 64 { 89 } else if store.address == 0 { 92 } else if store.right + 1 == bits + store.left { 90 } else { 91 }
 }
 
 // ---------------------------------------------------------------- the cases
 
 fn literal(value: u64) -> (u64, u64) { (1, value) }
 /// Set-up with d = 8, s1 = 8, s2 = 23, then the operations in one line; and more lines.
-fn bench_case(operations: &[Row], more: &[Line]) -> Case {
+fn bench_case(bits: u64, operations: &[Row], more: &[Line]) -> Case {
     let set_up = row(3, 1, 0, &[literal(8), literal(8), literal(23)]);
     let first = Line { operations: [&[set_up], operations].concat(), ..Line::default() };
     let lines = [&[first], more].concat();
-    Case { lines, input: vec![1, 2, 3, 4, 5, 6, 7], storage: 20, output: 40, limit: 100, ..Case::default() }
+    Case { bits, lines, input: vec![1, 2, 3, 4, 5, 6, 7, 8, 9], storage: 20, output: 40, limit: 100, ..Case::default() }
 }
-/// The bench cases without a star. What is to be equal is tested, and the divisor is 0 if it is not.
-fn bench() -> Vec<Trial> {
+/// The bench cases without a star, and the like at 48 bits. What is to be equal is tested, and the divisor is 0 if it is not.
+fn bench(bits: u64) -> Vec<Trial> {
+    let (count, wrap) = (bits / 6, 10u64.pow(bits as u32 / 6));
     let (x, y) = (named("X"), named("Y"));
     let decimal = |bug, value| [row(3, 6, 0, &[bug, literal(value)]), row(3, 29, 0, &[bug, bug])];
     let unequal = Line {
         mode: 1, tests: vec![row(2, 2, 0, &[x, y])], operations: vec![row(3, 11, 0, &[x, literal(0)])], ..Line::default()
     };
-    let input = |count| bench_case(&[row(3, 24, 0, &[x, literal(count)])], &[]);
+    let input = |count| bench_case(bits, &[row(3, 24, 0, &[x, literal(count)])], &[]);
     let print = [3, 0, 25, 0, 1, 2, 1, 7, 0, 0];
     let example = [[0; 10], [1, 0, 0, 0, 0, 2, 0, 0, 0, 0], [3, 3, 1, 0, 1, 8, 1, 8, 1, 23], print].concat();
-    let example = Case { table: Some(example), storage: 4096, output: 4096, limit: 100_000, ..Case::default() };
+    let example = Case { bits, table: Some(example), storage: 4096, output: 4096, limit: 100_000, ..Case::default() };
     vec![
-        Trial::of("1,000,607 converts as 607", &bench_case(&[decimal(x, 1_000_607), decimal(y, 607)].concat(), &[unequal])),
-        Trial::of("six input characters", &input(6)),
-        Trial::of("seven input characters", &input(7)),
+        Trial::of(
+            &format!("{} converts as 607", wrap + 607),
+            &bench_case(bits, &[decimal(x, wrap + 607), decimal(y, 607)].concat(), &[unequal]),
+        ),
+        Trial::of(&format!("{count} input characters"), &input(count)),
+        Trial::of(&format!("{} input characters", count + 1), &input(count + 1)),
         Trial::of("the example of tourrun", &example),
-        Trial::of("six characters where there are no stops yet", &Case { input: vec![], ..input(6) }),
-        Trial::of("seven characters where there are no stops yet", &Case { input: vec![], ..input(7) }),
+        Trial::of(&format!("{count} characters where there are no stops yet"), &Case { input: vec![], ..input(count) }),
+        Trial::of(&format!("{} characters where there are no stops yet", count + 1), &Case { input: vec![], ..input(count + 1) }),
     ]
 }
 /// Tables of each length at the bounds of refusal 1, their rows after the first two zero.
-fn lengths() -> Vec<Trial> {
+fn lengths(bits: u64) -> Vec<Trial> {
     let of = |&length: &usize| {
         let mut table = [[0; 10], [1, 0, 0, 0, 0, 0, DONE, 0, 0, 0]].concat();
         table.resize(length, 0);
-        let case = Case { table: Some(table), storage: 4, output: 4, limit: 9, ..Case::default() };
+        let case = Case { bits, table: Some(table), storage: 4, output: 4, limit: 9, ..Case::default() };
         Trial::of(&format!("table of {length} numbers"), &case)
     };
     [0, 10, 19, 20, 21, 8000, 8010].iter().map(of).collect()
 }
 /// For each d a set-up whose last address is 32767, and blocks of d words until there are none. Then for each d a list of
 /// blocks of one word over the whole storage, of which every other one is freed, and two words wanted.
-fn storages() -> Vec<Trial> {
+fn storages(bits: u64) -> Vec<Trial> {
     let (w, x, z, link) = (named("W"), named("X"), named("Z"), named("WA"));
     let mut trials = vec![];
     for d in (0..8).map(|k| 1 << k) {
         let first = |n| Line {
             operations: vec![
                 row(3, 1, 0, &[literal(d), literal(32768 - n), literal(32767)]),
-                row(3, 2, 10, &[literal(0), literal(18), literal(35)]),
+                row(3, 2, 10, &[literal(0), literal(bits - 18), literal(bits - 1)]),
             ],
             ..Line::default()
         };
         let case = |n: u64, lines: &[Line]| {
             let lines = [&[first(n)], lines].concat();
-            Case { lines, storage: n as usize + 3, limit: 5000, ..Case::default() }
+            Case { bits, lines, storage: n as usize + 3, limit: 5000, ..Case::default() }
         };
         let gets = Line { operations: vec![row(3, 3, 0, &[w, literal(d), link])], goto: 2, ..Line::default() };
         trials.push(Trial::of(&format!("full, d {d}"), &case(32 * d, &[gets])));
@@ -205,12 +211,12 @@ fn storages() -> Vec<Trial> {
 
 /// Eleven steps of this program leave an entry in each stack, two characters taken and three written, a live block of four
 /// words and free ones of four and eight, field A a whole word and field B narrow. The place is then row 12 of line 11.
-fn base() -> Case {
+fn base(bits: u64) -> Case {
     let (w, x) = (named("W"), named("X"));
     let add = |n| row(3, 8, 0, &[x, literal(n)]);
-    let mut case = bench_case(&[
-        row(3, 2, 10, &[literal(0), literal(0), literal(35)]),
-        row(3, 2, 11, &[literal(1), literal(18), literal(35)]),
+    let mut case = bench_case(bits, &[
+        row(3, 2, 10, &[literal(0), literal(0), literal(bits - 1)]),
+        row(3, 2, 11, &[literal(1), literal(bits - 18), literal(bits - 1)]),
         row(3, 3, 0, &[w, literal(4), named("WB")]),
         row(3, 32, 0, &[w]),
         row(3, 34, 10, &[]),
@@ -222,13 +228,13 @@ fn base() -> Case {
     case
 }
 /// A state that no run gives: damages after so many steps of the program above.
-fn damaged(before: u64, label: &str, damages: &[(What, usize, u64)]) -> Trial {
+fn damaged(bits: u64, before: u64, label: &str, damages: &[(What, usize, u64)]) -> Trial {
     let damages = damages.iter().map(|&(what, index, value)| Damage { what, index, value }).collect();
-    Trial { before, damages, limit: 9, ..Trial::of(label, &base()) }
+    Trial { before, damages, limit: 9, ..Trial::of(label, &base(bits)) }
 }
 /// Set-up numbers broken alone, for which the blocks and words around them have to be changed too. No map tells blocks past
 /// 4,096 words, so that n is broken together with them.
-fn set_ups() -> Vec<Trial> {
+fn set_ups(bits: u64) -> Vec<Trial> {
     use crate::raw::What::*;
     let mut three = vec![(SetUp, 0, 3), (SetUp, 1, 9), (SetUp, 2, 23)];
     three.extend((0..15).map(|i| (Map, i, 2)));
@@ -238,22 +244,22 @@ fn set_ups() -> Vec<Trial> {
     long.extend((4096..4224).map(|i| (Storage, i, 0)));
     let set_up = row(3, 1, 0, &[literal(128), literal(128), literal(4223)]);
     let line = Line { operations: vec![set_up], ..Line::default() };
-    let Trial { damages, limit, .. } = damaged(2, "", &long);
-    let whole = Trial::of("n above 4,096", &Case { lines: vec![line], storage: 4224, ..Case::default() });
+    let Trial { damages, limit, .. } = damaged(bits, 2, "", &long);
+    let whole = Trial::of("n above 4,096", &Case { bits, lines: vec![line], storage: 4224, ..Case::default() });
     vec![
-        damaged(11, "d no power of two", &three),
-        Trial { storage: 256, ..damaged(11, "d of 256", &large) },
+        damaged(bits, 11, "d no power of two", &three),
+        Trial { storage: 256, ..damaged(bits, 11, "d of 256", &large) },
         Trial { before: 2, damages, limit, ..whole },
     ]
 }
-/// Each clause of refusal 11 broken alone, and states as near that are sound.
-fn clauses() -> Vec<Trial> {
+/// Each clause of refusal 11 broken alone, states as near that are sound, and widths that are none.
+fn clauses(bits: u64) -> Vec<Trial> {
     use crate::raw::What::*;
-    let big = 1 << 36;
+    let big = 1 << bits;
     let all: &[(u64, &str, &[(What, usize, u64)])] = &[
         // unsound
-        (11, "a bug of 2^36", &[(Bug, 25, big)]),
-        (11, "a set-up word of 2^36", &[(Storage, 15, big)]),
+        (11, "a bug of 2^b", &[(Bug, 25, big)]),
+        (11, "a set-up word of 2^b", &[(Storage, 15, big)]),
         (11, "d of 0 after a set-up", &[(SetUp, 0, 0)]),
         (11, "s1 zero", &[(SetUp, 1, 0), (SetUp, 2, 15)]),
         (11, "s1 no multiple of d", &[(SetUp, 1, 12), (SetUp, 2, 27), (Map, 4, 7), (Map, 8, 0), (Map, 12, 5)]),
@@ -262,8 +268,8 @@ fn clauses() -> Vec<Trial> {
         (11, "n no multiple of d", &[(SetUp, 2, 19), (Map, 8, 5)]),
         (11, "n above the lent storage", &[(SetUp, 2, 31), (Map, 16, 7)]),
         (11, "a definition's word of 128", &[(Definition, 41, 128)]),
-        (11, "a definition's left bit of 36", &[(Definition, 42, 36)]),
-        (11, "a definition's right bit of 36", &[(Definition, 43, 36)]),
+        (11, "a definition's left bit of b", &[(Definition, 42, bits)]),
+        (11, "a definition's right bit of b", &[(Definition, 43, bits)]),
         (11, "a field defined with a word of 255", &[(Definition, 140, 1), (Definition, 141, 255)]),
         (11, "a place of kind 4", &[(Place, 0, 4)]),
         (11, "a place of kind 3 with a line", &[(Place, 0, 3), (Place, 1, 0)]),
@@ -277,10 +283,10 @@ fn clauses() -> Vec<Trial> {
         (11, "129 contents", &[(Count, 0, 129)]),
         (11, "129 saved definitions", &[(Count, 1, 129)]),
         (11, "129 saved places", &[(Count, 2, 129)]),
-        (11, "contents of 2^36 saved", &[(Contents, 0, big)]),
+        (11, "contents of 2^b saved", &[(Contents, 0, big)]),
         (11, "a saved definition's word of 128", &[(Saved, 1, 128)]),
-        (11, "a saved definition's left bit of 36", &[(Saved, 2, 36)]),
-        (11, "a saved definition's right bit of 36", &[(Saved, 3, 36)]),
+        (11, "a saved definition's left bit of b", &[(Saved, 2, bits)]),
+        (11, "a saved definition's right bit of b", &[(Saved, 3, bits)]),
         (11, "a saved place of kind 4", &[(Calls, 0, 4)]),
         (11, "a saved place that is finished", &[(Calls, 0, 3), (Calls, 2, 0)]),
         (11, "a saved place of line 0", &[(Calls, 2, 0)]),
@@ -305,16 +311,21 @@ fn clauses() -> Vec<Trial> {
         (1, "s2 before the set-up", &[(SetUp, 2, 23)]),
         (0, "a fresh engine at row 0", &[(Place, 2, 0)]),
         (11, "unsound and finished", &[(Place, 0, 3), (Place, 1, 0), (Place, 2, 0), (Bug, 0, big)]),
-        // sound
+        (11, "of width 0", &[(Width, 0, 0)]),
+        (11, "of width 40", &[(Width, 0, 40)]),
+        (11, "of width 40, unsound and finished", &[(Width, 0, 40), (Place, 0, 3), (Bug, 0, u64::MAX)]),
+        (0, "a fresh engine of width 47", &[(Width, 0, 47)]),
+        // sound, but for those whose words are too wide for the other width
+        (11, "of the other width", &[(Width, 0, 84 - bits)]),
         (11, "no damage", &[]),
-        (11, "a bug of 2^36 - 1", &[(Bug, 25, big - 1)]),
-        (11, "a set-up word of 2^36 - 1", &[(Storage, 15, big - 1)]),
-        (11, "a word of 2^36 past the set-up words", &[(Storage, 16, big)]),
-        (1, "a word of 2^36 before the set-up", &[(Storage, 0, big)]),
+        (11, "a bug of 2^b - 1", &[(Bug, 25, big - 1)]),
+        (11, "a set-up word of 2^b - 1", &[(Storage, 15, big - 1)]),
+        (11, "a word of 2^b past the set-up words", &[(Storage, 16, big)]),
+        (1, "a word of 2^b before the set-up", &[(Storage, 0, big)]),
         (11, "the set-up moved", &[(SetUp, 1, 32752), (SetUp, 2, 32767)]),
         (11, "a definition's word of 127", &[(Definition, 45, 127)]),
-        (11, "a null field", &[(Definition, 46, 35), (Definition, 47, 0)]),
-        (11, "an undefined field's numbers", &[(Definition, 141, 255), (Definition, 142, 36), (Definition, 143, 99)]),
+        (11, "a null field", &[(Definition, 46, bits - 1), (Definition, 47, 0)]),
+        (11, "an undefined field's numbers", &[(Definition, 141, 255), (Definition, 142, bits), (Definition, 143, 99)]),
         (11, "a place at an operation of row 799", &[(Place, 1, 799)]),
         (11, "a place of line 799", &[(Place, 2, 799)]),
         (11, "a place at the tests of line 1", &[(Place, 0, 0), (Place, 1, 0), (Place, 2, 1)]),
@@ -332,16 +343,16 @@ fn clauses() -> Vec<Trial> {
         (11, "the live block made free", &[(Map, 0, 7), (Map, 4, 0)]),
         (11, "blocks of one word", &[(Map, 4, 1), (Map, 5, 2), (Map, 6, 2), (Map, 7, 1)]),
     ];
-    let mut trials: Vec<Trial> = all.iter().map(|&(before, label, damages)| damaged(before, label, damages)).collect();
-    trials.extend(set_ups());
-    let short = Trial { table: vec![0; 19], ..damaged(0, "unsound, and a table of 19 numbers", &[(Bug, 0, big)]) };
+    let mut trials: Vec<Trial> = all.iter().map(|&(before, label, damages)| damaged(bits, before, label, damages)).collect();
+    trials.extend(set_ups(bits));
+    let short = Trial { table: vec![0; 19], ..damaged(bits, 0, "unsound, and a table of 19 numbers", &[(Bug, 0, big)]) };
     trials.push(short.clone());
-    let end = damaged(0, "finished, and a table of 19 numbers", &[(Place, 0, 3), (Place, 2, 0)]);
+    let end = damaged(bits, 0, "finished, and a table of 19 numbers", &[(Place, 0, 3), (Place, 2, 0)]);
     trials.push(Trial { table: short.table, ..end });
     trials
 }
 /// Full stacks: 128 entries that are all in range, and a step that saves one more or takes one off.
-fn full_stacks() -> Vec<Trial> {
+fn full_stacks(bits: u64) -> Vec<Trial> {
     let (w, name) = (named("W"), 10);
     let rows = [
         row(3, 32, 0, &[w]), row(3, 33, 0, &[w]), row(3, 34, name, &[]), row(3, 35, name, &[]), row(3, 36, 0, &[literal(2)]),
@@ -352,23 +363,23 @@ fn full_stacks() -> Vec<Trial> {
         let counts = (0..3).map(|i| Damage { what: What::Count, index: i, value: 128 });
         let lines = (0..128).map(|i| Damage { what: What::Calls, index: 3 * i + 2, value: 1 });
         let damages = counts.chain(lines).collect();
-        Trial { before: 3, damages, limit: 3, ..Trial::of(&format!("full stacks, {label}"), &bench_case(&[], &more)) }
+        Trial { before: 3, damages, limit: 3, ..Trial::of(&format!("full stacks, {label}"), &bench_case(bits, &[], &more)) }
     }).collect()
 }
 /// A generated program whose state is damaged at one number (or those that belong together) after some steps of it.
-fn drawn_damage(seed: u64, i: u64) -> Trial {
+fn drawn_damage(bits: u64, seed: u64, i: u64) -> Trial {
     let mut rng = Rng(!seed ^ i << 32);
-    let case = make(seed, i);
+    let case = make(bits, seed, i);
     let mut trial = Trial::of("generated, damaged", &case);
     let steps = case.engine().run(case.limit).1;
     trial.before = rng.below(steps);
     let (_, raw) = trial.started();
     let [d, s1, s2] = raw.setup;
-    let word = |rng: &mut Rng| rng.pick(&[0, s1, (1 << 36) - 1, 1 << 36, u64::MAX]);
-    let four = |rng: &mut Rng| [1, rng.pick(&[0, 1, 127, 128]), rng.pick(&[0, 35, 36]), rng.pick(&[0, 17, 35, 36])];
+    let word = |rng: &mut Rng| rng.pick(&[0, s1, (1 << bits) - 1, 1 << bits, u64::MAX]);
+    let four = |rng: &mut Rng| [1, rng.pick(&[0, 1, 127, 128]), rng.pick(&[0, bits - 1, bits]), rng.pick(&[0, 17, bits - 1, bits])];
     let three = |rng: &mut Rng| [rng.below(4), rng.pick(&[0, 1, 2, 3, 799, 800]), rng.pick(&[0, 1, 1, 2, 799, 800])];
     let entry = |rng: &mut Rng, i: usize| rng.below(raw.counts[i].max(1)) as usize;
-    let (what, first, values): (What, usize, Vec<u64>) = match rng.below(14) {
+    let (what, first, values): (What, usize, Vec<u64>) = match rng.below(15) {
         0 => (What::Place, 0, three(&mut rng).to_vec()),
         1 => (What::Bug, rng.below(26) as usize, vec![word(&mut rng)]),
         2 => (What::Definition, 4 * rng.below(36) as usize, four(&mut rng).to_vec()),
@@ -379,6 +390,7 @@ fn drawn_damage(seed: u64, i: u64) -> Trial {
         7 => (What::SetUp, 0, rng.pick(&[[d, s1 + d, s2 + d], [2 * d, s1, s2], [d, s1, s2 + d], [d / 2, s1, s2]]).to_vec()),
         8 => (What::Stream, 0, vec![trial.input.len() as u64 + rng.below(2)]),
         9 => (What::Stream, 1, vec![trial.output as u64 + rng.below(2)]),
+        11 => (What::Width, 0, vec![rng.pick(&[0, 35, 37, 40, 47, 49, 84 - bits])]),
         10 => (What::Storage, rng.below(trial.storage as u64) as usize, vec![word(&mut rng)]),
         _ => (What::Map, rng.below(s2 + 2 - s1) as usize, vec![rng.below(18)]),
     };
@@ -388,14 +400,22 @@ fn drawn_damage(seed: u64, i: u64) -> Trial {
     trial
 }
 /// The cases above that are not drawn.
-pub fn fixed() -> Vec<Trial> { [bench(), lengths(), storages(), clauses(), full_stacks()].concat() }
-/// All cases: those, then generated programs, of which the last quarter with damaged states.
+pub fn fixed(bits: u64) -> Vec<Trial> {
+    [bench(bits), lengths(bits), storages(bits), clauses(bits), full_stacks(bits)].concat()
+}
+/// All cases: of each width those, then generated programs, of which the last quarter with damaged states.
 fn trials(seed: u64, count: u64) -> Vec<Trial> {
-    let mut all = fixed();
-    for i in 0..count {
-        all.push(if i < count / 4 * 3 { Trial::of("generated", &make(seed, i)) } else { drawn_damage(seed, i) });
+    let mut all = vec![];
+    for bits in [36, 48] {
+        all.extend(fixed(bits));
+        let drawn = |i| if i < count / 4 * 3 { Trial::of("generated", &make(bits, seed, i)) } else { drawn_damage(bits, seed, i) };
+        all.extend((0..count).map(drawn));
     }
     all
+}
+/// The names of all counts: those of 36 bits, and then of 48.
+fn all_names() -> Vec<String> {
+    ["36", "48"].iter().flat_map(|bits| names().into_iter().map(move |name| format!("{bits} bits, {name}"))).collect()
 }
 
 // ---------------------------------------------------------------- what is written
@@ -411,7 +431,7 @@ pub fn stdin(seed: u64, count: u64) -> Vec<u8> {
         numbers.extend(its);
         numbers.extend(text(&trial.label));
     }
-    names().iter().for_each(|name| numbers.extend(text(name)));
+    all_names().iter().for_each(|name| numbers.extend(text(name)));
     numbers.into_iter().flat_map(seven_bits).collect()
 }
 fn seven_bits(mut number: u64) -> Vec<u8> {
@@ -425,7 +445,7 @@ fn seven_bits(mut number: u64) -> Vec<u8> {
 }
 /// What the program must print: a line for each case, then a line for each count.
 pub fn stdout(seed: u64, count: u64) -> String {
-    let (names, mut text) = (names(), String::new());
+    let (names, mut text) = (all_names(), String::new());
     let mut counts = vec![0; names.len()];
     for (i, trial) in trials(seed, count).iter().enumerate() {
         let (mut engine, mut raw) = trial.started();
@@ -436,7 +456,7 @@ pub fn stdout(seed: u64, count: u64) -> String {
             (answer, report) = raw.step(&mut engine);
             steps += 1;
             sum = step_sum(sum, answer, raw.place, &report);
-            for which in reached(&trial.table, before, &raw, answer, &report) { counts[which] += 1 }
+            for which in reached(&trial.table, before, &raw, answer, &report) { counts[which + if trial.bits == 48 { names.len() / 2 } else { 0 }] += 1 }
         }
         let word = match answer {
             Answer::Running => "running".to_string(),

@@ -10,12 +10,12 @@ fn number(rng: &mut Rng) -> u64 {
         0 => rng.next() >> rng.below(64),
         1 => rng.below(40),
         2 => rng.pick(&[799, 800, DONE - 1, DONE, 32767, 32768, 4096, u64::MAX]),
-        _ => (1 << 36) - 1 + rng.below(2),
+        _ => rng.pick(&[(1 << 36) - 1, (1 << 48) - 1]) + rng.below(2),
     }
 }
 /// A byte of a part of the state: where it stands. In a stack it mostly belongs to a used entry, in the map to a set-up word.
 fn place_in(rng: &mut Rng, state: &[u8]) -> usize {
-    let part = rng.below(PARTS.len() as u64) as usize;
+    let part = rng.below(PARTS.len() as u64) as usize; // the width is a part of its own
     let end = PARTS.get(part + 1).copied().unwrap_or(STATE);
     let count = |i: usize| state[PARTS[3] + 8 * i] as usize;
     let near = match part {
@@ -39,7 +39,7 @@ fn spoil_state(rng: &mut Rng, state: &mut [u8]) {
     let i = place_in(rng, state);
     state[i] = match rng.below(4) {
         0 | 1 => state[i] ^ 1 << rng.below(8),
-        2 => rng.pick(&[0, 1, 2, 3, 4, 5, 10, 35, 36, 127, 128, 255]),
+        2 => rng.pick(&[0, 1, 2, 3, 4, 5, 10, 35, 36, 47, 48, 127, 128, 255]),
         _ => state[i].wrapping_add(rng.pick(&[1, 255])),
     }
 }

@@ -4,7 +4,7 @@ use crate::engine::{well_formed, Row, DONE};
 use std::collections::HashSet;
 
 #[derive(Clone, Copy, Debug, PartialEq, Eq)]
-pub enum Finding { Yes, No(u64, u64), BadLength, IllFormed(u64), WrongKind(u64) }
+pub enum Finding { Yes, NoWidth, No(u64, u64), BadLength, IllFormed(u64), WrongKind(u64) }
 
 /// A place of a path: a line, a test or an operation of a line, or a line's exit.
 #[derive(Clone, Copy, PartialEq, Eq, Hash)]
@@ -92,13 +92,14 @@ impl Table {
     }
 }
 
-/// The whole check: 1, the lowest ill-formed row, 30, then yes or no.
-pub fn check(table: &[u64]) -> Finding {
+/// The whole check at a width: 31, 1, the lowest ill-formed row, 30, then yes or no.
+pub fn check(bits: u64, table: &[u64]) -> Finding {
+    if bits != 36 && bits != 48 { return Finding::NoWidth; }
     let n = table.len();
     if n < 20 || n > 8000 || n % 10 != 0 { return Finding::BadLength; }
     let table = Table { rows: table.chunks(10).map(|row| row.try_into().unwrap()).collect() };
     let count = table.rows.len() as u64;
-    if let Some(r) = (1..count).find(|&r| !well_formed(table.row(r), r, count)) { return Finding::IllFormed(r); }
+    if let Some(r) = (1..count).find(|&r| !well_formed(table.row(r), r, count, bits)) { return Finding::IllFormed(r); }
     if table.kind(1) != 1 { return Finding::WrongKind(1); }
     if let Some(r) = (1..count).find(|&r| !table.names(r)) { return Finding::WrongKind(r); }
     let returns = table.returns();

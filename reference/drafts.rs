@@ -180,9 +180,10 @@ pub fn fold(sum: u64, result: u64) -> u64 {
 pub fn stdout(seed: u64, drawn: u64) -> String {
     let (mut text, mut counts, mut sum) = (String::new(), [0; 5], 0);
     for (label, table) in all(seed, drawn) {
-        let (kind, told, words) = match check(&table) {
+        let (kind, told, words) = match check(36, &table) {
             Finding::Yes => (0, 0, "yes".to_string()),
             Finding::No(row, field) => (1, fold(fold(3, row), field), format!("no, row {row}, field {field}")),
+            Finding::NoWidth => unreachable!(),
             Finding::BadLength => (2, 1, "refusal 1".to_string()),
             Finding::IllFormed(row) => (3, fold(2, row), format!("ill-formed, row {row}")),
             Finding::WrongKind(row) => (4, fold(30, row), format!("refusal 30, row {row}")),

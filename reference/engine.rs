@@ -1,5 +1,5 @@
-//! An independent reference engine for the L6 tour engine of document 01 (01-scope.md), written only to be compared
-//! with. It favours plainness: a step works on a clone of the state, and the clone is kept only if not refused.
+//! An independent reference engine for the L6 tour engine of document 01 (01-scope.md), of words of either width (document 02, ticket 9),
+//! written only to be compared with. It favours plainness: a step works on a clone of the state, and the clone is kept only if not refused.
 //! Refusal 11 is judged in raw.rs, on a state as numbers: the lists here cannot hold most states that break it.
 use std::convert::TryInto;
 
@@ -12,7 +12,7 @@ pub const STACK: usize = 128; // "Three stacks, 128 entries each"
 #[derive(Clone, Copy, PartialEq)] pub enum Answer { Running, Finished, Refused(Refusal) }
 /// Steps: "A place is a line's tests, one operation (its row and its line's), or a line's exit".
 #[derive(Clone, Copy, PartialEq)] pub enum Place { Tests(u64), Operation(u64, u64), Exit(u64), Finished }
-/// Fields: "a word (0-127), a left and a right bit (0-35)".
+/// Fields: "a word (0-127), a left and a right bit (0-35)"; to 47 at 48 bits.
 #[derive(Clone, Copy)] pub struct Field { pub word: u64, pub left: u64, pub right: u64 }
 #[derive(Clone, Copy, PartialEq)] pub struct Block { pub start: u64, pub size: u64 }
 /// An operand that has been located.
@@ -30,6 +30,7 @@ pub struct Tally { pub operations: [u64; 37], pub tests: [[u64; 2]; 8], pub mode
 /// What is lent and only read, and the length of the lent output.
 pub struct Lent { pub table: Vec<u64>, pub input: Vec<u8>, pub output: usize }
 #[derive(Clone)] pub struct State {
+    pub bits: u64, // of a word: 36 or 48
     pub storage: Vec<u64>, pub setup: Option<(u64, u64, u64)>, pub live: Vec<Block>, pub free: Vec<Block>,
     pub bugs: [u64; 26], pub fields: [Option<Field>; 36],
     pub contents: Vec<u64>, pub definitions: Vec<Option<Field>>, pub returns: Vec<Place>,
@@ -65,10 +66,10 @@ pub fn forms(code: u64) -> &'static str {
     }
 }
 /// The table: "0 absent, 1 literal below 2^36, 2 reference"; "Unused numbers are zero".
-fn operands_formed(row: &Row, wanted: &str, rows: u64) -> bool {
+fn operands_formed(row: &Row, wanted: &str, rows: u64, bits: u64) -> bool {
     wanted.chars().zip(row[4..].chunks(2)).all(|(wanted, pair)| {
         let (form, value) = (pair[0], pair[1]);
-        let (absent, literal) = (form == 0 && value == 0, form == 1 && value < 1 << 36);
+        let (absent, literal) = (form == 0 && value == 0, form == 1 && value < 1 << bits);
         let reference = form == 2 && names_of(value).is_some();
         match wanted {
             'a' | 'c' => reference,
@@ -88,23 +89,23 @@ fn line_formed(row: &Row, rows: u64) -> bool {
         && (mode == 0) == (test == 0) && (operation != 0 || goto != 0)
 }
 /// The table: "A row is ill-formed when it breaks this section or its code's operands".
-pub fn well_formed(row: &Row, number: u64, rows: u64) -> bool {
+pub fn well_formed(row: &Row, number: u64, rows: u64, bits: u64) -> bool {
     let [kind, next, code, name, ..] = *row;
     let highest_name = if matches!(code, 2 | 34 | 35) { 35 } else { 0 };
     (next == 0 || next > number && next < rows) && match kind {
         1 => line_formed(row, rows),
-        2 => (1..=7).contains(&code) && name == 0 && operands_formed(row, "cx-", rows),
-        3 => (1..=36).contains(&code) && name <= highest_name && operands_formed(row, forms(code), rows),
+        2 => (1..=7).contains(&code) && name == 0 && operands_formed(row, "cx-", rows, bits),
+        3 => (1..=36).contains(&code) && name <= highest_name && operands_formed(row, forms(code), rows, bits),
         _ => false,
     }
 }
 impl Lent {
     /// 2: "the place's row, or a test row reached, is missing, ill-formed or of another kind".
-    fn row(&self, number: u64, kind: u64) -> Result<Row, Refusal> {
+    fn row(&self, number: u64, kind: u64, bits: u64) -> Result<Row, Refusal> {
         let rows = self.table.len() as u64 / 10;
         if number == 0 || number >= rows { return Err(2); }
         let row: Row = self.table[10 * number as usize..][..10].try_into().unwrap();
-        if row[0] == kind && well_formed(&row, number, rows) { Ok(row) } else { Err(2) }
+        if row[0] == kind && well_formed(&row, number, rows, bits) { Ok(row) } else { Err(2) }
     }
 }
 
@@ -112,11 +113,11 @@ impl Lent {
 
 pub fn mask(width: u64) -> u64 { (1 << width) - 1 }
 /// Fields: "Width is right - left + 1, or 0" (left > right makes a null field).
-fn width(spot: Spot) -> u64 {
-    if let Spot::Field(_, f) = spot { (f.right + 1).saturating_sub(f.left) } else { 36 }
+fn width(spot: Spot, bits: u64) -> u64 {
+    if let Spot::Field(_, f) = spot { (f.right + 1).saturating_sub(f.left) } else { bits }
 }
-/// Operations: "a field holds width/6 rounded up (a literal six)".
-fn held(spot: Spot) -> usize { (width(spot) as usize).div_ceil(6) }
+/// Operations: "a field holds width/6 rounded up (a literal six)"; at 48 bits eight.
+fn held(spot: Spot, bits: u64) -> usize { (width(spot, bits) as usize).div_ceil(6) }
 
 impl State {
     pub fn live_at(&self, start: u64) -> Option<Block> { self.live.iter().copied().find(|b| b.start == start) }
@@ -144,16 +145,17 @@ impl State {
         match spot {
             Spot::Literal(value) => value,
             Spot::Bug(bug) => self.bugs[bug],
-            Spot::Field(b, f) => self.storage[self.index(b.start + f.word)] >> (35 - f.right) & mask(width(spot)),
+            Spot::Field(b, f) => self.storage[self.index(b.start + f.word)] >> (self.bits - 1 - f.right) & mask(width(spot, self.bits)),
         }
     }
     /// Fields: "A store keeps the value's rightmost bits that fit and changes no other bit".
     /// Steps: a store is reported as zero "also where it goes to a bug or a null field".
     fn store(&mut self, spot: Spot, value: u64) -> Store {
         match spot {
-            Spot::Bug(bug) => self.bugs[bug] = value & mask(36),
-            Spot::Field(block, f) if width(spot) > 0 => {
-                let (address, fits, shift) = (block.start + f.word, mask(width(spot)), 35 - f.right);
+            Spot::Bug(bug) => self.bugs[bug] = value & mask(self.bits),
+            Spot::Field(block, f) if width(spot, self.bits) > 0 => {
+                let fits = mask(width(spot, self.bits));
+                let (address, shift) = (block.start + f.word, self.bits - 1 - f.right);
                 let i = self.index(address);
                 self.storage[i] = self.storage[i] & !(fits << shift) | (value & fits) << shift;
                 return Store { address, left: f.left, right: f.right, kept: value & fits };
@@ -209,7 +211,7 @@ impl State {
     fn satisfied(&mut self, lent: &Lent, line: &Row) -> Result<bool, Refusal> {
         let (mode, mut number) = (line[2], line[4]);
         while number != 0 {
-            let test = lent.row(number, 2)?;
+            let test = lent.row(number, 2, self.bits)?;
             let c = self.operand(&test, 0)?;
             let cd = self.operand(&test, 1)?;
             let truth = holds(test[2], self.read(c), self.read(cd));
@@ -229,19 +231,19 @@ impl State {
         if length < 20 || length > 8000 || length % 10 != 0 { return Err(1); }
         match self.place {
             Place::Tests(number) => {
-                let line = lent.row(number, 1)?;
+                let line = lent.row(number, 1, self.bits)?;
                 let satisfied = self.satisfied(lent, &line)?;
                 self.tally.modes[line[2] as usize][satisfied as usize] += 1;
                 self.place = if satisfied { place_in(number, line[5]) } else { line_at(line[1]) };
             }
             Place::Operation(number, line) => {
-                let row = lent.row(number, 3)?;
+                let row = lent.row(number, 3, self.bits)?;
                 self.place = place_in(line, row[1]); // DO changes this
                 self.tally.operations[row[2] as usize] += 1;
                 return self.operate(lent, &row);
             }
             Place::Exit(number) => {
-                let line = lent.row(number, 1)?;
+                let line = lent.row(number, 1, self.bits)?;
                 self.place = match line[6] {
                     DONE => self.returns.pop().ok_or(20u64)?,
                     0 => line_at(line[1]),
@@ -273,7 +275,7 @@ impl State {
             24 => self.input(lent, x, self.read(y)),
             25 => self.print(lent, self.read(x), y),
             32..=36 => self.stacks(code, x, row),
-            _ => self.put(x, compute(code, self.read(x), width(x), self.read(y), y)?),
+            _ => self.put(x, compute(code, self.read(x), width(x, self.bits), self.read(y), y, self.bits)?),
         }
     }
     /// A step whose only effect is one store.
@@ -282,7 +284,7 @@ impl State {
     }
     /// 2 define name (word, left, right); refusal 7.
     fn define(&mut self, name: usize, word: u64, left: u64, right: u64) -> Result<Report, Refusal> {
-        if word > 127 || left > 35 || right > 35 { return Err(7); }
+        if word > 127 || left >= self.bits || right >= self.bits { return Err(7); }
         self.fields[name] = Some(Field { word, left, right });
         Ok(Report::default())
     }
@@ -323,9 +325,9 @@ impl State {
         let first = self.store(a1, old2);
         Ok(Report { first, second: self.store(a2, old1), ..Report::default() })
     }
-    /// 24 input: "cd six-bit characters (0-6), leading zeros", "first taken leftmost". Own: 10, 5, 4.
+    /// 24 input: "cd six-bit characters (0-6), leading zeros", at 48 bits 0-8, "first taken leftmost". Own: 10, 5, 4.
     fn input(&mut self, lent: &Lent, a: Spot, count: u64) -> Result<Report, Refusal> {
-        if count > 6 { return Err(10); }
+        if count > self.bits / 6 { return Err(10); }
         if lent.input.is_empty() { return self.put(a, (0..count).fold(0, |sum, _| sum * 64 + 0o77)); } // ticket 4
         let rest = &lent.input[self.taken..];
         if rest.len() < count as usize { return Err(5); }
@@ -339,7 +341,7 @@ impl State {
         if count > 120 { return Err(10); }
         let count = count as usize;
         if self.written.len() + count > lent.output { return Err(21); }
-        let line = [vec![BLANK; count], characters(self.read(what), held(what))].concat();
+        let line = [vec![BLANK; count], characters(self.read(what), held(what, self.bits))].concat();
         self.written.extend(line[line.len() - count..].iter().map(|&code| code as u8));
         Ok(Report::default())
     }
@@ -408,19 +410,19 @@ fn nearest(x: u64, y: u64) -> Option<u64> {
 }
 
 /// Operations with one result for a: x is a's contents (width wx), y those of the other operand, c.
-fn compute(code: u64, x: u64, wx: u64, y: u64, c: Spot) -> Result<u64, Refusal> {
-    let wide = |n: u128| (n % (1 << 36)) as u64; // "whole numbers modulo 2^36"
+fn compute(code: u64, x: u64, wx: u64, y: u64, c: Spot, b: u64) -> Result<u64, Refusal> {
+    let wide = |n: u128| (n % (1 << b)) as u64; // "whole numbers modulo 2^36"
     Ok(match code {
         6 => y,
         8 => wide(x as u128 + y as u128),
         9 => x.checked_sub(y).ok_or(22u64)?, // ticket 1
         10 => wide(x as u128 * y as u128),
         11 => nearest(x, y).ok_or(9u64)?, // ticket 10
-        12 => x | y, 13 => x & y, 14 => x ^ y, 15 => y ^ mask(36),
-        16..=21 => bits(code, y, width(c)),
+        12 => x | y, 13 => x & y, 14 => x ^ y, 15 => y ^ mask(b),
+        16..=21 => bits(code, y, width(c, b)),
         22 => if y >= wx { 0 } else { (x << y) & mask(wx) },
         23 => if y >= wx { 0 } else { x >> y },
-        _ => convert(code, y, c)?,
+        _ => convert(code, y, c, b)?,
     })
 }
 /// 16 to 21: counts, and places "in c's field from the left, or the width"; bit 0 is leftmost.
@@ -440,35 +442,36 @@ fn join(characters: &[u64], base: u64) -> u64 { characters.iter().fold(0, |sum, 
 fn number(characters: &[u64], base: u64) -> Result<u64, Refusal> {
     if characters.iter().any(|&c| c >= base) { Err(6) } else { Ok(join(characters, base)) }
 }
-/// 29 "keeps the last six digits", 30 "keeps 18 bits": the six characters of a number.
-fn spell(value: u64, base: u64) -> u64 {
-    join(&[5, 4, 3, 2, 1, 0].map(|place| value / base.pow(place) % base), 64)
+/// 29 "keeps the last six digits", 30 "keeps 18 bits": the six characters of a number; eight at 48 bits.
+fn spell(value: u64, base: u64, count: usize) -> u64 {
+    join(&(0..count as u32).rev().map(|place| value / base.pow(place) % base).collect::<Vec<_>>(), 64)
 }
 /// 26, 31: leading characters `from` become `to`.
-fn relead(six: &mut [u64], from: u64, to: u64) -> u64 {
-    six.iter_mut().take_while(|c| **c == from).for_each(|c| *c = to);
-    join(six, 64)
+fn relead(all: &mut [u64], from: u64, to: u64) -> u64 {
+    all.iter_mut().take_while(|c| **c == from).for_each(|c| *c = to);
+    join(all, 64)
 }
-/// 26 to 31: "on six characters; narrow fields get leading zeros, for 26 leading blanks".
-fn convert(code: u64, value: u64, c: Spot) -> Result<u64, Refusal> {
-    let mut six = characters(value, 6);
-    if code == 26 { six[..6 - held(c)].fill(BLANK) }
+/// 26 to 31: "on six characters; narrow fields get leading zeros, for 26 leading blanks"; on eight at 48 bits.
+fn convert(code: u64, value: u64, c: Spot, bits: u64) -> Result<u64, Refusal> {
+    let count = bits as usize / 6;
+    let mut all = characters(value, count);
+    if code == 26 { all[..count - held(c, bits)].fill(BLANK) }
     Ok(match code {
-        26 => relead(&mut six, BLANK, 0),
-        27 => number(&six, 10)?,
-        28 => number(&six, 8)?,
-        29 => spell(value, 10),
-        30 => spell(value, 8),
-        _ => relead(&mut six, 0, BLANK),
+        26 => relead(&mut all, BLANK, 0),
+        27 => number(&all, 10)?,
+        28 => number(&all, 8)?,
+        29 => spell(value, 10, count),
+        30 => spell(value, 8, count),
+        _ => relead(&mut all, 0, BLANK),
     })
 }
 
 impl Engine {
     /// Steps: "a fresh engine is at the tests of row 1, with no set-up, definition or stack entry ...".
-    pub fn fresh(table: Vec<u64>, input: Vec<u8>, storage: Vec<u64>, output: usize) -> Engine {
+    pub fn fresh(table: Vec<u64>, input: Vec<u8>, storage: Vec<u64>, output: usize, bits: u64) -> Engine {
         let tally = Tally { operations: [0; 37], tests: [[0; 2]; 8], modes: [[0; 2]; 5] };
         let state = State {
-            storage, setup: None, live: vec![], free: vec![],
+            bits, storage, setup: None, live: vec![], free: vec![],
             bugs: [0; 26], fields: [None; 36], contents: vec![], definitions: vec![], returns: vec![],
             place: Place::Tests(1), taken: 0, written: vec![], tally,
         };

@@ -22,12 +22,19 @@ impl Rng {
 pub struct Line { pub sub: bool, pub mode: u64, pub tests: Vec<Row>, pub operations: Vec<Row>, pub goto: u64 }
 
 /// A case; `table` is there when it is not what the lines give; `spread` lays all lines before tests and operations.
-#[derive(Clone, Default)]
+#[derive(Clone)]
 pub struct Case {
+    pub bits: u64,
     pub lines: Vec<Line>, pub spread: bool, pub table: Option<Vec<u64>>, pub input: Vec<u8>,
     pub storage: usize, pub output: usize, pub limit: u64,
 }
 
+impl Default for Case {
+    fn default() -> Case {
+        let (lines, input) = (vec![], vec![]);
+        Case { bits: 36, lines, spread: false, table: None, input, storage: 0, output: 0, limit: 0 }
+    }
+}
 impl Case {
     /// Appends a line's tests and operations, chained.
     fn chains(&self, line: usize, at: usize, rows: &mut Vec<Row>) {
@@ -61,7 +68,7 @@ impl Case {
         rows.concat()
     }
     pub fn engine(&self) -> Engine {
-        Engine::fresh(self.table(), self.input.clone(), vec![0; self.storage], self.output)
+        Engine::fresh(self.table(), self.input.clone(), vec![0; self.storage], self.output, self.bits)
     }
     /// The main lines, or those of subroutines.
     fn those(&self, sub: bool) -> Vec<usize> { (0..self.lines.len()).filter(|&i| self.lines[i].sub == sub).collect() }
@@ -91,18 +98,19 @@ impl Maker {
     fn literal(&mut self) -> u64 {
         match self.rng.below(10) {
             0..=2 => self.rng.below(9),
-            3 => mask(36) - self.rng.below(4),
-            4 => 1 << self.rng.below(36),
-            5 => self.rng.next() & mask(36),
-            6 => self.rng.below(3_000_000),
+            3 => mask(self.case.bits) - self.rng.below(4),
+            4 => 1 << self.rng.below(self.case.bits),
+            5 => self.rng.next() & mask(self.case.bits),
+            6 => self.rng.below(3 * 10u64.pow(self.case.bits as u32 / 6)),
             7 => self.state.live.first().map_or(1, |b| b.start),
             _ => self.digits(),
         }
     }
-    /// Six characters: digits after leading blanks or zeros.
+    /// A word of characters: digits after leading blanks or zeros.
     fn digits(&mut self) -> u64 {
-        let (lead, blank, base) = (self.rng.below(7), self.rng.pick(&[0, BLANK]), self.rng.pick(&[8, 10, 10]));
-        (0..6).fold(0, |sum, i| sum * 64 + if i < lead { blank } else { self.rng.below(base) })
+        let count = self.case.bits / 6;
+        let (lead, blank, base) = (self.rng.below(count + 1), self.rng.pick(&[0, BLANK]), self.rng.pick(&[8, 10, 10]));
+        (0..count).fold(0, |sum, i| sum * 64 + if i < lead { blank } else { self.rng.below(base) })
     }
     fn name(&mut self) -> usize {
         if self.rng.chance(85) { self.rng.pick(&[0, 1, 10, 11, 12, 13, 14]) } else { self.rng.below(36) as usize }
@@ -153,11 +161,14 @@ impl Maker {
     }
     /// Word and bits of a field: full, narrow, null; out of range when wild.
     fn definition(&mut self) -> Vec<(u64, u64)> {
-        let usual = [(0, 35), (18, 35), (0, 17), (6, 20), (21, 35), (30, 35), (12, 35), (0, 23), (35, 0), (9, 8)];
-        let (one, other) = (self.rng.below(36), self.rng.below(36));
+        let last = self.case.bits - 1;
+        let usual = [
+            (0, last), (18, last), (0, 17), (6, 20), (last - 14, last), (last - 5, last), (12, last), (0, 23), (last, 0), (9, 8),
+        ];
+        let (one, other) = (self.rng.below(last + 1), self.rng.below(last + 1));
         let (left, right) = if self.rng.chance(70) { self.rng.pick(&usual) } else { (one.min(other), one.max(other)) };
         let mut pairs = vec![(1, self.rng.small(self.d.min(4), 128)), (1, left), (1, right)];
-        if self.wild { pairs[self.rng.below(3) as usize].1 = self.rng.pick(&[35, 36, 127, 128, mask(36)]) }
+        if self.wild { pairs[self.rng.below(3) as usize].1 = self.rng.pick(&[last, last + 1, 127, 128, mask(last + 1)]) }
         pairs
     }
     /// An operation row of a code, with operands that mean something in the present state.
@@ -177,8 +188,8 @@ impl Maker {
             4 => pairs[0].1 = self.pointer(),
             5 => pairs[1].1 = self.pointer(),
             11 if self.wild => pairs[1] = (1, 0),
-            22 | 23 if usual => pairs[1] = (1, self.rng.small(12, 45)),
-            24 if usual => pairs[1] = (1, self.rng.below(if self.wild { 9 } else { 7 })),
+            22 | 23 if usual => pairs[1] = (1, self.rng.small(12, self.case.bits + 9)),
+            24 if usual => pairs[1] = (1, self.rng.below(self.case.bits / 6 + if self.wild { 3 } else { 1 })),
             25 if usual => pairs[0] = (1, if self.rng.chance(90) { self.rng.below(10) } else { 119 + self.rng.below(3) }),
             _ => {}
         }
@@ -204,7 +215,7 @@ impl Maker {
     /// A test, often against a literal near the contents.
     fn test(&mut self) -> Row {
         let (c, any) = (self.operand('c'), self.operand('x'));
-        let near = (1, (self.look(c.1).1 + self.rng.below(3)).saturating_sub(1) & mask(36));
+        let near = (1, (self.look(c.1).1 + self.rng.below(3)).saturating_sub(1) & mask(self.case.bits));
         row(2, 1 + self.rng.below(7), 0, &[c, if self.rng.chance(40) { near } else { any }])
     }
     fn line(&mut self, conditional: bool, goto: u64) -> Line {
@@ -307,7 +318,7 @@ impl Maker {
             (row[p], row[p + 1]) = match row[p] {
                 2 => self.rng.pick(&names),
                 1 if row[2] == 36 => self.rng.pick(&[(1, 0), (1, rows)]),
-                1 => self.rng.pick(&[(2, v), (0, 0), (1, v + 1), (1, 0), (1, rows), (1, 1 << 36), (3, v)]),
+                1 => self.rng.pick(&[(2, v), (0, 0), (1, v + 1), (1, 0), (1, rows), (1, 1 << self.case.bits), (3, v)]),
                 _ => self.rng.pick(&[(1, 0), (0, 1), (2, 33)]),
             };
         }
@@ -318,7 +329,7 @@ impl Maker {
         let n = s2 - s1 + 1;
         let bad = [
             (d, 0, n - 1), (d, s1 + 1, s2 + 1), (d, 32768 - n + d, 32767 + d), (d, s1, s2 + 1), (d, s1, s1 - 1), (3, 3, 8),
-            (d, s1, s2 + 4 * d), (d, s1, s1 + 4096 + d - 1), (0, 8, 8), (256, 256, 511), (d, s1, mask(36)),
+            (d, s1, s2 + 4 * d), (d, s1, s1 + 4096 + d - 1), (0, 8, 8), (256, 256, 511), (d, s1, mask(self.case.bits)),
         ];
         let (d, s1, s2) = self.rng.pick(&bad);
         case.storage = self.rng.pick(&[case.storage, case.storage, 5000]);
@@ -345,7 +356,7 @@ impl Maker {
     fn lead_up(&mut self, k: u64, case: &mut Case) -> u64 {
         let (own, f, any) = (self.pointer() % (1 << 30), self.name() as u64, self.name() as u64);
         let word = if k == 16 { self.d + self.rng.below(3) } else { 0 };
-        let define = row(3, 2, f, &[(1, word), (1, 0), (1, 35)]);
+        let define = row(3, 2, f, &[(1, word), (1, 0), (1, self.case.bits - 1)]);
         case.tail().extend(if k == 14 { vec![row(3, 34, any, &[]), row(3, 35, f, &[])] } else { vec![define] });
         case.tail().push(row(3, 6, 0, &[(2, own * 64 + f + 1), (2, own)]));
         own * 64 + f + 1
@@ -430,9 +441,9 @@ impl Maker {
     }
 }
 
-/// Case i of a seed; every sixth aims at a refusal, each in its turn.
-pub fn make(seed: u64, i: u64) -> Case {
-    let (case, state) = (Case::default(), Engine::fresh(vec![], vec![], vec![], 0).state);
+/// Case i of a seed, of words of so many bits; every sixth aims at a refusal, each in its turn.
+pub fn make(bits: u64, seed: u64, i: u64) -> Case {
+    let (case, state) = (Case { bits, ..Case::default() }, Engine::fresh(vec![], vec![], vec![], 0, bits).state);
     let rng = Rng(seed.wrapping_mul(0x2545F4914F6CDD1D) ^ i << 32);
     let mut maker = Maker { rng, wild: false, d: 1, case, state, count: 0 };
     let mut ks: Vec<u64> = (1..=22).filter(|&k| k != 11).collect();

@@ -141,7 +141,7 @@ fn words() {
     line("power", |c| (0..c.a % 64).fold(1, |p, _| p + p));
     line("low_bits", |c| value(&bits(width_of(c.a), c.y)));
     line("add", |c| modulo(width_of(c.a), c.x as i128 + c.y as i128));
-    line("subtract", |c| (c.x as i128 / 2 + c.y as i128 / 2 - c.y as i128 / 2) as u64);
+    line("subtract", |c| (c.x as i128 / 4 + c.y as i128 / 4 - c.y as i128 / 4) as u64);
     line("multiply", |c| (c.x as u128 * c.y as u128 % (1u128 << width_of(c.a))) as u64);
     line("divide", |c| nearest(c.x >> (c.a % 64), 1 + c.y % 64));
     line("or", |c| each(width_of(c.a), c.x, c.y, |p, q| p || q));

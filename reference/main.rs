@@ -46,14 +46,14 @@ fn show(case: &Case) -> String {
 }
 fn generate(seed: u64, count: u64) {
     let mut out = std::io::BufWriter::new(std::io::stdout().lock());
-    (0..count).for_each(|i| writeln!(out, "{}", show(&make(seed, i))).unwrap());
+    (0..count).for_each(|i| writeln!(out, "{}", show(&make(36, seed, i))).unwrap());
 }
 /// How often operations, tests, modes and answers came up: successes in all, and cases with one at least.
 fn cover(seed: u64, count: u64) {
     let (mut hits, mut cases) = ([0; 61], [0; 61]);
     let (mut answers, mut reports) = ([0; 122], 0);
     for i in 0..count {
-        let case = make(seed, i);
+        let case = make(36, seed, i);
         let mut engine = case.engine();
         let (answer, _, report) = engine.run(case.limit);
         let t = &engine.state.tally;
@@ -77,7 +77,7 @@ fn tour(table: &[u8], input: &[u8]) -> String {
     let bad = table.len() % 8 != 0 || table.len() > 64000; // "counts as refusal 1 at the first step"
     let numbers = table.chunks_exact(8).map(|eight| u64::from_le_bytes(eight.try_into().unwrap()));
     let numbers = if bad { vec![] } else { numbers.collect() };
-    let mut engine = Engine::fresh(numbers, input[..input.len().min(4096)].to_vec(), vec![0; 4096], 4096);
+    let mut engine = Engine::fresh(numbers, input[..input.len().min(4096)].to_vec(), vec![0; 4096], 4096, 36);
     let (answer, count, _) = engine.run(100_000);
     let codes: Vec<String> = engine.state.written.iter().map(|code| format!("{code:02o}")).collect();
     let word = match answer {

@@ -1,5 +1,5 @@
 //! A state as numbers, as a host may lend it, with storage and output. Refusal 11 is judged on it, clause by clause, from
-//! document 01 alone; a sound one is stepped by the engine.
+//! document 01 alone, and before it 31 (document 02, ticket 9); a sound one is stepped by the engine.
 use crate::engine::*;
 
 /// The block map has a byte for each word: that of the first word of a block of 2^k words is 2k + 1 if the block is free
@@ -16,6 +16,7 @@ pub struct Raw {
     pub setup: [u64; 3],             // d, s1, s2, all zero before a set-up
     pub streams: [u64; 2],           // taken, written
     pub map: [u8; 4096],
+    pub width: u64,
     pub storage: Vec<u64>,
     pub output: Vec<u8>,
 }
@@ -28,7 +29,7 @@ pub struct Damage { pub what: What, pub index: usize, pub value: u64 }
 #[derive(Clone, Copy)]
 pub enum What {
     Place = 0, Stream = 5, SetUp = 21, Count = 27, Bug = 51, Contents = 259, Definition = 1283, Saved = 1427, Calls = 1939,
-    Map = 2579, Storage = 6675,
+    Map = 2579, Width = 6675, Storage = 6676,
 }
 
 impl Damage {
@@ -39,13 +40,15 @@ impl Damage {
             What::Place | What::Calls => (5 * (i / 3) + [0, 1, 3][i % 3], [1, 2, 2][i % 3]),
             What::SetUp => (2 * i, 2),
             What::Stream | What::Count | What::Bug | What::Contents => (8 * i, 8),
-            What::Definition | What::Saved | What::Map => (i, 1),
+            What::Definition | What::Saved | What::Map | What::Width => (i, 1),
             What::Storage => return vec![(what as usize + i, value)],
         };
         (0..length).map(|k| (what as usize + offset + k, value >> (8 * k) & 255)).collect()
     }
 }
 
+/// "a width of 36 or 48"
+pub fn is_width(bits: u64) -> bool { [36, 48].contains(&bits) }
 fn definition(field: Option<Field>) -> [u64; 4] { field.map_or([0; 4], |f| [1, f.word, f.left, f.right]) }
 fn field([defined, word, left, right]: [u64; 4]) -> Option<Field> { (defined != 0).then_some(Field { word, left, right }) }
 fn numbers(place: Place) -> [u64; 3] {
@@ -61,8 +64,8 @@ fn place([kind, row, line]: [u64; 3]) -> Place {
 }
 
 /// "definitions ... out of range": an undefined one's numbers mean nothing.
-fn definition_sound([defined, word, left, right]: [u64; 4]) -> bool {
-    defined == 0 || word <= 127 && left <= 35 && right <= 35
+fn definition_sound([defined, word, left, right]: [u64; 4], bits: u64) -> bool {
+    defined == 0 || word <= 127 && left < bits && right < bits
 }
 /// "a place names rows 1-799"; only an operation has a row besides its line's.
 fn place_sound([kind, row, line]: [u64; 3]) -> bool {
@@ -94,8 +97,8 @@ fn keep_unused(before: &Raw, after: &mut Raw, name: usize) {
 
 impl Raw {
     /// A fresh engine over a lent storage and output. Its saved places that are not used are the tests of row 1.
-    pub fn fresh(storage: Vec<u64>, output: Vec<u8>) -> Raw {
-        let state = Engine::fresh(vec![], vec![], storage, output.len()).state;
+    pub fn fresh(bits: u64, storage: Vec<u64>, output: Vec<u8>) -> Raw {
+        let state = Engine::fresh(vec![], vec![], storage, output.len(), bits).state;
         Raw { calls: [[0, 0, 1]; STACK], ..Raw::of(&state, &output) }
     }
     /// The numbers of a state; `output` is the lent buffer, of which the written bytes are replaced.
@@ -113,14 +116,14 @@ impl Raw {
         Raw {
             place: numbers(state.place), bugs: state.bugs, definitions: state.fields.map(definition),
             contents, saved, calls, counts, setup: [d, s1, s2],
-            streams: [state.taken as u64, state.written.len() as u64], map, storage: state.storage.clone(),
+            streams: [state.taken as u64, state.written.len() as u64], map, width: state.bits, storage: state.storage.clone(),
             output: [&state.written, &output[state.written.len()..]].concat(),
         }
     }
     /// The state of sound numbers.
     fn state(&self) -> State {
         let [d, s1, s2] = self.setup;
-        let mut state = Engine::fresh(vec![], vec![], self.storage.clone(), 0).state;
+        let mut state = Engine::fresh(vec![], vec![], self.storage.clone(), 0, self.width).state;
         for (block, live) in self.blocks() { if live { state.live.push(block) } else { state.free.push(block) } }
         state.setup = (d != 0).then_some((d, s1, s2));
         state.bugs = self.bugs;
@@ -166,18 +169,20 @@ impl Raw {
         let absent = self.setup == [0; 3];
         if !absent && !set_up_fits(d, s1, s2, self.storage.len()) { return false; }
         let words = if absent { 0 } else { s2 - s1 + 1 };
-        let is_word = |word: u64| word < 1 << 36;
+        let is_word = |word: u64| word < 1 << self.width;
+        let is_definition = |four: [u64; 4]| definition_sound(four, self.width);
         self.storage[..words as usize].iter().chain(&self.bugs).all(|&word| is_word(word))
-            && self.definitions.iter().all(|&four| definition_sound(four))
+            && self.definitions.iter().all(|&four| is_definition(four))
             && (place_sound(self.place) || self.place == [3, 0, 0])
             && stack_sound(self.counts[0], &self.contents, is_word)
-            && stack_sound(self.counts[1], &self.saved, definition_sound)
+            && stack_sound(self.counts[1], &self.saved, is_definition)
             && stack_sound(self.counts[2], &self.calls, place_sound)
             && self.blocks_sound(words)
     }
 
     /// One step of any state, sound or not; a refused one changes nothing.
     pub fn step(&mut self, engine: &mut Engine) -> (Answer, Report) {
+        if !is_width(self.width) { return (Answer::Refused(31), Report::default()); }
         if !self.sound(engine.lent.input.len()) { return (Answer::Refused(11), Report::default()); }
         engine.state = self.state();
         let (answer, report) = engine.step();
@@ -190,6 +195,7 @@ impl Raw {
     }
     /// An extension of any state, sound or not; a refused one changes nothing.
     pub fn extend(&mut self, last: u64) -> Result<(), Refusal> {
+        if !is_width(self.width) { return Err(31); }
         if !self.engine_sound() { return Err(11); }
         let before = self.clone();
         self.streams = [0; 2];
@@ -214,6 +220,7 @@ impl Raw {
             What::SetUp => self.setup[i] = value,
             What::Stream => self.streams[i] = value,
             What::Map => self.map[i] = value as u8,
+            What::Width => self.width = value,
             What::Storage => self.storage[i] = value,
         }
     }

@@ -101,7 +101,7 @@ fn all(seed: u64, drawn: u64) -> Vec<(String, Vec<u8>, usize)> {
     let mut rng = Rng(seed);
     let mut short = || loop {
         let text = texts::text(&mut rng);
-        if text.len() <= 4096 { return (String::new(), text.clone(), texts::room(&mut rng, &text)); }
+        if text.len() <= 4096 { return (String::new(), text.clone(), texts::room(&mut rng, 36, &text)); }
     };
     let drawn: Vec<_> = (0..drawn).map(|_| short()).collect();
     edges().into_iter().chain(drawn).collect()
@@ -123,7 +123,7 @@ pub fn stdin(seed: u64, drawn: u64) -> Vec<u8> {
 pub fn stdout(seed: u64, drawn: u64) -> String {
     let (mut printed, mut counts, mut sum) = (String::new(), [0; 4], 0);
     for (label, text, room) in all(seed, drawn) {
-        let found = read(&text, room);
+        let found = read(36, &text, room);
         let (kind, told, words) = match &found {
             Ok(rows) => (0, rows.len() as u64 / 10, format!("rows {}", rows.len() / 10)),
             Err((refusal, line)) => (*refusal as usize - 22, fold(*refusal, *line), format!("{refusal}, line {line}")),

@@ -17,9 +17,10 @@ fn field(rng: &mut Rng) -> String {
     let bug = rng.pick(&NAMES[10..]) as char;
     (0..names).fold(bug.to_string(), |word, _| word + &(rng.pick(NAMES) as char).to_string())
 }
-/// A number below 2^36, now and then the greatest, and now and then with zeros before it.
+/// A number below 2^36, now and then one about a bound of either width, and now and then with zeros before it.
 fn number(rng: &mut Rng, octal: bool) -> String {
-    let value = if rng.chance(5) { (1 << 36) - 1 } else { rng.next() >> (28 + rng.below(36)) };
+    let bounds = [(1 << 36) - 1, 1 << 36, (1 << 48) - 1, 1 << 48];
+    let value = if rng.chance(5) { rng.pick(&bounds) } else { rng.next() >> (28 + rng.below(36)) };
     let zeros = "0".repeat(if rng.chance(10) { rng.below(20) as usize } else { 0 });
     if octal { format!("{zeros}{value:o}") } else { format!("{zeros}{value}") }
 }
@@ -28,7 +29,10 @@ fn argument(rng: &mut Rng, kind: &str, labels: &[String]) -> String {
         "a" | "c" => field(rng),
         "d" => number(rng, false),
         "o" => number(rng, true),
-        "h" => some(rng, b"0123456789ABCDEFGHIJKLMNOPQRSTUVWXYZ.", 6),
+        "h" => {
+            let most = rng.pick(&[6, 6, 6, 6, 6, 6, 6, 9]);
+            some(rng, b"0123456789ABCDEFGHIJKLMNOPQRSTUVWXYZ.", most)
+        }
         "cd" if rng.chance(50) => number(rng, false),
         "co" if rng.chance(50) => number(rng, true),
         "cd" | "co" => field(rng),
@@ -147,9 +151,9 @@ pub fn text(rng: &mut Rng) -> Vec<u8> {
         }
     }
 }
-/// How many numbers are lent for a text: mostly enough, or about as many as its table has.
-pub fn room(rng: &mut Rng, text: &[u8]) -> usize {
-    let whole = read(text, 10 * ROWS).map_or(30, |rows| rows.len());
+/// How many numbers are lent for a text at a width: mostly enough, or about as many as its table has.
+pub fn room(rng: &mut Rng, bits: u64, text: &[u8]) -> usize {
+    let whole = read(bits, text, 10 * ROWS).map_or(30, |rows| rows.len());
     let fewer = rng.below(whole as u64 + 1) as usize;
     let near = rng.pick(&[whole, whole, whole + 5, whole - 1, whole - 10, fewer, 10 * ROWS + 10, 10 * ROWS - 10, 0]);
     if rng.chance(60) { 10 * ROWS } else { near }

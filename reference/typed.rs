@@ -55,16 +55,16 @@ fn field(word: &str) -> Option<Part> {
     let good = word.starts_with(|c: char| c.is_ascii_uppercase()) && word.len() <= 6 && word.chars().all(is_name);
     good.then(|| Part::Pair(2, packed(word.chars().map(|c| name_number(c) + 1))))
 }
-/// "literals are below 2^36"
-fn number(word: &str, base: u32) -> Option<Part> {
+/// "literals are below 2^36"; below 2^48 at 48 bits
+fn number(word: &str, base: u32, bits: u64) -> Option<Part> {
     let digits = !word.is_empty() && word.chars().all(|c| c.is_digit(base));
     let value = u64::from_str_radix(&format!("0{}", word.trim_start_matches('0')), base).ok()?;
-    (digits && value < 1 << 36).then_some(Part::Pair(1, value))
+    (digits && value < 1 << bits).then_some(Part::Pair(1, value))
 }
 /// "one or more of document 01's characters except blank, a word's worth at most, flush right over zeros"
-fn hollerith(word: &str) -> Option<Part> {
+fn hollerith(word: &str, bits: u64) -> Option<Part> {
     let codes: Vec<u64> = word.chars().map(code).collect::<Option<_>>()?;
-    (1..=6).contains(&codes.len()).then(|| Part::Pair(1, packed(codes.into_iter())))
+    (1..=bits as usize / 6).contains(&codes.len()).then(|| Part::Pair(1, packed(codes.into_iter())))
 }
 fn name(word: &str) -> Option<Part> {
     let mut characters = word.chars();
@@ -72,14 +72,14 @@ fn name(word: &str) -> Option<Part> {
     characters.next().is_none().then(|| Part::Name(name_number(first)))
 }
 /// What an argument gives where a form has this kind; nothing where it is not of the kind.
-fn part(kind: &str, word: &str) -> Option<Part> {
+fn part(kind: &str, word: &str, bits: u64) -> Option<Part> {
     match kind {
         "a" | "c" => field(word),
-        "d" => number(word, 10),
-        "o" => number(word, 8),
-        "h" => hollerith(word),
-        "cd" => field(word).or(number(word, 10)),
-        "co" => field(word).or(number(word, 8)),
+        "d" => number(word, 10, bits),
+        "o" => number(word, 8, bits),
+        "h" => hollerith(word, bits),
+        "cd" => field(word).or(number(word, 10, bits)),
+        "co" => field(word).or(number(word, 8, bits)),
         "f" => name(word),
         "Df" => name(word.strip_prefix('D')?),
         "s" => is_label(word).then(|| Part::Label(word.to_string())),
@@ -87,14 +87,14 @@ fn part(kind: &str, word: &str) -> Option<Part> {
         itself => (word == itself).then_some(Part::Nothing),
     }
 }
-fn in_form(code: u64, form: &str, arguments: &[String]) -> Option<Item> {
+fn in_form(code: u64, form: &str, arguments: &[String], bits: u64) -> Option<Item> {
     let kinds: Vec<&str> = form.split(',').collect();
     if kinds.len() != arguments.len() { return None; }
-    let parts = kinds.iter().zip(arguments).map(|(kind, word)| part(kind, word)).collect::<Option<_>>()?;
+    let parts = kinds.iter().zip(arguments).map(|(kind, word)| part(kind, word, bits)).collect::<Option<_>>()?;
     Some(Item { code, parts })
 }
 /// What a parenthesis says by the one form that it has. "each with only one reading"
-fn item(forms: &[(u64, &str)], paren: &str) -> Option<Item> {
+fn item(forms: &[(u64, &str)], paren: &str, bits: u64) -> Option<Item> {
     let inner = paren.strip_prefix('(')?.strip_suffix(')')?;
     let mut arguments: Vec<String> = inner.split(',').map(str::to_string).collect();
     if arguments.iter().any(|word| word.is_empty()) { return None; }
@@ -102,13 +102,13 @@ fn item(forms: &[(u64, &str)], paren: &str) -> Option<Item> {
         arguments = vec![arguments[0].clone(), "P".to_string(), arguments.concat()] // (a, Δ) = abbrev. for (a, P, aΔ)
     }
     let all = forms.iter().flat_map(|&(code, text)| text.split(' ').map(move |form| (code, form)));
-    let mut read: Vec<Item> = all.filter_map(|(code, form)| in_form(code, form, &arguments)).collect();
+    let mut read: Vec<Item> = all.filter_map(|(code, form)| in_form(code, form, &arguments, bits)).collect();
     assert!(read.len() < 2, "{paren} has two readings");
     read.pop()
 }
 
 /// A line without its byte 10; nothing where it breaks the grammar.
-fn line(text: &str) -> Option<Line> {
+fn line(text: &str, bits: u64) -> Option<Line> {
     if text.ends_with(' ') { return None; } // blanks stand between
     let apart = text.replace('(', " (").replace(')', ") ");
     let mut words: Vec<&str> = apart.split(' ').filter(|word| !word.is_empty()).collect();
@@ -117,7 +117,7 @@ fn line(text: &str) -> Option<Line> {
     let mode = words.pop().and_then(|word| MODES.iter().position(|&mode| mode == word))? as u64;
     let parens = |words: &mut Vec<&str>, forms| -> Option<Vec<Item>> {
         let mut items = vec![];
-        while words.last().is_some_and(|word| word.starts_with('(')) { items.push(item(forms, words.pop()?)?) }
+        while words.last().is_some_and(|word| word.starts_with('(')) { items.push(item(forms, words.pop()?, bits)?) }
         Some(items)
     };
     let tests = if mode == 0 { vec![] } else { parens(&mut words, TESTS)? };
@@ -177,10 +177,11 @@ fn table(lines: &[Line], row_of: &dyn Fn(&str) -> u64) -> Vec<u64> {
     numbers
 }
 
-/// The rows that a text says, where so many numbers are lent, or the refusal and the line of its fault, counted from 1.
-pub fn read(text: &[u8], lent: usize) -> Result<Vec<u64>, (u64, u64)> {
+/// The rows that a text says at a width, where so many numbers are lent, or the refusal and the line of its fault, counted from 1.
+pub fn read(bits: u64, text: &[u8], lent: usize) -> Result<Vec<u64>, (u64, u64)> {
+    if bits != 36 && bits != 48 { return Err((31, 0)); }
     let text: String = text.iter().map(|&byte| byte as char).collect();
-    let ended = text.split_inclusive('\n').map(|typed| typed.strip_suffix('\n').and_then(line));
+    let ended = text.split_inclusive('\n').map(|typed| typed.strip_suffix('\n').and_then(|typed| line(typed, bits)));
     let lines: Vec<Option<Line>> = ended.collect();
     let (mut declared, mut row) = (HashMap::new(), 1);
     for (i, line) in lines.iter().enumerate() {

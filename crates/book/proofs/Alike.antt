@@ -11,6 +11,7 @@ use mathlib.Core.Path.{_≡_, refl, ap, sym, subst, _∙_}
 use borrow.Author.Tests.{eq-eqb, ne-eqb, eqb-true}
 use lib.Dec.{eqb}
 use lib.ListN.{length}
+use Rattle.word.specs.Word.{isWidth}
 use Rattle.word.proofs.Tests.{and-true as and-parts, by-test}
 use Rattle.block.specs.declared.SetUp.{SetUp}
 use Rattle.block.specs.Blocks.{Block, size}
@@ -31,12 +32,12 @@ use Rattle.machine.specs.Sound.{Lent, Engine}
 use Rattle.machine.specs.Locate.{liveBlocks}
 use Rattle.machine.specs.Effects.{Effects}
 use Rattle.machine.specs.Operations.{Wanted, getWants}
-use Rattle.machine.specs.Step.{Outcome, given, unchanged, carriedOut, step, engineOf, setUpAt}
+use Rattle.machine.specs.Step.{Outcome, given, unchanged, carriedOut, stepAt, step, engineOf, setUpAt}
 use Rattle.machine.proofs.Checks.{or-parts}
 use Rattle.machine.proofs.Facts.{Facts}
 use Rattle.machine.proofs.Moves.{Moves, still, frees, delivers}
 use Rattle.machine.proofs.Plan.{Planned, settingUp, moving, planned}
-use Rattle.machine.proofs.Steps.{Stepping, refusing, staying, forward, stepping}
+use Rattle.machine.proofs.Steps.{Stepping, refusing, staying, forward, stepping-at, step-is, step-width}
 use Rattle.book.specs.Book.{start, inserted, without}
 use Rattle.book.specs.Steps.{Event, stepped, isRefused}
 use Rattle.book.specs.Alike.{Alike, Ordinary, Further, begin, after, Request, freeOf, getOf, Asked, freed, delivered, noRun, request, askedBy, wantedBy, refusedGet, askedOf, askedIn, EitherOrder}
@@ -85,7 +86,7 @@ lowest-first n u bs a pos m lowest = go (runs n u bs) refl
     go (r ∷ rs) k =
         ap (delivered n) (le-antisymm (lowest r (subst (List·Memᴰ r) (sym k) (List·Memᴰ·head refl))) (runs-lowest n u bs pos k m))
 
-module _ (b : ℕ) (l : Lent) (e : Engine) (ordinary : Ordinary l e (step b l e .stepped .answer)) where
+module _ (b : ℕ) (l : Lent) (e : Engine) (ordinary : Ordinary l e (stepAt b l e .stepped .answer)) where
   abbrev u : SetUp
   u = e .state .core .setup
 
@@ -93,11 +94,11 @@ module _ (b : ℕ) (l : Lent) (e : Engine) (ordinary : Ordinary l e (step b l e 
   code = rowAt (l .table) (e .state .core .place .row) .code
 
   -- a refusal is by 17
-  by-17 : (r : Refusal) → step b l e ≡ unchanged (Refused r) l e → step b l e .stepped .answer ≡ Refused NoRun
+  by-17 : (r : Refusal) → stepAt b l e ≡ unchanged (Refused r) l e → stepAt b l e .stepped .answer ≡ Refused NoRun
   unfolding unchanged
   by-17 r o = go (ordinary .answered)
     where
-      go : (step b l e .stepped .answer ≡ Running) ⊎ (step b l e .stepped .answer ≡ Refused NoRun) → step b l e .stepped .answer ≡ Refused NoRun
+      go : (stepAt b l e .stepped .answer ≡ Running) ⊎ (stepAt b l e .stepped .answer ≡ Refused NoRun) → stepAt b l e .stepped .answer ≡ Refused NoRun
       go (inl k) =
           let wrong : _≡_ {A = Answer} (Refused r) Running = sym (ap (λ (o : Outcome). o .stepped .answer) o) ∙ k in
           let never : _≡_ {A = ℕ} 0 1 = cc in
@@ -105,7 +106,7 @@ module _ (b : ℕ) (l : Lent) (e : Engine) (ordinary : Ordinary l e (step b l e 
       go (inr k) = k
 
   -- then nothing changes, and a get has found no run
-  refused-does : (r : Refusal) → step b l e .stepped .answer ≡ Refused NoRun → Does b l e (unchanged (Refused r) l e)
+  refused-does : (r : Refusal) → stepAt b l e .stepped .answer ≡ Refused NoRun → Does b l e (unchanged (Refused r) l e)
   unfolding askedOf unchanged isRefused refusedGet engineOf wantedBy replyTo request liveAfter firstOf
   refused-does r k =
       go (eqb (e .state .core .place .kind) 1 && eqb code 3) refl (getWants b (given l e)) refl
@@ -158,15 +159,15 @@ module _ (b : ℕ) (l : Lent) (e : Engine) (ordinary : Ordinary l e (step b l e 
         absurd (omega (arith, fitting-facts _ noSetUp fits .positive))
     planned-does (moving none d) = moves-does (d .moves)
 
-  does : Does b l e (step b l e)
+  does : Does b l e (stepAt b l e)
   unfolding unchanged
-  does = go (stepping b l e)
+  does = go (stepping-at b l e)
     where
-      go : Stepping b l e (step b l e) → Does b l e (step b l e)
+      go : Stepping b l e (stepAt b l e) → Does b l e (stepAt b l e)
       go (refusing r o) = subst (Does b l e) (sym o) (refused-does r (by-17 r o))
       go (staying f o) = ends (ordinary .answered)
         where
-          ends : (step b l e .stepped .answer ≡ Running) ⊎ (step b l e .stepped .answer ≡ Refused NoRun) → Does b l e (step b l e)
+          ends : (stepAt b l e .stepped .answer ≡ Running) ⊎ (stepAt b l e .stepped .answer ≡ Refused NoRun) → Does b l e (stepAt b l e)
           ends (inl k) =
               let wrong : _≡_ {A = Answer} Finished Running = sym (ap (λ (o : Outcome). o .stepped .answer) o) ∙ k in
               let never : _≡_ {A = ℕ} 0 1 = cc in
@@ -177,32 +178,44 @@ module _ (b : ℕ) (l : Lent) (e : Engine) (ordinary : Ordinary l e (step b l e 
               absurd (omega arith)
       go (forward x facts f p o) = subst (Does b l e) (sym o) (planned-does x facts (planned b l e facts f x p))
 
--- further steps are answered, and change the live blocks, as their requests say
-record Told (e : Engine) (asked : List Asked) (now : Engine) : Type 0 where
+-- further steps of words of b bits are answered, and change the live blocks, as their requests say
+record Told (b : ℕ) (e : Engine) (asked : List Asked) (now : Engine) : Type 0 where
+  width : now .state .width ≡ b
   setup : now .state .core .setup ≡ e .state .core .setup
   live : liveBlocks now ≡ liveThen (e .state .core .setup) (liveBlocks e) (map request asked)
   answers : asked ≡ repliesTo (e .state .core .setup) (liveBlocks e) (map request asked)
 
-told : {b : ℕ} {e : Engine} {xs : List Event} {now : Engine} → Further b e xs now → Told e (askedIn b xs) now
-unfolding askedIn liveThen repliesTo
-told begin = record { setup = refl; live = refl; answers = refl }
-told {b} {e} (after {events = events} {now = now} before l ordinary) = go (told before) (does b l now ordinary)
-  where
-    go : Told e (askedIn b events) now → Does b l now (step b l now)
-        → Told e (askedOf b l now (step b l now) ++ askedIn b events) (engineOf (step b l now))
-    go h (nothing q same) =
-        subst (λ zs. Told e (zs ++ askedIn b events) (engineOf (step b l now))) (sym q)
-        (record { setup = same .setup ∙ h .setup; live = same .live ∙ h .live; answers = h .answers })
-    go h (asks x q reply numbers blocks) =
-        let u = e .state .core .setup in
-        let before = liveThen u (liveBlocks e) (map request (askedIn b events)) in
-        let here : x ≡ replyTo (request x) u before = reply ∙ ap (λ v. replyTo (request x) v (liveBlocks now)) (h .setup) ∙ ap (replyTo (request x) u) (h .live) in
-        subst (λ zs. Told e (zs ++ askedIn b events) (engineOf (step b l now))) (sym q)
-        (record {
-          setup = numbers ∙ h .setup;
-          live = blocks ∙ ap (liveAfter x) (h .live) ∙ ap (λ y. liveAfter y before) here;
-          answers = ap (λ y. y ∷ askedIn b events) here ∙ ap (λ zs. replyTo (request x) u before ∷ zs) (h .answers);
-        })
+module _ (b : ℕ) (e : Engine) (wide : isWidth b ≡ true) (same : e .state .width ≡ b) where
+  told : {xs : List Event} {now : Engine} → Further e xs now → Told b e (askedIn b xs) now
+  unfolding askedIn liveThen repliesTo engineOf
+  told begin = record { width = same; setup = refl; live = refl; answers = refl }
+  told (after {events = events} {now = now} before l ordinary) =
+      let is = step-is b l now (told before .width) wide in
+      subst (λ o. Told b e (askedOf b l now o ++ askedIn b events) (engineOf o)) (sym is)
+      (go (told before) (does b l now (subst (λ (o : Outcome). Ordinary l now (o .stepped .answer)) is ordinary)))
+    where
+      go : Told b e (askedIn b events) now → Does b l now (stepAt b l now)
+          → Told b e (askedOf b l now (stepAt b l now) ++ askedIn b events) (engineOf (stepAt b l now))
+      go h (nothing q alike) =
+          subst (λ zs. Told b e (zs ++ askedIn b events) (engineOf (stepAt b l now))) (sym q)
+          (record {
+            width = step-width b l now ∙ h .width;
+            setup = alike .setup ∙ h .setup;
+            live = alike .live ∙ h .live;
+            answers = h .answers;
+          })
+      go h (asks x q reply numbers blocks) =
+          let u = e .state .core .setup in
+          let before = liveThen u (liveBlocks e) (map request (askedIn b events)) in
+          let here : x ≡ replyTo (request x) u before
+          = reply ∙ ap (λ v. replyTo (request x) v (liveBlocks now)) (h .setup) ∙ ap (replyTo (request x) u) (h .live) in
+          subst (λ zs. Told b e (zs ++ askedIn b events) (engineOf (stepAt b l now))) (sym q)
+          (record {
+            width = step-width b l now ∙ h .width;
+            setup = numbers ∙ h .setup;
+            live = blocks ∙ ap (liveAfter x) (h .live) ∙ ap (λ y. liveAfter y before) here;
+            answers = ap (λ y. y ∷ askedIn b events) here ∙ ap (λ zs. replyTo (request x) u before ∷ zs) (h .answers);
+          })
 
 -- the free blocks of engines with the same live ones
 same-free : {b c : ℕ} {e f : Engine} → Facts b e → Facts c f → Alike e f
@@ -226,9 +239,9 @@ either-order b c ws vs xs ys e f leads others same =
     record {
       free = same-free (holds leads .facts) (holds others .facts) same;
       answers = λ xs ys e′ f′ further more alike.
-          told further .answers
+          told b e (holds leads .wide) (holds leads .width) further .answers
           ∙ ap (λ u. repliesTo u (liveBlocks e) (map request (askedIn b xs))) (same .setup)
           ∙ ap (λ bs. repliesTo (f .state .core .setup) bs (map request (askedIn b xs))) (same .live)
           ∙ ap (repliesTo (f .state .core .setup) (liveBlocks f)) alike
-          ∙ sym (told more .answers);
+          ∙ sym (told c f (holds others .wide) (holds others .width) more .answers);
     }

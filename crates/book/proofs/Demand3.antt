@@ -8,6 +8,7 @@ use mathlib.Core.Logic.{_⊎_, inl, inr, _↔_}
 use mathlib.Core.Path.{_≡_, refl, ap, sym, subst, _∙_}
 use borrow.Author.Tests.{eqb-true, ne-eqb, not-false}
 use lib.ListN.{length}
+use Rattle.word.specs.Word.{isWidth}
 use Rattle.block.specs.declared.SetUp.{SetUp}
 use Rattle.block.specs.Blocks.{Block, size, level}
 use Rattle.block.specs.SetUp.{words, fitting, absent}
@@ -27,17 +28,17 @@ use Rattle.machine.specs.Storage.{noStore, noReport}
 use Rattle.machine.specs.Sound.{Lent, Engine}
 use Rattle.machine.specs.Locate.{liveBlocks}
 use Rattle.machine.specs.Effects.{Effects, storageAfter, engineAfter}
-use Rattle.machine.specs.Step.{unchanged, carriedOut, step, engineOf, setUpAt}
-use Rattle.machine.specs.Extend.{Extension, isDone, notExtended, engineExtended, extendedBy, extend, engineLeft}
+use Rattle.machine.specs.Step.{unchanged, carriedOut, stepAt, step, engineOf, setUpAt}
+use Rattle.machine.specs.Extend.{Extension, isDone, notExtended, engineExtended, extendedBy, extendAt, extend, engineLeft}
 use Rattle.machine.proofs.Checks.{or-parts}
 use Rattle.machine.proofs.Facts.{StorageFacts, Facts}
-use Rattle.machine.proofs.Fresh.{no-words, fresh-facts}
+use Rattle.machine.proofs.Starting.{no-words, fresh-facts}
 use Rattle.machine.proofs.Live.{live-fits, live-lies}
 use Rattle.machine.proofs.Moves.{Moves, still, frees, delivers, SetsUp, Done}
 use Rattle.machine.proofs.Plan.{Planned, settingUp, moving, planned}
-use Rattle.machine.proofs.Steps.{Stepping, refusing, staying, forward, stepping}
+use Rattle.machine.proofs.Steps.{Stepping, refusing, staying, forward, stepping-at, step-is}
 use Rattle.machine.proofs.Keeps.{planned-facts}
-use Rattle.machine.proofs.Extend.{Extends, refusing as declining, growing, extends, set-up-fits, extended-facts}
+use Rattle.machine.proofs.Extend.{Extends, refusing as declining, growing, extends-at, extend-is, set-up-fits, extended-facts}
 use Rattle.book.specs.Book.{Book, emptyBook, Entry, blocks, enter, enterSetUp, enterFreed, enterDelivered, enterCopied, enterStore}
 use Rattle.book.specs.Steps.{Event, stepped, extended, Leads, begin, after, after-extension, isRefused, reportOf, entryOf, bookAfter, LiveBy}
 use Rattle.book.specs.Claim.{Tiled, AlignedRun, Served, Claim}
@@ -55,6 +56,8 @@ enter-set-up v k = refl
 
 -- what holds after a list of events
 pub record Holds (b : ℕ) (events : List Event) (e : Engine) : Type 0 where
+  pub wide : isWidth b ≡ true
+  pub width : e .state .width ≡ b
   pub facts : Facts b e
   pub matches : Matches b (e .state .core .setup) (e .state .map) (e .storage) (bookAfter events)
   pub reported : (x : Block) → List·Memᴰ x (liveBlocks e) ↔ LiveBy x events
@@ -65,10 +68,12 @@ moves-setup (still s) = s .setup
 moves-setup (frees s) = s .setup
 moves-setup (delivers s) = s .setup
 
-holds-at-first : (b : ℕ) (ws : List ℕ) → Holds b [] (record { state = fresh; storage = ws })
+holds-at-first : (b : ℕ) (ws : List ℕ) → isWidth b ≡ true → Holds b [] (record { state = fresh b; storage = ws })
 unfolding bookAfter emptyBook blocks fresh
-holds-at-first b ws =
+holds-at-first b ws wide =
     record {
+      wide = wide;
+      width = refl;
       facts = fresh-facts b ws;
       matches = record {
         setup = refl;
@@ -96,6 +101,8 @@ module _ (b : ℕ) (events : List Event) (e : Engine) (h : Holds b events e) (l 
   unfolding bookAfter engineOf unchanged reportOf noReport
   kept answer nothing =
       record {
+        wide = h .wide;
+        width = h .width;
         facts = h .facts;
         matches = subst (Matches b u (e .state .map) (e .storage)) (sym (ap (λ x. enter x (bookAfter events)) nothing ∙ enter-nothing (bookAfter events))) (h .matches);
         reported = reported-still (stepped l e (unchanged answer l e)) events (liveBlocks e) (h .reported) (positive (h .facts)) refl refl;
@@ -122,6 +129,8 @@ module _ (b : ℕ) (events : List Event) (e : Engine) (h : Holds b events e) (l 
     unfolding bookAfter engineOf carriedOut engineAfter
     moved facts v is match reported =
         record {
+          wide = h .wide;
+          width = h .width;
           facts = facts;
           matches = subst (λ k. Matches b (x .state .core .setup) (x .state .map) (storageAfter b x (e .storage)) (enter k (bookAfter events))) (sym (entry-forward x))
               (subst (λ v. Matches b v (x .state .map) (storageAfter b x (e .storage)) (enter (record { setup = setUpAt l e; report = x .report }) (bookAfter events))) (sym is) match);
@@ -199,10 +208,10 @@ module _ (b : ℕ) (events : List Event) (e : Engine) (h : Holds b events e) (l 
   finished-enters f = ap (λ (v : SetUp). record { setup = v; report = noReport }) (finished-asks-none f)
 
   -- any step
-  after-step : Holds b (stepped l e (step b l e) ∷ events) (engineOf (step b l e))
-  after-step = go (stepping b l e)
+  after-step : Holds b (stepped l e (stepAt b l e) ∷ events) (engineOf (stepAt b l e))
+  after-step = go (stepping-at b l e)
     where
-      go : Stepping b l e (step b l e) → Holds b (stepped l e (step b l e) ∷ events) (engineOf (step b l e))
+      go : Stepping b l e (stepAt b l e) → Holds b (stepped l e (stepAt b l e) ∷ events) (engineOf (stepAt b l e))
       go (refusing r o) = subst (λ o. Holds b (stepped l e o ∷ events) (engineOf o)) (sym o) (kept (Refused r) (refused-enters r))
       go (staying f o) = subst (λ o. Holds b (stepped l e o ∷ events) (engineOf o)) (sym o) (kept Finished (finished-enters f))
       go (forward x facts f p o) =
@@ -211,9 +220,9 @@ module _ (b : ℕ) (events : List Event) (e : Engine) (h : Holds b events e) (l 
 
 -- an extension
 module _ (b : ℕ) (events : List Event) (e : Engine) (h : Holds b events e) (last : ℕ) where
-  after-any-extension : Holds b (extended last e (extend b last e) ∷ events) (engineLeft (extend b last e))
+  after-any-extension : Holds b (extended last e (extendAt b last e) ∷ events) (engineLeft (extendAt b last e))
   unfolding bookAfter engineLeft notExtended extendedBy engineExtended onCore withMap withSetUp isDone reportOf noReport
-  after-any-extension = go (extends b last e)
+  after-any-extension = go (extends-at b last e)
     where
       u : SetUp
       u = e .state .core .setup
@@ -222,15 +231,17 @@ module _ (b : ℕ) (events : List Event) (e : Engine) (h : Holds b events e) (la
       same-live : (x : Extension) (y : Block) → List·Memᴰ y (liveBlocks e) ↔ LiveBy y (extended last e x ∷ events)
       same-live x = reported-still (extended last e x) events (liveBlocks e) (h .reported) (positive (h .facts)) refl refl
 
-      go : Extends b last e (extend b last e) → Holds b (extended last e (extend b last e) ∷ events) (engineLeft (extend b last e))
+      go : Extends b last e (extendAt b last e) → Holds b (extended last e (extendAt b last e) ∷ events) (engineLeft (extendAt b last e))
       go (declining answer f x) =
           subst (λ x. Holds b (extended last e x ∷ events) (engineLeft x)) (sym x)
-          (record { facts = h .facts; matches = rw f (h .matches); reported = same-live (notExtended answer e) })
+          (record { wide = h .wide; width = h .width; facts = h .facts; matches = rw f (h .matches); reported = same-live (notExtended answer e) })
       go (growing facts up taken x) =
           let fits = set-up-fits b e facts up in
           let same = extended-live-map (length (e .storage)) u fits (e .state .map) (facts .storage .blocks) last taken in
           subst (λ x. Holds b (extended last e x ∷ events) (engineLeft x)) (sym x)
           (record {
+            wide = h .wide;
+            width = h .width;
             facts = extended-facts b last e facts up taken;
             matches = matches-extended b u (e .state .map) (e .storage) (bookAfter events) last fits (facts .storage .blocks) taken (h .matches);
             reported = subst (λ bs. (y : Block) → List·Memᴰ y bs ↔ LiveBy y (extended last e (extendedBy last e) ∷ events)) (sym same)
@@ -239,17 +250,28 @@ module _ (b : ℕ) (events : List Event) (e : Engine) (h : Holds b events e) (la
 
 -- what holds after every list of events
 pub holds : {b : ℕ} {ws : List ℕ} {events : List Event} {e : Engine} → Leads b ws events e → Holds b events e
-holds {b} {ws} begin = holds-at-first b ws
-holds {b} (after {events = events} {e = e} before l) = after-step b events e (holds before) l
-holds {b} (after-extension {events = events} {e = e} before last) = after-any-extension b events e (holds before) last
+holds {b} {ws} (begin wide) = holds-at-first b ws wide
+holds {b} (after {events = events} {e = e} before l) =
+    let h = holds before in
+    subst (λ o. Holds b (stepped l e o ∷ events) (engineOf o)) (sym (step-is b l e (h .width) (h .wide))) (after-step b events e h l)
+holds {b} (after-extension {events = events} {e = e} before last) =
+    let h = holds before in
+    subst (λ x. Holds b (extended last e x ∷ events) (engineLeft x)) (sym (extend-is b last e (h .width) (h .wide)))
+    (after-any-extension b events e h last)
+
+-- the step of an engine that events have led to is one of words of b bits
+pub steps-at : {b : ℕ} {ws : List ℕ} {events : List Event} {e : Engine} → Leads b ws events e → (l : Lent) → step l e ≡ stepAt b l e
+steps-at {b} {e = e} leads l = let h = holds leads in step-is b l e (h .width) (h .wide)
 
 -- each get and duplicate of the list
 all-served : {b : ℕ} {ws : List ℕ} {events : List Event} {e : Engine} → Leads b ws events e → Served b events
 unfolding Served
-all-served begin = tt
+all-served (begin wide) = tt
 all-served {b} (after {events = events} {e = e} before l) = (
-  λ w wants. subst (λ u. (step b l e .stepped .answer ≡ Refused NoRun) ↔ ((at : ℕ) → AlignedRun u events (w .words) at → ⊥))
-      (sym (holds before .matches .setup)) (served b l e w wants events (holds before .reported)),
+  λ w wants. subst (λ o. (o .stepped .answer ≡ Refused NoRun) ↔ ((at : ℕ) → AlignedRun (bookAfter events .setup) events (w .words) at → ⊥))
+      (sym (steps-at before l))
+      (subst (λ u. (stepAt b l e .stepped .answer ≡ Refused NoRun) ↔ ((at : ℕ) → AlignedRun u events (w .words) at → ⊥))
+      (sym (holds before .matches .setup)) (served b l e w wants events (holds before .reported))),
   all-served before,
 )
 all-served (after-extension before last) = all-served before
@@ -280,7 +302,7 @@ all-tiled b s storage f = go (or-parts _ _ (f .numbers))
         subst (λ bs. Tiled v bs (free v (s .map))) (sym (live-none v (s .map) empty))
         (subst (Tiled v []) (sym (free-none v (s .map) empty)) (tiled-none v empty))
 
--- demand 3, for every width
+-- demand 3, for either width
 pub demand-3 : (b : ℕ) → Claim b
 demand-3 b ws events e leads =
     let h = holds leads in

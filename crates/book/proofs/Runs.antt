@@ -12,20 +12,20 @@ use Rattle.book.proofs.Demand3.{demand-3}
 -- a run goes on from the engine that events lead to, and its steps lead to the engine that it leaves
 module _ (b : ℕ) (ws : List ℕ) where
   run-from-leads : (count limit : ℕ) (l : Lent) (e : Engine) {events : List Event} → Leads b ws events e
-      → Leads b ws (withRun b limit l e events) (engineRan (runFrom count b limit l e))
+      → Leads b ws (withRun limit l e events) (engineRan (runFrom count limit l e))
   unfolding withRun runFrom engineRan ending engineOf
   run-from-leads count zero l e so-far = so-far
   run-from-leads count (suc limit) l e {events} so-far =
-      let o : Outcome = step b l e in
+      let o : Outcome = step l e in
       let now = after so-far l in
       let rest : Lent = record { table = l .table; input = l .input; output = o .output } in
       elim (isRunning (o .stepped .answer)) as (λ t. Leads b ws
       (elim t [
-        | true ↦ withRun b limit rest (engineOf o) (stepped l e o ∷ events)
+        | true ↦ withRun limit rest (engineOf o) (stepped l e o ∷ events)
         | false ↦ stepped l e o ∷ events
       ])
       (engineRan (elim t [
-        | true ↦ runFrom (suc count) b limit rest (engineOf o)
+        | true ↦ runFrom (suc count) limit rest (engineOf o)
         | false ↦ ending (o .stepped .answer) (suc count) (engineOf o) (o .output)
       ]))) [
         | true ↦ run-from-leads (suc count) limit rest (engineOf o) now
@@ -33,11 +33,11 @@ module _ (b : ℕ) (ws : List ℕ) where
       ]
 
   pub run-leads : (limit : ℕ) (l : Lent) (e : Engine) {events : List Event} → Leads b ws events e
-      → Leads b ws (withRun b limit l e events) (engineRan (run b limit l e))
+      → Leads b ws (withRun limit l e events) (engineRan (run limit l e))
   unfolding run
   run-leads = run-from-leads 0
 
   -- demand 3, of a list of steps with those of a run after it; a run of a lower limit gives each list up to a step inside
   pub demand-3-of-runs : (limit : ℕ) (l : Lent) (e : Engine) {events : List Event} → Leads b ws events e
-      → Demand3 b (withRun b limit l e events) (engineRan (run b limit l e))
+      → Demand3 b (withRun limit l e events) (engineRan (run limit l e))
   demand-3-of-runs limit l e so-far = demand-3 b ws _ _ (run-leads limit l e so-far)

@@ -24,13 +24,13 @@ use Rattle.machine.specs.Sound.{Lent, Engine, sound}
 use Rattle.machine.specs.Locate.{world, liveBlocks, locate, contents}
 use Rattle.machine.specs.Effects.{Effects, engineAfter}
 use Rattle.machine.specs.Operations.{Given, Wanted, getWants, duplicateWants, delivering, andStoring, get, duplicate, firstRun, lowestRun, meaning, meaningOf, operationOf, operations}
-use Rattle.machine.specs.Step.{given, inTurn, operationStep, plan, outcome, unchanged, carriedOut, step}
+use Rattle.machine.specs.Step.{given, inTurn, operationStep, plan, outcome, unchanged, carriedOut, stepAt}
 use Rattle.machine.proofs.Checks.{need-passed, bind-passed, passed-same}
 use Rattle.machine.proofs.Facts.{Facts}
 use Rattle.machine.proofs.Live.{live-size}
 use Rattle.machine.proofs.Steps.{sound-engine}
 use Rattle.machine.proofs.Extend.{set-up-fits}
-use Rattle.machine.proofs.Wanting.{fine, never, bind-fine, locate-fine, get-wants-fine, duplicate-wants-fine, no-run-delivers}
+use Rattle.machine.proofs.Wanting.{fine, never, bind-fine, locate-fine, get-wants-fine, duplicate-wants-fine, no-run-delivers-at}
 use Rattle.book.specs.Steps.{Event, LiveBy}
 use Rattle.book.specs.Claim.{AlignedRun, Wants}
 
@@ -106,8 +106,8 @@ module _ (b : ℕ) (l : Lent) (e : Engine) (w : Wanted) (h : Wants b l e w) wher
         h .inTurn,
       )
 
-  answered : (code ≡ 1 → ⊥) → step b l e .stepped .answer ≡ Refused NoRun ↔ meaning code b (given l e) ≡ refused NoRun
-  unfolding step
+  answered : (code ≡ 1 → ⊥) → stepAt b l e .stepped .answer ≡ Refused NoRun ↔ meaning code b (given l e) ≡ refused NoRun
+  unfolding stepAt
   answered other =
       rw (h .isSound, not-finished)
       (subst (λ p. outcome b p l e .stepped .answer ≡ Refused NoRun ↔ meaning code b (given l e) ≡ refused NoRun) (sym (comes-to other))
@@ -191,7 +191,7 @@ module _ (b : ℕ) (l : Lent) (e : Engine) (w : Wanted) (h : Wants b l e w) wher
         empty none [] k = k
         empty none (r ∷ rs) k = absurd (none r (is-run r (subst (List·Memᴰ r) (sym k) (List·Memᴰ·head refl))))
 
-    pub served : step b l e .stepped .answer ≡ Refused NoRun ↔ ((at : ℕ) → AlignedRun (e .state .core .setup) events (w .words) at → ⊥)
+    pub served : stepAt b l e .stepped .answer ≡ Refused NoRun ↔ ((at : ℕ) → AlignedRun (e .state .core .setup) events (w .words) at → ⊥)
     served = both-ways (answered (meant .0)) (both-ways (meant .1) no-run)
 
 -- a check before a refusal for want of storage has passed
@@ -208,12 +208,12 @@ bind-cleared (passed x) f h k = (x, refl)
 bind-cleared (refused r) f h k = absurd (h (let same : r ≡ NoRun = cc in ap refused same))
 
 -- a get that is refused for want of storage has found no run
-module _ (b : ℕ) (l : Lent) (e : Engine) (k : step b l e .stepped .answer ≡ Refused NoRun) where
+module _ (b : ℕ) (l : Lent) (e : Engine) (k : stepAt b l e .stepped .answer ≡ Refused NoRun) where
   abbrev there : ℕ
   there = e .state .core .place .row
 
   is-sound : sound b l e ≡ true
-  unfolding step unchanged
+  unfolding stepAt unchanged
   is-sound =
       by-test (λ t. cond t (cond (isFinished (e .state .core .place)) (unchanged Finished l e) (outcome b (plan b l e) l e))
       (unchanged (Refused Unsound) l e) .stepped .answer ≡ Refused NoRun → t ≡ true) (sound b l e)
@@ -221,7 +221,7 @@ module _ (b : ℕ) (l : Lent) (e : Engine) (k : step b l e .stepped .answer ≡ 
 
   module _ (atOperation : e .state .core .place .kind ≡ 1) where
     planned-so : plan b l e ≡ refused NoRun
-    unfolding step isFinished
+    unfolding stepAt isFinished
     planned-so =
         outcome-refused b (plan b l e) l e .0
         (rw (is-sound, ne-eqb (e .state .core .place .kind) 3 (λ q. absurd (omega (arith, atOperation)))) at k)
@@ -276,7 +276,7 @@ module _ (b : ℕ) (l : Lent) (e : Engine) (k : step b l e .stepped .answer ≡ 
         (w, cleared-wants w other (inr (code, k₁)))
 
 -- so a step that is refused for want of storage is a get or a duplicate that has cleared its earlier checks
-pub refused-wants : (b : ℕ) (l : Lent) (e : Engine) → step b l e .stepped .answer ≡ Refused NoRun → (w : Wanted) × Wants b l e w
+pub refused-wants : (b : ℕ) (l : Lent) (e : Engine) → stepAt b l e .stepped .answer ≡ Refused NoRun → (w : Wanted) × Wants b l e w
 refused-wants b l e k =
-    let (at, codes) = no-run-delivers b l e k in
+    let (at, codes) = no-run-delivers-at b l e k in
     ⊎-elim (wants-get b l e k at) (wants-duplicate b l e k at) codes

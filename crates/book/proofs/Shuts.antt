@@ -27,14 +27,14 @@ use Rattle.block.specs.Extension.{extendedTo, extending}
 use Rattle.block.proofs.Extension.{extending-facts, extended-words, first-added}
 use Rattle.machine.specs.Locate.{liveBlocks}
 use Rattle.machine.specs.Operations.{Wanted}
-use Rattle.machine.specs.Step.{step, engineOf}
+use Rattle.machine.specs.Step.{Outcome, step, engineOf}
 use Rattle.machine.proofs.Steps.{sound-engine}
 use Rattle.book.specs.Book.{Book, LiveBlock, blocks, storedBits, enterExtension}
 use Rattle.book.specs.Steps.{Event, stepped, extended, Leads, after, after-extension, reportOf, bookAfter, LiveBy}
 use Rattle.book.specs.Claim.{_∈_, AlignedRun, Wants, Served}
 use Rattle.book.proofs.Reported.{live-cases}
 use Rattle.book.proofs.Served.{refused-wants, wanted-size, numbers-fit, first-aligned}
-use Rattle.book.proofs.Demand3.{demand-3}
+use Rattle.book.proofs.Demand3.{holds, steps-at, demand-3}
 
 -- a multiple of d that is not zero is d or more
 at-least : (d w q : ℕ) → q * d ≡ w → 0 < w → d ≤ w
@@ -62,10 +62,10 @@ first-run b ws events e leads none l w wants =
 
 -- where no block is live, on a fresh set-up or once all is freed, no get or duplicate is refused for want of storage
 pub never-refused : (b : ℕ) (ws : List ℕ) (events : List Event) (e : Engine) → Leads b ws events e → ((x : Block) → LiveBy x events → ⊥)
-    → (l : Lent) (w : Wanted) → Wants b l e w → step b l e .stepped .answer ≡ Refused NoRun → ⊥
+    → (l : Lent) (w : Wanted) → Wants b l e w → step l e .stepped .answer ≡ Refused NoRun → ⊥
 unfolding Served
 never-refused b ws events e leads none l w wants k =
-    let d = demand-3 b ws (stepped l e (step b l e) ∷ events) (engineOf (step b l e)) (after leads l) in
+    let d = demand-3 b ws (stepped l e (step l e) ∷ events) (engineOf (step l e)) (after leads l) in
     d .served .0 w wants .0 k _
     (subst (λ u. AlignedRun u events (w .words) (e .state .core .setup .s1)) (demand-3 b ws events e leads .setup)
     (first-run b ws events e leads none l w wants))
@@ -94,14 +94,14 @@ no-false-join b ws events e leads address n odd m =
 
 module _ (b : ℕ) (ws : List ℕ) (events : List Event) (e : Engine) (leads : Leads b ws events e) (last : ℕ) where
   abbrev wider : Engine
-  wider = engineLeft (extend b last e)
+  wider = engineLeft (extend last e)
 
   abbrev now : List Event
-  now = extended last e (extend b last e) ∷ events
+  now = extended last e (extend last e) ∷ events
 
   -- the words that an extension added hold a run of any size, aligned and outside all live blocks
   added-run : Facts b e → isSetUp (e .state .core) ≡ true → extending (length (e .storage)) last (e .state .core .setup) ≡ true
-      → extend b last e ≡ extendedBy last e → (n j : ℕ) → j ≤ top (e .state .core .setup .d) → n ≡ size j
+      → extend last e ≡ extendedBy last e → (n j : ℕ) → j ≤ top (e .state .core .setup .d) → n ≡ size j
       → AlignedRun (bookAfter now .setup) now n (suc (e .state .core .setup .s2))
   unfolding extendedBy engineLeft engineExtended onCore withMap withSetUp extendedTo bookAfter isDone enterExtension
   added-run facts up taken is n j low same =
@@ -117,7 +117,7 @@ module _ (b : ℕ) (ws : List ℕ) (events : List Event) (e : Engine) (leads : L
       let d = demand-3 b ws now wider (after-extension leads last) in
       let before = demand-3 b ws events e leads in
       let numbers : bookAfter now .setup ≡ extendedTo last u = sym (d .setup) ∙ ap (λ (x : Extension). x .extended .state .core .setup) is in
-      let done : isDone (extend b last e .extended .answer) ≡ true = ap (λ (x : Extension). isDone (x .extended .answer)) is in
+      let done : isDone (extend last e .extended .answer) ≡ true = ap (λ (x : Extension). isDone (x .extended .answer)) is in
       let book : bookAfter now ≡ enterExtension last (bookAfter events) = rw done in
       let kept : liveBlocks wider ≡ liveBlocks e = d .live ∙ ap (λ (k : Book). blocks (k .live)) book ∙ sym (before .live) in
       let whole : suc (u .s2) % u .d ≡ 0
@@ -133,21 +133,24 @@ module _ (b : ℕ) (ws : List ℕ) (events : List Event) (e : Engine) (leads : L
       })
 
   -- so a get or duplicate that clears its earlier checks is not refused for want of storage right after an extension
-  extended-wants : isDone (extend b last e .extended .answer) ≡ true → (l : Lent) (w : Wanted) → Wants b l wider w
-      → step b l wider .stepped .answer ≡ Refused NoRun → ⊥
+  extended-wants : isDone (extend last e .extended .answer) ≡ true → (l : Lent) (w : Wanted) → Wants b l wider w
+      → step l wider .stepped .answer ≡ Refused NoRun → ⊥
   unfolding Served notExtended extendedBy engineLeft engineExtended onCore withMap withSetUp extendedTo isDone
-  extended-wants done l w wants k = go (extends b last e)
+  extended-wants done l w wants k = go (subst (λ (n : ℕ). Extends n last e (extend last e)) (holds leads .width) (extends last e))
     where
-      go : Extends b last e (extend b last e) → ⊥
+      go : Extends b last e (extend last e) → ⊥
       go (refusing answer f x) =
-          let same : isDone (extend b last e .extended .answer) ≡ isDone answer = ap (λ (y : Extension). isDone (y .extended .answer)) x in
+          let same : isDone (extend last e .extended .answer) ≡ isDone answer = ap (λ (y : Extension). isDone (y .extended .answer)) x in
           let z : _≡_ {A = ℕ} 0 1 = cc in
           omega arith
       go (growing facts up taken x) =
-          let d = demand-3 b ws (stepped l wider (step b l wider) ∷ now) (engineOf (step b l wider)) (after (after-extension leads last) l) in
+          let d = demand-3 b ws (stepped l wider (step l wider) ∷ now) (engineOf (step l wider)) (after (after-extension leads last) l) in
           let (j, low, same) = wanted-size b l wider w wants (sound-engine b l wider (wants .isSound)) in
           d .served .0 w wants .0 k _ (added-run facts up taken x (w .words) j (rw (ap (λ (y : Extension). y .extended .state .core .setup .d) x) at low) same)
 
   -- right after an extension no step is refused for want of storage, whatever was refused before it
-  pub extended-served : isDone (extend b last e .extended .answer) ≡ true → (l : Lent) → step b l wider .stepped .answer ≡ Refused NoRun → ⊥
-  extended-served done l k = let (w, wants) = refused-wants b l wider k in extended-wants done l w wants k
+  pub extended-served : isDone (extend last e .extended .answer) ≡ true → (l : Lent) → step l wider .stepped .answer ≡ Refused NoRun → ⊥
+  extended-served done l k =
+      let at-width = subst (λ (o : Outcome). o .stepped .answer ≡ Refused NoRun) (steps-at (after-extension leads last) l) k in
+      let (w, wants) = refused-wants b l wider at-width in
+      extended-wants done l w wants k

@@ -1,6 +1,6 @@
 -- Rooms closed in either order: tours whose engines have come to the same set-up numbers and live blocks have the same free blocks, and
 -- what both are asked in the same order they answer the same.
--- Document 02: ticket 14. Assumes nothing.
+-- Document 02: tickets 9 and 14. Assumes nothing.
 use Prim.Native.Nat.{ℕ}
 use mathlib.Core.Bool.{_&&_, cond}
 use mathlib.Core.List.{List, [], _∷_, _++_, map}
@@ -33,10 +33,10 @@ pub record Ordinary (l : Lent) (e : Engine) (answer : Answer) : Type 0 where
       (code ≡ 1 → ⊥) × (code ≡ 5 → ⊥)
 
 -- further such steps of an engine, newest first, each with its own table, input and output, and the engine that they leave
-pub data Further (b : ℕ) (e : Engine) : List Event → Engine → Type 0 where
-  begin : Further b e [] e
-  after : {events : List Event} {now : Engine} → Further b e events now → (l : Lent) → Ordinary l now (step b l now .stepped .answer)
-      → Further b e (stepped l now (step b l now) ∷ events) (engineOf (step b l now))
+pub data Further (e : Engine) : List Event → Engine → Type 0 where
+  begin : Further e [] e
+  after : {events : List Event} {now : Engine} → Further e events now → (l : Lent) → Ordinary l now (step l now .stepped .answer)
+      → Further e (stepped l now (step l now) ∷ events) (engineOf (step l now))
 
 -- what a step asks of the blocks
 pub data Request : Type 0 where
@@ -90,10 +90,10 @@ pub record GoingOn (b c : ℕ) (e f : Engine) : Type 0 where
   pub free : free (e .state .core .setup) (e .state .map) ≡ Rattle.block.specs.Map.free (f .state .core .setup) (f .state .map)
   -- where further steps of both free the same addresses and get the same sizes in one order, the delivered addresses and the refusals
   -- 17 are the same, one for one
-  pub answers : (xs ys : List Event) (e′ f′ : Engine) → Further b e xs e′ → Further c f ys f′
+  pub answers : (xs ys : List Event) (e′ f′ : Engine) → Further e xs e′ → Further f ys f′
       → map request (askedIn b xs) ≡ map request (askedIn c ys) → askedIn b xs ≡ askedIn c ys
 
--- after any two lists of steps and extensions from fresh engines, of any widths and over any storages
+-- after any two lists of steps and extensions from fresh engines, of either width each and over any storages
 abbrev pub EitherOrder : Type 0
 EitherOrder = (b c : ℕ) (ws vs : List ℕ) (xs ys : List Event) (e f : Engine) → Leads b ws xs e → Leads c vs ys f → Alike e f
     → GoingOn b c e f

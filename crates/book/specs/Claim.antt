@@ -90,6 +90,6 @@ pub record Demand3 (b : ℕ) (events : List Event) (e : Engine) : Type 0 where
   -- 5: no get or duplicate is refused by 17 but for want of a run
   pub served : Served b events
 
--- after every list of events, whatever the storage held at first and whatever tables, inputs and outputs were lent
+-- after every list of events from a fresh engine of width b, whatever the storage held at first and whatever tables, inputs and outputs were lent
 abbrev pub Claim : ℕ → Type 0
 Claim b = (ws : List ℕ) (events : List Event) (e : Engine) → Leads b ws events e → Demand3 b events e

@@ -1,10 +1,11 @@
 -- Lists of steps and extensions from a fresh engine over one storage, what they report, and the book that is fed those reports.
 -- The lists are of events, newest first; each event is a step or an extension. Document 01: demand 3 and "The book"; document 02,
--- ticket 11. Assumes nothing.
+-- tickets 9 and 11. Assumes nothing.
 use Prim.Native.Nat.{ℕ, zero, suc}
 use mathlib.Core.Bool.{Bool, true, false, cond}
 use mathlib.Core.List.{List, [], _∷_}
 use mathlib.Core.Path.{_≡_}
+use Rattle.word.specs.Word.{isWidth}
 use Rattle.block.specs.Blocks.{Block}
 use Rattle.machine.specs.declared.Answer.{Answer}
 use Rattle.machine.specs.declared.Answer.the-variants.{Running, Finished, Refused}
@@ -23,23 +24,23 @@ pub data Event : Type 0 where
   stepped : Lent → Engine → Outcome → Event
   extended : ℕ → Engine → Extension → Event
 
--- these events lead to this engine: the first has a fresh engine over the storage ws, each other the state and storage that the
+-- these events lead to this engine: the first has a fresh engine of width b, 36 or 48, over the storage ws, each other the state and storage that the
 -- one before it left, and each step its own table, input and output, each extension its own last address, refused or not
 pub data Leads (b : ℕ) (ws : List ℕ) : List Event → Engine → Type 0 where
-  begin : Leads b ws [] (record { state = fresh; storage = ws })
+  begin : isWidth b ≡ true → Leads b ws [] (record { state = fresh b; storage = ws })
   after : {events : List Event} {e : Engine} → Leads b ws events e → (l : Lent)
-      → Leads b ws (stepped l e (step b l e) ∷ events) (engineOf (step b l e))
+      → Leads b ws (stepped l e (step l e) ∷ events) (engineOf (step l e))
   after-extension : {events : List Event} {e : Engine} → Leads b ws events e → (last : ℕ)
-      → Leads b ws (extended last e (extend b last e) ∷ events) (engineLeft (extend b last e))
+      → Leads b ws (extended last e (extend last e) ∷ events) (engineLeft (extend last e))
 
 -- these events and then the steps of a run, as runFrom takes them
-unfoldable pub withRun : ℕ → ℕ → Lent → Engine → List Event → List Event
-withRun b zero l e events = events
-withRun b (suc limit) l e events =
-    let o : Outcome = step b l e in
+unfoldable pub withRun : ℕ → Lent → Engine → List Event → List Event
+withRun zero l e events = events
+withRun (suc limit) l e events =
+    let o : Outcome = step l e in
     elim (isRunning (o .stepped .answer)) [
       | true ↦
-          withRun b limit (record { table = l .table; input = l .input; output = o .output }) (engineOf o)
+          withRun limit (record { table = l .table; input = l .input; output = o .output }) (engineOf o)
           (stepped l e o ∷ events)
       | false ↦ stepped l e o ∷ events
     ]

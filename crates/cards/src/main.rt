@@ -4,11 +4,11 @@ ghost use Prim.Native.Nat.{_≤_, _<_};
 ghost use lib.ListN.{length};
 use columns::Kept;
 
-// What a call answers as a number: how many it wrote, or the refusal; 105 is a width that is none.
+// What a call answers as a number: how many it wrote, or the refusal; 31 is a width that is none.
 fn number(kept: Kept) -> u64 {
     match kept {
         Kept::Count(n) => n as u64,
-        Kept::NoWidth => cases::REFUSED + 105,
+        Kept::NoWidth => cases::REFUSED + 31,
         Kept::WordTooWide => cases::REFUSED + 33,
         Kept::NotSaved => cases::REFUSED + 34,
         Kept::OutputShort => cases::REFUSED + 35,

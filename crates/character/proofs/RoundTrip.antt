@@ -1,7 +1,7 @@
 -- Laws of digits and characters: a number from its digits and back, that a conversion from binary and back gives the value, also by way of
 -- leading blanks, and how large each result is. Assumes nothing.
 use mathlib.Core.Path.{_≡_, refl, sym, ap, ap₂, _∙_}
-use mathlib.Core.Bool.{Bool, true, false, cond}
+use mathlib.Core.Bool.{Bool, true, false, cond, _||_}
 use mathlib.Core.List.{List, [], _∷_}
 use mathlib.Core.Option.{none, some}
 use Prim.Native.Nat.{ℕ, zero, suc, _+_, _*_, _/_, _%_, _^_, _≤_, _<_, min}
@@ -11,7 +11,8 @@ use lib.Arith.{digits-div, digits-mod, mod-mul}
 use lib.Dec.{eqb, ltb}
 use lib.ListN.{length}
 use borrow.Author.Tests.{ltb-true, lt-ltb, eqb-true, eq-eqb, ne-eqb}
-use Rattle.word.proofs.Tests.{and-true}
+use Rattle.word.specs.Word.{isWidth}
+use Rattle.word.proofs.Tests.{and-true, by-eqb}
 use Rattle.character.specs.Character.{digits, number, characters, packed, holds, blank, leading, allBelow, printed, blanksToZeros, toBinary, fromBinary, zerosToBlanks}
 
 module _ (base : ℕ) where
@@ -182,15 +183,29 @@ module _ (base n v : ℕ) (pos : 0 < base) where
       let low = below-le base 48 _ small (digits-below base n v pos) in
       rw (blanks-back (digits base n v) (length-digits base n v) low) (from-to-all (omega arith) h)
 
-module _ (v : ℕ) where
-  -- six decimal digits and back
-  pub decimal : v < 1000000 → toBinary 10 6 (fromBinary 10 6 v) ≡ some v
-  decimal = from-to-all 10 6 v (omega arith) (omega arith)
+-- a word has room for whole characters
+whole-characters : (b : ℕ) → isWidth b ≡ true → 6 * (b / 6) ≡ b
+unfolding isWidth
+whole-characters b is =
+    by-eqb (λ t. (t || eqb b 48) ≡ true → 6 * (b / 6) ≡ b) b 36
+    (λ e _. omega arith)
+    (λ _ later. let e = eqb-true b 48 later in omega arith) is
 
-  -- the same by way of leading blanks, in a word of 36 bits
-  pub decimal-through-blanks : v < 1000000 → toBinary 10 6 (blanksToZeros 6 36 (zerosToBlanks 6 (fromBinary 10 6 v))) ≡ some v
-  decimal-through-blanks = through-blanks 10 6 v (omega arith) (omega arith)
+-- numbers in whole words, at either width
+module _ (b v : ℕ) (is : isWidth b ≡ true) where
+  -- decimal digits and back: below 1,000,000 at 36 bits, below 100,000,000 at 48
+  pub decimal : v < 10 ^ (b / 6) → toBinary 10 (b / 6) (fromBinary 10 (b / 6) v) ≡ some v
+  decimal = from-to-all 10 (b / 6) v (omega arith) (omega arith)
 
-  -- six octal digits and back
-  pub octal : v < 2 ^ 18 → toBinary 8 6 (fromBinary 8 6 v) ≡ some v
-  octal = from-to-all 8 6 v (omega arith) (omega arith)
+  -- the same by way of leading blanks
+  pub decimal-through-blanks
+      : v < 10 ^ (b / 6) → toBinary 10 (b / 6) (blanksToZeros (b / 6) b (zerosToBlanks (b / 6) (fromBinary 10 (b / 6) v))) ≡ some v
+  decimal-through-blanks h = rw (whole-characters b is) at (through-blanks 10 (b / 6) v (omega arith) (omega arith) h)
+
+  -- octal digits and back: below 2 ^ 18 at 36 bits, below 2 ^ 24 at 48
+  pub octal : v < 8 ^ (b / 6) → toBinary 8 (b / 6) (fromBinary 8 (b / 6) v) ≡ some v
+  octal = from-to-all 8 (b / 6) v (omega arith) (omega arith)
+
+-- the limits of decimal numbers as numbers
+pub limits : (10 ^ (36 / 6) ≡ 1000000) × (10 ^ (48 / 6) ≡ 100000000)
+limits = (refl, refl)

@@ -9,9 +9,11 @@ use borrow.Author.Tests.{eq-eqb, ne-eqb, eqb-true, le-leb, lt-leb}
 use lib.Dec.{eqb, leb}
 use lib.ListN.{length, take, drop, length-take}
 use Rattle.word.proofs.Tests.{by-eqb}
+use Rattle.word.specs.Word.{isWidth}
+use Rattle.word.proofs.Width.{width-range}
 use Rattle.columns.specs.declared.Kept.{Kept}
 use Rattle.columns.specs.declared.Kept.the-variants.{Count, NoWidth, WordTooWide, NotSaved, OutputShort}
-use Rattle.columns.specs.Columns.{Left, groupsOf, saved, allLoaded, loaded, fitsWidth, eachBelow, isSaved, isWidth, written, saving, loading, turnedGroups}
+use Rattle.columns.specs.Columns.{Left, groupsOf, saved, allLoaded, loaded, fitsWidth, eachBelow, isSaved, written, saving, loading, turnedGroups}
 use Rattle.columns.proofs.Back.{room, length-saved}
 use Rattle.columns.proofs.Turning.{length-groups}
 
@@ -23,14 +25,6 @@ whole-is length b groups pos =
     (λ same. sym (eq-eqb length (b * groups) (omega (arith, div-add-mod' length b, ap (λ (n : ℕ). n * b) same))))
     (λ other. sym (ne-eqb length (b * groups) (λ e. other (ap (λ (n : ℕ). n / b) e ∙ mul-div-cancel-left groups pos)))))
     (λ some. sym (ne-eqb length (b * groups) (λ e. some (ap (λ (n : ℕ). n % b) e ∙ mul-mod-right b groups))))
-
--- a width is one of two
-pub width-range : (b : ℕ) → isWidth b ≡ true → (8 ≤ b) × (b ≤ 48)
-unfolding isWidth
-width-range b is =
-    by-eqb (λ t. (t || eqb b 48) ≡ true → (8 ≤ b) × (b ≤ 48)) b 36
-    (λ e _. (omega arith, omega arith))
-    (λ _ later. let e = eqb-true b 48 later in (omega arith, omega arith)) is
 
 -- so many groups have room, or not, by the quotient of the room
 module _ (b groups room : ℕ) (w : isWidth b ≡ true) where

@@ -1,9 +1,10 @@
 -- Storage kept by bit columns: words in groups of eight, one byte for each bit place. Document 02, ticket 13. Assumes nothing.
 use Prim.Native.Nat.{ℕ, zero, suc, _+_, _-_, _*_, _/_, _%_, _^_}
-use mathlib.Core.Bool.{Bool, true, _&&_, _||_, cond}
+use mathlib.Core.Bool.{Bool, true, _&&_, cond}
 use mathlib.Core.List.{List, [], _∷_, _++_, map}
 use lib.Dec.{eqb, leb, ltb}
 use lib.ListN.{length, getD, take, drop, replicate}
+use Rattle.word.specs.Word.{isWidth}
 use Rattle.character.specs.Character.{digits, number}
 use Rattle.columns.specs.declared.Kept.{Kept}
 use Rattle.columns.specs.declared.Kept.the-variants.{Count, NoWidth, WordTooWide, NotSaved, OutputShort}
@@ -77,10 +78,6 @@ fitsWidth b = eachBelow (2 ^ b)
 unfoldable pub isSaved : ℕ → ℕ → List ℕ → Bool
 isSaved b n bytes = eqb (length bytes) (b * groupsOf n) && eachBelow 1 (drop n (allLoaded b n bytes))
 
--- the widths of an engine's words
-unfoldable pub isWidth : ℕ → Bool
-isWidth b = eqb b 36 || eqb b 48
-
 -- what a call answers and what it leaves in its output
 pub record Left : Type 0 where
   pub answer : Kept
@@ -92,14 +89,14 @@ written xs output =
     cond (leb (length xs) (length output)) (record { answer = Count (length xs); output = xs ++ drop (length xs) output })
     (record { answer = OutputShort; output = output })
 
--- saving: 33, 35
+-- saving: 31, 33, 35
 unfoldable pub saving : ℕ → List ℕ → List ℕ → Left
 saving b ws output =
     cond (isWidth b)
     (cond (fitsWidth b ws) (written (saved b ws) output) (record { answer = WordTooWide; output = output }))
     (record { answer = NoWidth; output = output })
 
--- loading: 34, 35
+-- loading: 31, 34, 35
 unfoldable pub loading : ℕ → ℕ → List ℕ → List ℕ → Left
 loading b n bytes output =
     cond (isWidth b)
@@ -109,7 +106,7 @@ loading b n bytes output =
 -- the number of a refusal, 0 where it has none
 unfoldable pub keptNumber : Kept → ℕ
 keptNumber (Count n) = 0
-keptNumber NoWidth = 0
+keptNumber NoWidth = 31
 keptNumber WordTooWide = 33
 keptNumber NotSaved = 34
 keptNumber OutputShort = 35

@@ -7,10 +7,11 @@ ghost use lib.Dec.{eqb};
 ghost use lib.ListN.{length, getD, take, drop};
 ghost use lib.Seq.{sets};
 ghost use Rattle.character.specs.Character.{number};
-ghost use Rattle.columns.specs.Columns.{groupsOf, filledUp, turnedGroups, saved, fitsWidth, eachBelow, isSaved, isWidth, saving, loading, bitsAt, turned};
+ghost use Rattle.columns.specs.Columns.{groupsOf, filledUp, turnedGroups, saved, fitsWidth, eachBelow, isSaved, saving, loading, bitsAt, turned};
 ghost use Rattle.columns.specs.Packing.{unpacked, spreadOf, packedTurned, octets, longer};
+use word::is_width;
 
-// What a call answers: how many bytes or words it wrote, or why it wrote none. A width is 36 or 48 bits.
+// What a call answers: how many bytes or words it wrote, or why it wrote none: 31, 33, 34, 35.
 pub enum Kept {
     Count(usize),
     NoWidth,
@@ -271,14 +272,7 @@ fn is_whole(b: u64, groups: usize, length: usize) -> bool
     (length % n == 0) & (length / n == groups)
 }
 
-// Whether this is a width of an engine's words.
-fn is_width(b: u64) -> bool
-    ensures { λ r. ⌜ r ≡ isWidth b ⌝ }
-{
-    (b == 36) | (b == 48)
-}
-
-// Saves words of b bits: 33, 35. Bytes past those written stay.
+// Saves words of b bits: 31, 33, 35. Bytes past those written stay.
 pub fn save(b: u64, words: &[u64], bytes: &mut [u8]) -> Kept
     ensures { λ r. ⌜ record { answer = r; output = now (bytes .exit) } ≡ saving b (now (words .entry)) (now (bytes .entry)) ⌝ }
 {
@@ -298,7 +292,7 @@ pub fn save(b: u64, words: &[u64], bytes: &mut [u8]) -> Kept
     Kept::Count(count)
 }
 
-// Loads n words of b bits: 34, 35. Words past those written stay.
+// Loads n words of b bits: 31, 34, 35. Words past those written stay.
 pub fn load(b: u64, bytes: &[u8], n: usize, words: &mut [u64]) -> Kept
     ensures { λ r. ⌜ record { answer = r; output = now (words .exit) } ≡ loading b n (now (bytes .entry)) (now (words .entry)) ⌝ }
 {

@@ -14,7 +14,7 @@ use Rattle.machine.specs.declared.Location.{Location}
 use Rattle.machine.specs.declared.Location.the-variants.{Bug, Field}
 use Rattle.machine.specs.declared.Core.{Core}
 use Rattle.machine.specs.declared.State.{State}
-use Rattle.machine.specs.State.{movedTo, withBug, withDefinition, withContents, withSaved, withCalls, withSetUp, withTaken, withWritten, onCore, withMap}
+use Rattle.machine.specs.State.{withWidth, movedTo, withBug, withDefinition, withContents, withSaved, withCalls, withSetUp, withTaken, withWritten, onCore, withMap}
 use Rattle.machine.specs.Storage.{noStore, noReport, placed, wordAt, withStore, withDelivery, withCopy, afterReport}
 use Rattle.machine.specs.Sound.{Engine}
 use Rattle.machine.specs.Operations.{delivering, andStoring}
@@ -174,7 +174,7 @@ module _ (b : ℕ) (e : Engine) (to : Place) where
 
   pub effects-as : (x : Action) → Sure x → engineAfter b (effects b x (onCore (movedTo to) (e .state))) e ≡ engineThen b to x e
   unfolding engineAfter
-  effects-as x h = same-engine (state-as x) (words-as x h)
+  effects-as x h = same-engine (ap (withWidth (e .state .width)) (state-as x)) (words-as x h)
 
 -- the output and the report of an action
 module _ (b : ℕ) (s : State) where

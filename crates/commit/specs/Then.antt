@@ -1,4 +1,4 @@
--- An engine by the parts that a run keeps in locals, and the engine after an action. Assumes nothing.
+-- An engine of width b by the parts that a run keeps in locals, and the engine after an action. Assumes nothing.
 use Prim.Native.Nat.{ℕ}
 use mathlib.Core.List.{List}
 use Rattle.block.specs.declared.SetUp.{SetUp}
@@ -26,9 +26,9 @@ coreWith place bugs r entries c u =
       written = c .written;
     }
 
-abbrev pub engineWith : Place → List ℕ → Records → List ℕ → Counts → SetUp → List ℕ → List ℕ → Engine
-engineWith place bugs r entries c u map storage =
-    record { state = record { core = coreWith place bugs r entries c u; map = map }; storage = storage }
+abbrev pub engineWith : ℕ → Place → List ℕ → Records → List ℕ → Counts → SetUp → List ℕ → List ℕ → Engine
+engineWith b place bugs r entries c u map storage =
+    record { state = record { width = b; core = coreWith place bugs r entries c u; map = map }; storage = storage }
 
 abbrev pub recordsOf : Core → Records
 recordsOf c = record { definitions = c .definitions; saved = c .saved .entries; calls = c .calls .entries }
@@ -37,7 +37,7 @@ recordsOf c = record { definitions = c .definitions; saved = c .saved .entries; 
 abbrev pub engineThen : ℕ → Place → Action → Engine → Engine
 engineThen b to x e =
     let c = e .state .core in
-    engineWith (placeAfter x to (c .calls .entries) (c .calls .count)) (bugsAfter b x (c .bugs))
+    engineWith (e .state .width) (placeAfter x to (c .calls .entries) (c .calls .count)) (bugsAfter b x (c .bugs))
     (recordsAfter x to (countsOf c) (recordsOf c))
     (entriesAfter (c .contents .count) x (c .contents .entries))
     (countsAfter x (countsOf c))

@@ -1,7 +1,8 @@
 // The engine compared with reference/engine.rs, which wrote the cases of the input (reference/comparison.rs has their form) and the lines
 // that must be printed. Each case is stepped from its start, and then run from the same start. A line has the case's number; answer,
 // count of steps, and checksums over the steps and over all that they leave (state, storage, output); the run's answer, count and
-// checksum over all that it leaves; and the case's label. At the end there is a line for each count of what the cases reached.
+// checksum over all that it leaves; and the case's label. At the end there is a line for each count of what the cases reached, those of 36
+// bits and then those of 48.
 use engine::answers::refusal_number;
 use layout::reading::read_state;
 use layout::writing::write_state;
@@ -71,7 +72,7 @@ fn step(
     Told {
         answer: answer_number(answer),
         steps: checksums::report(steps, report),
-        store: counts::store_count(report.first),
+        store: counts::store_count(report.first, states::width(state)),
     }
 }
 
@@ -118,6 +119,7 @@ fn damage(state: &mut [u8; STATE], storage: &mut [u64], damages: &[u64]) {
 
 // The state that a case starts from: a fresh engine over new storage and output, some steps on, and damaged.
 fn start(
+    width: u64,
     state: &mut [u8; STATE],
     table: &[u64],
     storage: &mut [u64],
@@ -128,7 +130,8 @@ fn start(
 ) {
     fill_words(storage);
     fill_bytes(output);
-    write_state(state, engine::fresh());
+    let made = engine::fresh(width);
+    write_state(state, made.state);
     run(state, table, storage, input, output, before);
     damage(state, storage, damages);
 }
@@ -243,6 +246,7 @@ fn write_case(which: u64, stepped: Ended, ran: Ended) {
 
 // A case by steps and by a run, each from its start.
 fn play(
+    width: u64,
     which: u64,
     table: &[u64],
     storage: &mut [u64],
@@ -254,18 +258,36 @@ fn play(
     counts: &mut [u64; COUNTS],
 ) {
     let mut state = [0u8; STATE];
-    start(&mut state, table, storage, input, output, damages, before);
+    start(
+        width,
+        &mut state,
+        table,
+        storage,
+        input,
+        output,
+        damages,
+        before,
+    );
     let stepped = step_all(&mut state, table, storage, input, output, limit, counts);
-    start(&mut state, table, storage, input, output, damages, before);
+    start(
+        width,
+        &mut state,
+        table,
+        storage,
+        input,
+        output,
+        damages,
+        before,
+    );
     let ran = run(&mut state, table, storage, input, output, limit);
     write_case(which, stepped, ran);
 }
 
-// The case of these numbers.
+// The case of these numbers, its width beside.
 fn play_numbers(which: u64, numbers: &[u64; NUMBERS], counts: &mut [u64; COUNTS]) {
     let all = &numbers[..];
     let case = numbers::case_of(all);
-    let input = 7 + case.table;
+    let input = 8 + case.table;
     let damages = input + case.input;
     let end = damages + 2 * case.damages;
     let mut input_bytes = [0u8; 256];
@@ -276,8 +298,9 @@ fn play_numbers(which: u64, numbers: &[u64; NUMBERS], counts: &mut [u64; COUNTS]
     let storage_length = case.storage;
     let output_length = case.output;
     play(
+        case.width,
         which,
-        &all[7..input],
+        &all[8..input],
         &mut storage[..storage_length],
         &input_bytes[..input_length],
         &mut output[..output_length],
@@ -289,12 +312,22 @@ fn play_numbers(which: u64, numbers: &[u64; NUMBERS], counts: &mut [u64; COUNTS]
 }
 
 // The case that starts at a place of the input, and where the next one starts.
-fn play_at(file: &[u8], from: usize, which: u64, counts: &mut [u64; COUNTS]) -> usize {
+fn play_at(
+    file: &[u8],
+    from: usize,
+    which: u64,
+    narrow: &mut [u64; COUNTS],
+    wide: &mut [u64; COUNTS],
+) -> usize {
     let mut numbers = [0u64; NUMBERS];
     let length = numbers::number_at(file, from);
     let count = numbers::within(length.value, NUMBERS);
     let after = numbers::read_numbers(file, length.next, count, &mut numbers);
-    play_numbers(which, &numbers, counts);
+    if numbers[7] == 48 {
+        play_numbers(which, &numbers, wide);
+    } else {
+        play_numbers(which, &numbers, narrow);
+    }
     let label = numbers::number_at(file, after);
     let end = numbers::write_text(file, label.next, label.value);
     io::write_all(1, b"\n");
@@ -303,16 +336,18 @@ fn play_at(file: &[u8], from: usize, which: u64, counts: &mut [u64; COUNTS]) -> 
 
 // All cases of the input, and what they reached.
 fn play_all(file: &[u8]) {
-    let mut counts = [0u64; COUNTS];
+    let mut narrow = [0u64; COUNTS];
+    let mut wide = [0u64; COUNTS];
     let first = numbers::number_at(file, 0);
     let cases = first.value;
     let mut at = first.next;
     let mut which = 0;
     while which < cases {
-        at = play_at(file, at, which, &mut counts);
+        at = play_at(file, at, which, &mut narrow, &mut wide);
         which += 1;
     }
-    counts::write(&counts, file, at);
+    let rest = counts::write(&narrow, file, at);
+    counts::write(&wide, file, rest);
 }
 
 fn main() {

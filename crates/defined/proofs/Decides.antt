@@ -9,11 +9,12 @@ use mathlib.Core.Logic.{_⊎_, inl, inr, ⊎-elim, _↔_}
 use mathlib.Core.Path.{_≡_, refl, ap, sym, subst, _∙_}
 use borrow.Author.Tests.{eqb-true, eqb-false, eq-eqb, ne-eqb}
 use lib.Dec.{eqb}
+use Rattle.word.specs.Word.{isWidth}
 use Rattle.table.specs.declared.FieldName.{FieldName}
 use Rattle.table.specs.Row.{lengthFits, rows, rowAt}
 use Rattle.machine.proofs.Checks.{or-parts, clash}
 use Rattle.defined.specs.declared.FieldsCheck.{FieldsCheck}
-use Rattle.defined.specs.declared.FieldsCheck.the-variants.{Yes, No, BadLength, IllFormed, WrongKind}
+use Rattle.defined.specs.declared.FieldsCheck.the-variants.{Yes, No, NoWidth, BadLength, IllFormed, WrongKind}
 use Rattle.defined.specs.declared.FirstUse.{FirstUse}
 use Rattle.defined.specs.declared.FirstUse.the-variants.{At, Nowhere}
 use Rattle.defined.specs.declared.Used.{Used}
@@ -180,17 +181,20 @@ module _ (b : ℕ) (table : List ℕ) (h : Passes b table) where
 verdict : FieldsCheck → Bool
 verdict Yes = true
 verdict (No r n) = true
+verdict NoWidth = false
 verdict BadLength = false
 verdict (IllFormed r) = false
 verdict (WrongKind r) = false
 
-verdict-parts : (x y z : Bool) (m a : FieldsCheck) (w i : ℕ) → cond x (cond y (cond z m (WrongKind w)) (IllFormed i)) BadLength ≡ a → verdict a ≡ true
-    → (x ≡ true) × ((y ≡ true) × ((z ≡ true) × (m ≡ a)))
+verdict-parts : (v x y z : Bool) (m a : FieldsCheck) (w i : ℕ)
+    → cond v (cond x (cond y (cond z m (WrongKind w)) (IllFormed i)) BadLength) NoWidth ≡ a → verdict a ≡ true
+    → (v ≡ true) × ((x ≡ true) × ((y ≡ true) × ((z ≡ true) × (m ≡ a))))
 unfolding verdict
-verdict-parts true true true m a w i e v = (refl, (refl, (refl, e)))
-verdict-parts true true false m a w i e v = clash (rw (← e) at v)
-verdict-parts true false z m a w i e v = clash (rw (← e) at v)
-verdict-parts false y z m a w i e v = clash (rw (← e) at v)
+verdict-parts true true true true m a w i e k = (refl, (refl, (refl, (refl, e))))
+verdict-parts true true true false m a w i e k = clash (rw (← e) at k)
+verdict-parts true true false z m a w i e k = clash (rw (← e) at k)
+verdict-parts true false y z m a w i e k = clash (rw (← e) at k)
+verdict-parts false x y z m a w i e k = clash (rw (← e) at k)
 
 first-holds : (P : ℕ → Type 0) (fs : List FieldName) (n : ℕ) → FirstSuch P fs n → P n
 first-holds P fs n (here p) = p
@@ -204,13 +208,13 @@ module _ (b : ℕ) (table : List ℕ) where
   says : (a : FieldsCheck) → fieldsChecked b table ≡ a → verdict a ≡ true → Passes b table × (saying (firstUse table) ≡ a)
   unfolding fieldsChecked
   says a e v =
-      let (long, (formed, (kinds, is))) = verdict-parts (lengthFits table) (eqb (illFormedRow b table) 0) (eqb (wrongRow table) 0)
+      let (wide, (long, (formed, (kinds, is)))) = verdict-parts (isWidth b) (lengthFits table) (eqb (illFormedRow b table) 0) (eqb (wrongRow table) 0)
       (saying (firstUse table)) a (wrongRow table) (illFormedRow b table) e v in
-      (record { long = long; formed = eqb-true _ _ formed; kinds = eqb-true _ _ kinds }, is)
+      (record { wide = wide; long = long; formed = eqb-true _ _ formed; kinds = eqb-true _ _ kinds }, is)
 
   passing : Passes b table → fieldsChecked b table ≡ saying (firstUse table)
   unfolding fieldsChecked
-  passing h = rw (h .long, eq-eqb _ 0 (h .formed), eq-eqb _ 0 (h .kinds))
+  passing h = rw (h .wide, h .long, eq-eqb _ 0 (h .formed), eq-eqb _ 0 (h .kinds))
 
   saying-no : (u : FirstUse) (r n : ℕ) → saying u ≡ No r n → u ≡ At r n
   unfolding saying

@@ -25,7 +25,8 @@ use Rattle.machine.specs.Locate.{World, world, operand}
 use Rattle.machine.specs.Test.{Made, testing, satisfied as settled, settling, settledAs}
 use Rattle.machine.specs.Effects.{Effects, quietly}
 use Rattle.machine.specs.Operations.{meaning, theName}
-use Rattle.machine.specs.Step.{nextLine as nextLineOf, operationOrExit, goingTo, testsStep, inTurn, given, operationStep, return, exitStep, plan, Outcome, unchanged, carriedOut, outcome, step, engineOf, ending, runFrom, RunOutcome, engineRan}
+use Rattle.machine.specs.Step.{nextLine as nextLineOf, operationOrExit, goingTo, testsStep, inTurn, given, operationStep, return, exitStep, plan, Outcome, unchanged, carriedOut, outcome, stepAt, step, engineOf, ending, runFrom, RunOutcome, engineRan}
+use Rattle.machine.proofs.Steps.{by-width}
 use Rattle.machine.proofs.Checks.{clash, need-passed, bind-passed, then-passed, passed-same}
 use Rattle.defined.specs.Paths.{Point, line, test, operation, exit, InChain, first, further, afterDo, toTests, noTests, nextTest, satisfied, otherwise, doing, nextOperation, going, nextLine, returning, Fields, noField, after, passing, Path, start, along, StandsAt, atTest, atOperation as atOperationRow, SomeUse}
 use Rattle.defined.proofs.Refers.{rowRefers, first-refers, second-refers}
@@ -394,9 +395,9 @@ module _ (b : ℕ) (l : Lent) (none : SomeUse (l .table) → ⊥) (e : Engine) (
       never-refused false k = let never : _≡_ {A = ℕ} 0 1 = cc in omega arith
 
   -- the whole step: not refused by 14, and still on a path
-  pub step-right : (step b l e .stepped .answer ≡ Refused UndefinedField → ⊥) × OnPath (l .table) (engineOf (step b l e) .state .core)
-  unfolding step unchanged engineOf refusalNumber
-  step-right =
+  step-right-at : Fine (stepAt b l e)
+  unfolding stepAt unchanged engineOf refusalNumber
+  step-right-at =
       elim (sound b l e) as (λ t. Fine (cond t (cond (isFinished (e .state .core .place)) (unchanged Finished l e) (outcome b (plan b l e) l e))
       (unchanged (Refused Unsound) l e))) [
         | true ↦ elim (isFinished (e .state .core .place)) as
@@ -405,10 +406,17 @@ module _ (b : ℕ) (l : Lent) (none : SomeUse (l .table) → ⊥) (e : Engine) (
         | false ↦ (λ k. let never : _≡_ {A = ℕ} 0 1 = cc in omega arith, h)
       ]
 
+pub step-right : (l : Lent) → (SomeUse (l .table) → ⊥) → (e : Engine) → OnPath (l .table) (e .state .core)
+    → (step l e .stepped .answer ≡ Refused UndefinedField → ⊥) × OnPath (l .table) (engineOf (step l e) .state .core)
+unfolding unchanged engineOf
+step-right l none e h =
+    by-width l e (λ o. (o .stepped .answer ≡ Refused UndefinedField → ⊥) × OnPath (l .table) (engineOf o .state .core))
+    (λ _. step-right-at (e .state .width) l none e h) (λ _. (λ k. let never : _≡_ {A = ℕ} 0 1 = cc in omega arith, h))
+
 -- a fresh engine stands on a path
-pub fresh-on-path : (table : List ℕ) → OnPath table (fresh .core)
+pub fresh-on-path : (b : ℕ) (table : List ℕ) → OnPath table (fresh b .core)
 unfolding fresh testsOf noField
-fresh-on-path table =
+fresh-on-path b table =
     record {
       standing = atLine refl noField start (λ n k. clash k);
       names = length-replicate 36 undefined;
@@ -420,19 +428,19 @@ fresh-on-path table =
 abbrev Ran : List ℕ → RunOutcome → Type 0
 Ran table r = (r .ran .answer ≡ Refused UndefinedField → ⊥) × OnPath table (engineRan r .state .core)
 
-pub run-right : (count b limit : ℕ) (l : Lent) → (SomeUse (l .table) → ⊥) → (e : Engine) → OnPath (l .table) (e .state .core)
-    → Ran (l .table) (runFrom count b limit l e)
+pub run-right : (count limit : ℕ) (l : Lent) → (SomeUse (l .table) → ⊥) → (e : Engine) → OnPath (l .table) (e .state .core)
+    → Ran (l .table) (runFrom count limit l e)
 unfolding runFrom ending engineRan
-run-right count b zero l none e h = (λ k. let never : _≡_ {A = ℕ} 0 1 = cc in omega arith, h)
-run-right count b (suc limit) l none e h =
-    let o : Outcome = step b l e in
-    let (fine, on) = step-right b l none e h in
+run-right count zero l none e h = (λ k. let never : _≡_ {A = ℕ} 0 1 = cc in omega arith, h)
+run-right count (suc limit) l none e h =
+    let o : Outcome = step l e in
+    let (fine, on) = step-right l none e h in
     let rest : Lent = record { table = l .table; input = l .input; output = o .output } in
     elim (isRunning (o .stepped .answer)) as (λ t. Ran (l .table)
     (elim t as (λ _. RunOutcome) [
-      | true ↦ runFrom (suc count) b limit rest (engineOf o)
+      | true ↦ runFrom (suc count) limit rest (engineOf o)
       | false ↦ ending (o .stepped .answer) (suc count) (engineOf o) (o .output)
     ])) [
-      | true ↦ run-right (suc count) b limit rest none (engineOf o) on
+      | true ↦ run-right (suc count) limit rest none (engineOf o) on
       | false ↦ (fine, on)
     ]

@@ -17,43 +17,43 @@ use Rattle.defined.proofs.Standing.{OnPath}
 use Rattle.defined.proofs.Never.{step-right, run-right, fresh-on-path}
 use Rattle.defined.proofs.Decides.{yes-none}
 
-module _ (b : ℕ) (table : List ℕ) (none : SomeUse table → ⊥) where
+module _ (table : List ℕ) (none : SomeUse table → ⊥) where
   -- what is lent has this table
   lent-none : (l : Lent) → l .table ≡ table → SomeUse (l .table) → ⊥
   lent-none l is u = none (subst SomeUse is u)
 
   -- such engines stand on paths
-  alone-on-path : (e : Engine) → Alone b table e → OnPath table (e .state .core)
+  alone-on-path : (e : Engine) → Alone table e → OnPath table (e .state .core)
   unfolding run
-  alone-on-path e (begin storage) = fresh-on-path table
+  alone-on-path e (begin b storage) = fresh-on-path b table
   alone-on-path e (stepping {e = before} c l is o eq) =
       subst (λ (x : Outcome). OnPath table (engineOf x .state .core)) (sym eq)
-      (subst (λ t. OnPath t (engineOf (step b l before) .state .core)) is
-      (step-right b l (lent-none l is) before (subst (λ t. OnPath t (before .state .core)) (sym is) (alone-on-path before c)) .1))
+      (subst (λ t. OnPath t (engineOf (step l before) .state .core)) is
+      (step-right l (lent-none l is) before (subst (λ t. OnPath t (before .state .core)) (sym is) (alone-on-path before c)) .1))
   alone-on-path e (running {e = before} c l is limit r eq) =
       subst (λ (x : RunOutcome). OnPath table (engineRan x .state .core)) (sym eq)
-      (subst (λ t. OnPath t (engineRan (run b limit l before) .state .core)) is
-      (run-right 0 b limit l (lent-none l is) before (subst (λ t. OnPath t (before .state .core)) (sym is) (alone-on-path before c)) .1))
+      (subst (λ t. OnPath t (engineRan (run limit l before) .state .core)) is
+      (run-right 0 limit l (lent-none l is) before (subst (λ t. OnPath t (before .state .core)) (sym is) (alone-on-path before c)) .1))
 
 module _ (b : ℕ) (table : List ℕ) (h : fieldsChecked b table ≡ Yes) where
   none : SomeUse table → ⊥
   none = yes-none b table h .1
 
-  module _ (e : Engine) (c : Alone b table e) (l : Lent) (is : l .table ≡ table) where
+  module _ (e : Engine) (c : Alone table e) (l : Lent) (is : l .table ≡ table) where
     on-path : OnPath (l .table) (e .state .core)
-    on-path = subst (λ t. OnPath t (e .state .core)) (sym is) (alone-on-path b table none e c)
+    on-path = subst (λ t. OnPath t (e .state .core)) (sym is) (alone-on-path table none e c)
 
     -- no step answers 14
-    pub yes-step : (o : Outcome) → o ≡ step b l e → o .stepped .answer ≡ Refused UndefinedField → ⊥
-    yes-step o eq k = step-right b l (lent-none b table none l is) e on-path .0 (ap (λ (x : Outcome). x .stepped .answer) (sym eq) ∙ k)
+    pub yes-step : (o : Outcome) → o ≡ step l e → o .stepped .answer ≡ Refused UndefinedField → ⊥
+    yes-step o eq k = step-right l (lent-none table none l is) e on-path .0 (ap (λ (x : Outcome). x .stepped .answer) (sym eq) ∙ k)
 
     -- no run does
-    pub yes-run : (limit : ℕ) (r : RunOutcome) → r ≡ run b limit l e → r .ran .answer ≡ Refused UndefinedField → ⊥
+    pub yes-run : (limit : ℕ) (r : RunOutcome) → r ≡ run limit l e → r .ran .answer ≡ Refused UndefinedField → ⊥
     unfolding run
     yes-run limit r eq k =
-        run-right 0 b limit l (lent-none b table none l is) e on-path .0 (ap (λ (x : RunOutcome). x .ran .answer) (sym eq) ∙ k)
+        run-right 0 limit l (lent-none table none l is) e on-path .0 (ap (λ (x : RunOutcome). x .ran .answer) (sym eq) ∙ k)
 
--- as the ticket has it: a run alone from a fresh engine
-pub yes-never-undefined : (b limit : ℕ) (l : Lent) (storage : List ℕ) → fieldsChecked b (l .table) ≡ Yes
-    → run b limit l (record { state = fresh; storage = storage }) .ran .answer ≡ Refused UndefinedField → ⊥
-yes-never-undefined b limit l storage h = yes-run b (l .table) h _ (begin storage) l refl limit _ refl
+-- as the ticket has it: a run alone from a fresh engine, of whatever width
+pub yes-never-undefined : (b c limit : ℕ) (l : Lent) (storage : List ℕ) → fieldsChecked b (l .table) ≡ Yes
+    → run limit l (record { state = fresh c; storage = storage }) .ran .answer ≡ Refused UndefinedField → ⊥
+yes-never-undefined b c limit l storage h = yes-run b (l .table) h _ (begin c storage) l refl limit _ refl

@@ -1,15 +1,16 @@
--- The check's answer: refusal 1, then the table check's own answer, then 30, then yes or no.
--- Document 02: ticket 8. Assumes nothing.
+-- The check's answer: refusals 31 and 1, then the table check's own answer, then 30, then yes or no.
+-- Document 02: tickets 8 and 9. Assumes nothing.
 use Prim.Native.Nat.{ℕ, _-_, _<_}
-use mathlib.Core.Bool.{true, cond}
+use mathlib.Core.Bool.{true, _&&_, cond}
 use mathlib.Core.List.{List}
 use mathlib.Core.Logic.{_↔_}
 use mathlib.Core.Path.{_≡_}
 use lib.Dec.{eqb}
+use Rattle.word.specs.Word.{isWidth}
 use Rattle.table.specs.Row.{lengthFits, rows, rowAt}
 use Rattle.table.specs.Table.{lowestFrom}
 use Rattle.defined.specs.declared.FieldsCheck.{FieldsCheck}
-use Rattle.defined.specs.declared.FieldsCheck.the-variants.{Yes, No, BadLength, IllFormed, WrongKind}
+use Rattle.defined.specs.declared.FieldsCheck.the-variants.{Yes, No, NoWidth, BadLength, IllFormed, WrongKind}
 use Rattle.defined.specs.declared.FirstUse.{FirstUse}
 use Rattle.defined.specs.declared.FirstUse.the-variants.{At, Nowhere}
 use Rattle.defined.specs.Kinds.{wrongRow}
@@ -20,8 +21,9 @@ use Rattle.defined.specs.Search.{firstUse}
 abbrev pub illFormedRow : ℕ → List ℕ → ℕ
 illFormedRow b table = lowestFrom b table 1 (rows table - 1)
 
--- what comes before yes or no: refusal 1 and the table check's own answer, then 30
+-- what comes before yes or no: refusals 31 and 1 and the table check's own answer, then 30
 pub record Passes (b : ℕ) (table : List ℕ) : Type 0 where
+  pub wide : isWidth b ≡ true
   pub long : lengthFits table ≡ true
   pub formed : illFormedRow b table ≡ 0
   pub kinds : wrongRow table ≡ 0
@@ -41,16 +43,19 @@ saying Nowhere = Yes
 -- how the answer is computed for a table of words of b bits; that it means what `Meant` says is proved in proofs/Decides.antt
 unfoldable pub fieldsChecked : ℕ → List ℕ → FieldsCheck
 fieldsChecked b table =
-    cond (lengthFits table)
+    cond (isWidth b)
+    (cond (lengthFits table)
     (cond (eqb (illFormedRow b table) 0)
     (cond (eqb (wrongRow table) 0) (saying (firstUse table)) (WrongKind (wrongRow table)))
     (IllFormed (illFormedRow b table)))
-    BadLength
+    BadLength)
+    NoWidth
 
 -- the answer in the papers' numbers: the refusal, 0 where it is none
 unfoldable pub refusalOf : FieldsCheck → ℕ
 refusalOf Yes = 0
 refusalOf (No r n) = 0
+refusalOf NoWidth = 31
 refusalOf BadLength = 1
 refusalOf (IllFormed r) = 0
 refusalOf (WrongKind r) = 30
@@ -59,6 +64,7 @@ refusalOf (WrongKind r) = 30
 unfoldable pub rowOf : FieldsCheck → ℕ
 rowOf Yes = 0
 rowOf (No r n) = r
+rowOf NoWidth = 0
 rowOf BadLength = 0
 rowOf (IllFormed r) = r
 rowOf (WrongKind r) = r
@@ -67,21 +73,22 @@ rowOf (WrongKind r) = r
 unfoldable pub fieldOf : FieldsCheck → ℕ
 fieldOf Yes = 0
 fieldOf (No r n) = n
+fieldOf NoWidth = 0
 fieldOf BadLength = 0
 fieldOf (IllFormed r) = 0
 fieldOf (WrongKind r) = 0
 
--- 1, 30 or no refusal, and the row of what comes before yes or no
+-- 31, 1, 30 or no refusal, and the row of what comes before yes or no
 pub record Numbered (b : ℕ) (table : List ℕ) (answer : FieldsCheck) : Type 0 where
   pub refusal : refusalOf answer
-      ≡ cond (lengthFits table) (cond (eqb (illFormedRow b table) 0) (cond (eqb (wrongRow table) 0) 0 30) 0) 1
+      ≡ cond (isWidth b) (cond (lengthFits table) (cond (eqb (illFormedRow b table) 0) (cond (eqb (wrongRow table) 0) 0 30) 0) 1) 31
   pub row : rowOf answer
-      ≡ cond (lengthFits table)
+      ≡ cond (isWidth b && lengthFits table)
       (cond (eqb (illFormedRow b table) 0) (cond (eqb (wrongRow table) 0) (rowOf (saying (firstUse table))) (wrongRow table))
       (illFormedRow b table))
       0
   pub field : fieldOf answer
-      ≡ cond (lengthFits table)
+      ≡ cond (isWidth b && lengthFits table)
       (cond (eqb (illFormedRow b table) 0) (cond (eqb (wrongRow table) 0) (fieldOf (saying (firstUse table))) 0) 0)
       0
 

@@ -9,7 +9,8 @@ mod sets;
 mod uses;
 mod walk;
 
-use table::TableCheck;
+use table::check::has_length;
+use table::check::lowest_ill_formed;
 
 // The first field of some references that is in a set, if there is one.
 pub enum Used {
@@ -23,26 +24,31 @@ pub enum FirstUse {
     Nowhere,
 }
 
-// What the check answers: yes; no, with the row and the field; or what is wrong with the table before paths are followed: its
+// What the check answers: yes; no, with the row and the field; or what is wrong before paths are followed: the width (31), the table's
 // length (1), the lowest ill-formed row, or a row of the wrong kind (30), with the row that names it, or row 1 where it is no line.
 pub enum FieldsCheck {
     Yes,
     No(u64, u64),
+    NoWidth,
     BadLength,
     IllFormed(u64),
     WrongKind(u64),
 }
 
-// The check of a table of words of b bits: 1, the table check's own answer, 30, then whether each field is defined before it is
+// The check of a table of words of b bits: 31, 1, the table check's own answer, 30, then whether each field is defined before it is
 // used.
 pub fn check_fields(b: u64, table: &[u64]) -> FieldsCheck
     ensures { λ x. ⌜ x ≡ fieldsChecked b (now (table .entry)) ⌝ }
     ensures meant { λ x. ⌜ Meant b (now (table .entry)) x ⌝ }
     ensures numbered { λ x. ⌜ Numbered b (now (table .entry)) x ⌝ }
 {
-    let TableCheck::Lowest(row) = table::check::check(b, table) else {
+    if !word::is_width(b) {
+        return FieldsCheck::NoWidth;
+    }
+    if !has_length(table) {
         return FieldsCheck::BadLength;
-    };
+    }
+    let row = lowest_ill_formed(b, table);
     if row != 0 {
         return FieldsCheck::IllFormed(row);
     }

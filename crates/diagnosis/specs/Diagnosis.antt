@@ -1,5 +1,5 @@
 -- tourcheck: the line that it prints of the bytes of tour.tab, `yes` or what is wrong, in words. Text is ASCII.
--- Document 02: ticket 8. Assumes nothing.
+-- Document 02: tickets 8 and 9. Assumes nothing.
 use Prim.Native.Nat.{ℕ, _+_, _%_}
 use Prim.Native.Char.{code}
 use Prim.Native.String.{String}
@@ -9,7 +9,7 @@ use mathlib.Core.List.{List, [], _∷_, _++_}
 use lib.Dec.{ltb}
 use Rattle.tour.specs.Tour.{tableOf, decimal}
 use Rattle.defined.specs.declared.FieldsCheck.{FieldsCheck}
-use Rattle.defined.specs.declared.FieldsCheck.the-variants.{Yes, No, BadLength, IllFormed, WrongKind}
+use Rattle.defined.specs.declared.FieldsCheck.the-variants.{Yes, No, NoWidth, BadLength, IllFormed, WrongKind}
 use Rattle.defined.specs.Answer.{fieldsChecked}
 
 -- the bytes of a text that is written out here
@@ -31,11 +31,12 @@ noLine row field =
 unfoldable pub findingLine : FieldsCheck → List ℕ
 findingLine Yes = spelled "yes\n"
 findingLine (No r n) = noLine r n
+findingLine NoWidth = spelled "refusal 31: words have 36 or 48 bits\n"
 findingLine BadLength = spelled "refusal 1: the table has fewer than 20 numbers, more than 8,000, or no multiple of ten\n"
 findingLine (IllFormed r) = spelled "row " ++ (decimal r ++ spelled " is ill-formed\n")
 findingLine (WrongKind r) =
     spelled "refusal 30: row " ++ (decimal r ++ spelled " names a row of the wrong kind, or is row 1 and no line\n")
 
--- what tourcheck prints: a file that is no table counts as one of a wrong length
-unfoldable pub printed : List ℕ → List ℕ
-printed tab = findingLine (fieldsChecked 36 (tableOf tab))
+-- what tourcheck prints for words of b bits: a file that is no table counts as one of a wrong length
+unfoldable pub printed : ℕ → List ℕ → List ℕ
+printed b tab = findingLine (fieldsChecked b (tableOf tab))

@@ -53,6 +53,7 @@ fn put_finding(text: &mut [u8; 128], found: FieldsCheck) -> usize
     match found {
         FieldsCheck::Yes => put_word(text, 128, b"yes\n"),
         FieldsCheck::No(r, n) => put_no(text, r, n),
+        FieldsCheck::NoWidth => put_word(text, 128, b"refusal 31: words have 36 or 48 bits\n"),
         FieldsCheck::BadLength => put_word(
             text,
             128,
@@ -68,13 +69,13 @@ fn put_finding(text: &mut [u8; 128], found: FieldsCheck) -> usize
     }
 }
 
-// Checks the table of a file's bytes and puts what tourcheck prints at the end of the text. Returns where it starts.
-pub fn diagnose(tab: &[u8], text: &mut [u8; 128]) -> usize
-    ensures { λ r. ⌜ r + length (printed (now (tab .entry))) ≡ 128 ⌝ }
-    ensures { λ _. ⌜ now (text .exit) ≡ putBefore 128 (printed (now (tab .entry))) (now (text .entry)) ⌝ }
+// Checks the table of a file's bytes, for words of b bits, and puts what tourcheck prints at the end of the text. Returns where it starts.
+pub fn diagnose(b: u64, tab: &[u8], text: &mut [u8; 128]) -> usize
+    ensures { λ r. ⌜ r + length (printed b (now (tab .entry))) ≡ 128 ⌝ }
+    ensures { λ _. ⌜ now (text .exit) ≡ putBefore 128 (printed b (now (tab .entry))) (now (text .entry)) ⌝ }
 {
     let mut table = [0u64; 8000];
     let count = read_table(tab, &mut table);
-    let found = check_fields(36, &table[..count]);
+    let found = check_fields(b, &table[..count]);
     put_finding(text, found)
 }

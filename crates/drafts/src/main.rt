@@ -14,6 +14,7 @@ fn told(found: FieldsCheck) -> u64 {
     match found {
         FieldsCheck::Yes => 0,
         FieldsCheck::No(row, field) => cases::fold(cases::fold(3, row), field),
+        FieldsCheck::NoWidth => 31,
         FieldsCheck::BadLength => 1,
         FieldsCheck::IllFormed(row) => cases::fold(2, row),
         FieldsCheck::WrongKind(row) => cases::fold(30, row),
@@ -25,6 +26,7 @@ fn kind(found: FieldsCheck) -> usize {
     match found {
         FieldsCheck::Yes => 1,
         FieldsCheck::No(_, _) => 2,
+        FieldsCheck::NoWidth => 3,
         FieldsCheck::BadLength => 3,
         FieldsCheck::IllFormed(_) => 4,
         FieldsCheck::WrongKind(_) => 5,
@@ -53,6 +55,7 @@ fn write_found(found: FieldsCheck) {
     match found {
         FieldsCheck::Yes => write_word(b"yes"),
         FieldsCheck::No(row, field) => write_use(row, field),
+        FieldsCheck::NoWidth => write_word(b"refusal 31"),
         FieldsCheck::BadLength => write_word(b"refusal 1"),
         FieldsCheck::IllFormed(row) => write_number(b"ill-formed, row ", row),
         FieldsCheck::WrongKind(row) => write_number(b"refusal 30, row ", row),

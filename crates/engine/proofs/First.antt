@@ -6,6 +6,7 @@ use mathlib.Core.List.{List, []}
 use mathlib.Core.Path.{_≡_, refl, sym, ap, _∙_}
 use borrow.Author.Tests.{eq-eqb, ne-eqb, eqb-true}
 use lib.Dec.{eqb}
+use Rattle.word.specs.Word.{isWidth}
 use Rattle.table.specs.declared.TableCheck.{TableCheck}
 use Rattle.table.specs.declared.TableCheck.the-variants.{Lowest, BadLength}
 use Rattle.table.specs.Row.{lengthFits}
@@ -15,12 +16,12 @@ use Rattle.machine.specs.declared.Ran.{Ran}
 use Rattle.machine.specs.declared.Stepped.{Stepped}
 use Rattle.machine.specs.declared.Answer.{Answer}
 use Rattle.machine.specs.declared.Answer.the-variants.{Running, Finished, Refused}
-use Rattle.machine.specs.declared.Refusal.the-variants.{Unsound, TableLength}
+use Rattle.machine.specs.declared.Refusal.the-variants.{Unsound, TableLength, NoWidth}
 use Rattle.machine.specs.Answer.{isRunning, need, _>>_}
 use Rattle.machine.specs.State.{isFinished}
 use Rattle.machine.specs.Storage.{noReport}
 use Rattle.machine.specs.Sound.{Lent, Engine, sound}
-use Rattle.machine.specs.Step.{Outcome, RunOutcome, unchanged, outcome, plan, step, ending as ends, runFrom, run}
+use Rattle.machine.specs.Step.{Outcome, RunOutcome, unchanged, outcome, plan, stepAt, step, ending as ends, runFrom, run}
 use Rattle.machine.proofs.Checks.{need-no}
 use Rattle.engine.specs.declared.Walked.{Walked}
 use Rattle.engine.specs.Walking.{Walk, walks, ending, walkFrom}
@@ -42,46 +43,54 @@ unfolding isFinished
 unfinished-is p z = ne-eqb (p .kind) 3 z
 
 -- a first step that leaves all as it was
-module _ (b more : ℕ) (l : Lent) (e : Engine) where
-  stays : (answer : Answer) → isRunning answer ≡ false → step b l e ≡ unchanged answer l e → {r : Walked}
-      → r ≡ record { state = e .state; answer = answer; report = noReport; count = 1 } → returning r (e .storage) (l .output) ≡ walkFrom 0 b more l e
+module _ (more : ℕ) (l : Lent) (e : Engine) where
+  abbrev b : ℕ
+  b = e .state .width
+
+  stays : (answer : Answer) → isRunning answer ≡ false → step l e ≡ unchanged answer l e → {r : Walked}
+      → r ≡ record { state = e .state; answer = answer; report = noReport; count = 1 } → returning r (e .storage) (l .output) ≡ walkFrom 0 more l e
   unfolding unchanged ending
-  stays answer over is same = rw same (sym (walk-stops 0 b l e is over more))
+  stays answer over is same = rw same (sym (walk-stops 0 l e is over more))
 
-  pub first-unsound : sound b l e ≡ false → {r : Walked} → r ≡ record { state = e .state; answer = Refused Unsound; report = noReport; count = 1 }
-      → returning r (e .storage) (l .output) ≡ walkFrom 0 b more l e
+  pub first-no-width : isWidth b ≡ false → {r : Walked} → r ≡ record { state = e .state; answer = Refused NoWidth; report = noReport; count = 1 }
+      → returning r (e .storage) (l .output) ≡ walkFrom 0 more l e
   unfolding step isRunning
-  first-unsound k = stays (Refused Unsound) refl (rw k)
+  first-no-width k = stays (Refused NoWidth) refl (rw k)
 
-  module _ (fine : sound b l e ≡ true) where
-    pub first-finished : isFinished (e .state .core .place) ≡ true → {r : Walked} → r ≡ record { state = e .state; answer = Finished; report = noReport; count = 1 }
-        → returning r (e .storage) (l .output) ≡ walkFrom 0 b more l e
-    unfolding step isRunning
-    first-finished k = stays Finished refl (rw (fine, k))
+  module _ (wide : isWidth b ≡ true) where
+    pub first-unsound : sound b l e ≡ false → {r : Walked} → r ≡ record { state = e .state; answer = Refused Unsound; report = noReport; count = 1 }
+        → returning r (e .storage) (l .output) ≡ walkFrom 0 more l e
+    unfolding step stepAt isRunning
+    first-unsound k = stays (Refused Unsound) refl (rw (wide, k))
 
-    pub first-length : isFinished (e .state .core .place) ≡ false → lengthFits (l .table) ≡ false → {r : Walked}
-        → r ≡ record { state = e .state; answer = Refused TableLength; report = noReport; count = 1 } → returning r (e .storage) (l .output) ≡ walkFrom 0 b more l e
-    unfolding step outcome plan need _>>_ isRunning
-    first-length on short = stays (Refused TableLength) refl (rw (fine, on, short))
+    module _ (fine : sound b l e ≡ true) where
+      pub first-finished : isFinished (e .state .core .place) ≡ true → {r : Walked} → r ≡ record { state = e .state; answer = Finished; report = noReport; count = 1 }
+          → returning r (e .storage) (l .output) ≡ walkFrom 0 more l e
+      unfolding step stepAt isRunning
+      first-finished k = stays Finished refl (rw (wide, fine, k))
+
+      pub first-length : isFinished (e .state .core .place) ≡ false → lengthFits (l .table) ≡ false → {r : Walked}
+          → r ≡ record { state = e .state; answer = Refused TableLength; report = noReport; count = 1 } → returning r (e .storage) (l .output) ≡ walkFrom 0 more l e
+      unfolding step stepAt outcome plan need _>>_ isRunning
+      first-length on short = stays (Refused TableLength) refl (rw (wide, fine, on, short))
 
 -- a table that is checked, and has no ill-formed row
-module _ {answer : TableCheck} {found : TableCheck} (is : answer ≡ found) where
-  pub judged-fine : {row : ℕ} → answer ≡ Lowest row → eqb row 0 ≡ true → found ≡ Lowest 0
-  judged-fine {row} at none = sym is ∙ at ∙ ap Lowest (let same : row ≡ 0 = eqb-true row 0 none in same)
+pub judged-fine : {row : ℕ} {found : TableCheck} → Lowest row ≡ found → eqb row 0 ≡ true → found ≡ Lowest 0
+judged-fine {row} at none = sym at ∙ ap Lowest (let same : row ≡ 0 = eqb-true row 0 none in same)
 
 -- the public calls, by the walk
-pub steps-once : (b : ℕ) (l : Lent) (e : Engine) (storage output : List ℕ) {r : Walked} → returning r storage output ≡ walkFrom 0 b (1 - 1) l e
-    → _≡_ {A = Outcome} (record { stepped = record { state = r .state; answer = r .answer; report = r .report }; storage = storage; output = output }) (step b l e)
-steps-once b l e storage output is = ap steppedOf is ∙ walk-step b l e
+pub steps-once : (l : Lent) (e : Engine) (storage output : List ℕ) {r : Walked} → returning r storage output ≡ walkFrom 0 (1 - 1) l e
+    → _≡_ {A = Outcome} (record { stepped = record { state = r .state; answer = r .answer; report = r .report }; storage = storage; output = output }) (step l e)
+steps-once l e storage output is = ap steppedOf is ∙ walk-step l e
 
-module _ (b limit : ℕ) (l : Lent) (e : Engine) where
-  pub runs-none : limit ≡ 0 → _≡_ {A = RunOutcome} (record { ran = record { state = e .state; answer = Running; count = 0 }; storage = e .storage; output = l .output }) (run b limit l e)
+module _ (limit : ℕ) (l : Lent) (e : Engine) where
+  pub runs-none : limit ≡ 0 → _≡_ {A = RunOutcome} (record { ran = record { state = e .state; answer = Running; count = 0 }; storage = e .storage; output = l .output }) (run limit l e)
   unfolding run runFrom ends
   runs-none z = rw z
 
-  pub runs-some : (limit ≡ 0 → ⊥) → {storage output : List ℕ} {r : Walked} → returning r storage output ≡ walkFrom 0 b (limit - 1) l e
-      → _≡_ {A = RunOutcome} (record { ran = record { state = r .state; answer = r .answer; count = r .count }; storage = storage; output = output }) (run b limit l e)
+  pub runs-some : (limit ≡ 0 → ⊥) → {storage output : List ℕ} {r : Walked} → returning r storage output ≡ walkFrom 0 (limit - 1) l e
+      → _≡_ {A = RunOutcome} (record { ran = record { state = r .state; answer = r .answer; count = r .count }; storage = storage; output = output }) (run limit l e)
   unfolding run
   runs-some some is =
       let more : suc (limit - 1) ≡ limit = omega arith in
-      ap ranOf is ∙ sym (walk-run 0 b (limit - 1) l e) ∙ ap (λ (n : ℕ). runFrom 0 b n l e) more
+      ap ranOf is ∙ sym (walk-run 0 (limit - 1) l e) ∙ ap (λ (n : ℕ). runFrom 0 n l e) more

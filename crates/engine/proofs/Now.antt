@@ -7,6 +7,8 @@ use mathlib.Core.Path.{_≡_, refl, sym, ap, subst, _∙_}
 use borrow.Author.Tests.{eqb-false}
 use lib.Dec.{eqb}
 use lib.ListN.{length}
+use Rattle.word.specs.Word.{isWidth}
+use Rattle.word.proofs.Width.{width-range}
 use Rattle.block.specs.declared.SetUp.{SetUp}
 use Rattle.table.specs.Row.{lengthFits}
 use Rattle.machine.specs.declared.Place.{Place}
@@ -76,10 +78,13 @@ returning r storage output = record { walked = r; storage = storage; output = ou
 
 module _ (b : ℕ) (table input : List ℕ) (start : Walk) (limit count : ℕ) (output : List ℕ) (place : Place) (bugs : List ℕ) (records : Records)
     (entries : List ℕ) (counts : Counts) (setup : SetUp) (map storage : List ℕ)
-    (g : Going b table input start limit count output (engineWith place bugs records entries counts setup map storage)) (fits : lengthFits table ≡ true)
-    (narrow : b ≤ 48) where
+    (g : Going b table input start limit count output (engineWith b place bugs records entries counts setup map storage)) (wide : isWidth b ≡ true)
+    (fits : lengthFits table ≡ true) where
+  abbrev narrow : b ≤ 48
+  narrow = width-range b wide .1
+
   abbrev e : Engine
-  e = engineWith place bugs records entries counts setup map storage
+  e = engineWith b place bugs records entries counts setup map storage
 
   pub ready-now : Ready b (sees bugs (records .definitions) setup map storage counts entries input (length output))
   unfolding world
@@ -87,10 +92,10 @@ module _ (b : ℕ) (table input : List ℕ) (start : Walk) (limit count : ℕ) (
 
   module _ {answer : Planned} (is : answer ≡ answered (stepPlan b (sees bugs (records .definitions) setup map storage counts entries input (length output)) table place)) where
     pub refused-now : {q : Refusal} → answer ≡ Stopped q → {report : Report} → report ≡ noReport → {r : Walked}
-        → r ≡ record { state = record { core = coreWith place bugs records entries counts setup; map = map }; answer = Refused q; report = report; count = count + 1 }
+        → r ≡ record { state = record { width = b; core = coreWith place bugs records entries counts setup; map = map }; answer = Refused q; report = report; count = count + 1 }
         → returning r storage output ≡ start
     unfolding world
-    refused-now to none same = rw (same, none) (going-refused b table input start limit count output e g fits (no-plan-is _ is to))
+    refused-now to none same = rw (same, none) (going-refused b table input start limit count output e g wide fits (no-plan-is _ is to))
 
     module _ {to : Place} {x : Action} (made : answer ≡ Does to x) (long : length map ≡ 4096) where
       able : Able b (lends table input output) e x
@@ -116,7 +121,7 @@ module _ (b : ℕ) (table input : List ℕ) (start : Walk) (limit count : ℕ) (
           × (storage′ ≡ wordsAfter b (setup .s1) x storage) × (output′ ≡ outputAfter (counts .written) x output))
           (goes : next ≡ onward x setup counts) where
         abbrev f : Engine
-        f = engineWith place′ bugs′ records′ entries′ (next .counts) (next .setup) map′ storage′
+        f = engineWith b place′ bugs′ records′ entries′ (next .counts) (next .setup) map′ storage′
 
         then-now : engineThen b to x e ≡ f
         then-now = rw (turn .0, turn .1, carried .0, carried .1, carried .2, carried .3, goes)
@@ -132,7 +137,7 @@ module _ (b : ℕ) (table input : List ℕ) (start : Walk) (limit count : ℕ) (
         ended-now over answers told same =
             rw (same, answers, told, carried .4)
             (ap (λ (f : Engine). walks (f .state) (cond (eqb (place′ .kind) 3) Finished Running) (reportOf x) (count + 1) (f .storage) (outputAfter (counts .written) x output)) (sym then-now)
-            ∙ going-ends b table input start limit count output e g fits _ (plan-is _ is made) (able .sure) _ (ends refl) over)
+            ∙ going-ends b table input start limit count output e g wide fits _ (plan-is _ is made) (able .sure) _ (ends refl) over)
 
         pub next-now : (eqb (place′ .kind) 3 || eqb (count + 1) limit) ≡ false → Going b table input start limit (count + 1) output′ f
         unfolding world
@@ -140,28 +145,28 @@ module _ (b : ℕ) (table input : List ℕ) (start : Walk) (limit count : ℕ) (
             let (unfinished, more) = neither _ _ on in
             subst (λ (out : List ℕ). Going b table input start limit (count + 1) out f) (sym (carried .4))
             (subst (Going b table input start limit (count + 1) (outputAfter (counts .written) x output)) then-now
-            (going-next b table input start limit count output e g fits _ (plan-is _ is made) (able .sure) (ends unfinished) (eqb-false _ _ more)))
+            (going-next b table input start limit count output e g wide fits _ (plan-is _ is made) (able .sure) (ends unfinished) (eqb-false _ _ more)))
 
 -- what a walk returns, by its core
-pub with-core : {c d : Core} → c ≡ d → {map : List ℕ} {answer : Answer} {report : Report} {count : ℕ}
-    → _≡_ {A = Walked} (record { state = record { core = c; map = map }; answer = answer; report = report; count = count })
-    (record { state = record { core = d; map = map }; answer = answer; report = report; count = count })
+pub with-core : {c d : Core} → c ≡ d → {width : ℕ} {map : List ℕ} {answer : Answer} {report : Report} {count : ℕ}
+    → _≡_ {A = Walked} (record { state = record { width = width; core = c; map = map }; answer = answer; report = report; count = count })
+    (record { state = record { width = width; core = d; map = map }; answer = answer; report = report; count = count })
 with-core e = rw e
 
 -- where a walk starts, by the core's parts
 pub started : (b : ℕ) (table input : List ℕ) (limit : ℕ) (output : List ℕ) (core : Core) (map storage : List ℕ) {records : Records} {counts : Counts}
     → records ≡ recordsOf core → counts ≡ countsOf core
-    → walkFrom 0 b (limit - 1) (lends table input output) (engineWith (core .place) (core .bugs) records (core .contents .entries) counts (core .setup) map storage)
-    ≡ walkFrom 0 b (limit - 1) (lends table input output) (record { state = record { core = core; map = map }; storage = storage })
+    → walkFrom 0 (limit - 1) (lends table input output) (engineWith b (core .place) (core .bugs) records (core .contents .entries) counts (core .setup) map storage)
+    ≡ walkFrom 0 (limit - 1) (lends table input output) (record { state = record { width = b; core = core; map = map }; storage = storage })
 started b table input limit output core map storage r c = rw (r, c)
 
 pub starts : (b : ℕ) (table input : List ℕ) (limit : ℕ) (output : List ℕ) (core : Core) (map storage : List ℕ) {records : Records} {counts : Counts}
     → records ≡ recordsOf core → counts ≡ countsOf core → 1 ≤ limit
-    → sound b (lends table input output) (record { state = record { core = core; map = map }; storage = storage }) ≡ true → isFinished (core .place) ≡ false
-    → Going b table input (walkFrom 0 b (limit - 1) (lends table input output) (engineWith (core .place) (core .bugs) records (core .contents .entries) counts (core .setup) map storage))
-    limit 0 output (engineWith (core .place) (core .bugs) records (core .contents .entries) counts (core .setup) map storage)
+    → sound b (lends table input output) (record { state = record { width = b; core = core; map = map }; storage = storage }) ≡ true → isFinished (core .place) ≡ false
+    → Going b table input (walkFrom 0 (limit - 1) (lends table input output) (engineWith b (core .place) (core .bugs) records (core .contents .entries) counts (core .setup) map storage))
+    limit 0 output (engineWith b (core .place) (core .bugs) records (core .contents .entries) counts (core .setup) map storage)
 starts b table input limit output core map storage r c some fine unfinished =
-    going-first b table input limit output _ some (rw (r, c) fine) unfinished
+    going-first b table input limit output _ refl some (rw (r, c) fine) unfinished
 
 -- and by its report
 pub with-report : {p q : Report} → p ≡ q → {state : State} {answer : Answer} {count : ℕ}

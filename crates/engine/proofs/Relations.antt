@@ -29,9 +29,9 @@ steppedOf w =
       output = w .output;
     }
 
-pub walk-step : (b : ℕ) (l : Lent) (e : Engine) → steppedOf (walkFrom 0 b 0 l e) ≡ step b l e
+pub walk-step : (l : Lent) (e : Engine) → steppedOf (walkFrom 0 0 l e) ≡ step l e
 unfolding walkFrom ending
-walk-step b l e = refl
+walk-step l e = refl
 
 running : (a : Answer) → isRunning a ≡ true → a ≡ Running
 unfolding isRunning
@@ -43,28 +43,28 @@ running (Refused r) h = let never : _≡_ {A = ℕ} 0 1 = cc in absurd (omega ar
 pick : {A : Type 0} → Bool → A → A → A
 pick t x y = elim t [ true ↦ x | false ↦ y ]
 
-pub walk-run : (count b more : ℕ) (l : Lent) (e : Engine) → runFrom count b (suc more) l e ≡ ranOf (walkFrom count b more l e)
+pub walk-run : (count more : ℕ) (l : Lent) (e : Engine) → runFrom count (suc more) l e ≡ ranOf (walkFrom count more l e)
 unfolding walkFrom ending runFrom ends engineOf
-walk-run count b zero l e =
-    let o : Outcome = step b l e in
+walk-run count zero l e =
+    let o : Outcome = step l e in
     elim (isRunning (o .stepped .answer)) as (λ t. isRunning (o .stepped .answer) ≡ t
     → (elim t [
-      | true ↦ runFrom (suc count) b 0 (lentAfter l o) (engineOf o)
+      | true ↦ runFrom (suc count) 0 (lentAfter l o) (engineOf o)
       | false ↦ ends (o .stepped .answer) (suc count) (engineOf o) (o .output)
     ]) ≡ ranOf (ending (suc count) o)) [
       | true ↦ λ k. ap (λ (a : Answer). ends a (suc count) (engineOf o) (o .output)) (sym (running (o .stepped .answer) k))
       | false ↦ λ k. refl
     ] refl
-walk-run count b (suc more) l e =
-    let o : Outcome = step b l e in
+walk-run count (suc more) l e =
+    let o : Outcome = step l e in
     elim (isRunning (o .stepped .answer)) as (λ t.
     (elim t [
-      | true ↦ runFrom (suc count) b (suc more) (lentAfter l o) (engineOf o)
+      | true ↦ runFrom (suc count) (suc more) (lentAfter l o) (engineOf o)
       | false ↦ ends (o .stepped .answer) (suc count) (engineOf o) (o .output)
     ]) ≡ ranOf (elim t [
-      | true ↦ walkFrom (suc count) b more (lentAfter l o) (engineOf o)
+      | true ↦ walkFrom (suc count) more (lentAfter l o) (engineOf o)
       | false ↦ ending (suc count) o
     ])) [
-      | true ↦ walk-run (suc count) b more (lentAfter l o) (engineOf o)
+      | true ↦ walk-run (suc count) more (lentAfter l o) (engineOf o)
       | false ↦ refl
     ]

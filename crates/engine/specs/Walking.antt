@@ -31,11 +31,11 @@ abbrev pub lentAfter : Lent → Outcome → Lent
 lentAfter l o = record { table = l .table; input = l .input; output = o .output }
 
 -- a step and at most so many more, after count of them
-unfoldable pub walkFrom : ℕ → ℕ → ℕ → Lent → Engine → Walk
-walkFrom count b zero l e = ending (suc count) (step b l e)
-walkFrom count b (suc more) l e =
-    let o : Outcome = step b l e in
+unfoldable pub walkFrom : ℕ → ℕ → Lent → Engine → Walk
+walkFrom count zero l e = ending (suc count) (step l e)
+walkFrom count (suc more) l e =
+    let o : Outcome = step l e in
     elim (isRunning (o .stepped .answer)) [
-      | true ↦ walkFrom (suc count) b more (lentAfter l o) (engineOf o)
+      | true ↦ walkFrom (suc count) more (lentAfter l o) (engineOf o)
       | false ↦ ending (suc count) o
     ]

@@ -1,4 +1,4 @@
-// The numbers of answers: document 01's, and 22 of ticket 1.
+// The numbers of answers: document 01's, 22 of ticket 1, and 31 of ticket 9.
 ghost use mathlib.Core.Path.{_≡_};
 ghost use Rattle.machine.specs.Answer.{refusalNumber};
 use machine::Refusal;
@@ -30,5 +30,6 @@ pub fn refusal_number(refusal: Refusal) -> u64
         Refusal::StackEmpty => 20,
         Refusal::OutputFull => 21,
         Refusal::SubtrahendGreater => 22,
+        Refusal::NoWidth => 31,
     }
 }

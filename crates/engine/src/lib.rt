@@ -1,11 +1,12 @@
 // The L6 engine: a fresh state, one step, and a run. Any table, storage, input, output buffer and state may be lent.
-ghost use mathlib.Core.Bool.{true};
+ghost use mathlib.Core.Bool.{true, cond};
 ghost use mathlib.Core.Path.{_≡_};
 ghost use Prim.Native.Nat.{_-_, _≤_};
+ghost use Rattle.word.specs.Word.{isWidth};
 ghost use Rattle.table.specs.declared.TableCheck.the-variants.{Lowest};
 ghost use Rattle.table.specs.Table.{checked};
 ghost use Rattle.machine.specs.Answer.{answerNumber};
-ghost use Rattle.machine.specs.State.{fresh as freshState};
+ghost use Rattle.machine.specs.State.{fresh as freshState, freshOf, freshNumber};
 ghost use Rattle.machine.specs.Storage.{noReport};
 ghost use Rattle.machine.specs.Step.{step as stepOf, run as runOf};
 ghost use Rattle.engine.specs.Walking.{walkFrom};
@@ -20,6 +21,8 @@ use machine::ContentsStack;
 use machine::Core;
 use machine::Definition;
 use machine::DefinitionStack;
+use machine::Fresh;
+use machine::FreshAnswer;
 use machine::Place;
 use machine::Ran;
 use machine::Refusal;
@@ -27,11 +30,11 @@ use machine::Report;
 use machine::State;
 use machine::Stepped;
 use soundness::is_sound;
-use table::TableCheck;
-use table::check::check;
 use table::check::has_length;
+use table::check::lowest_ill_formed;
 use walks::no_report;
 use walks::walk;
+use word::is_width;
 
 // What a walk returns: state, answer, the last step's report, and how many steps it took.
 pub struct Walked {
@@ -41,9 +44,9 @@ pub struct Walked {
     pub count: u64,
 }
 
-// A fresh engine: at the tests of row 1, nothing set up, defined, saved, taken or written.
-pub fn fresh() -> State
-    ensures { λ r. ⌜ r ≡ freshState ⌝ }
+// A fresh engine's state: at the tests of row 1, nothing set up, defined, saved, taken or written.
+pub fn fresh_state(width: u8) -> State
+    ensures { λ r. ⌜ r ≡ freshState width ⌝ }
 {
     let place = Place {
         kind: 0,
@@ -81,8 +84,32 @@ pub fn fresh() -> State
         written: 0,
     };
     State {
+        width: width,
         core: core,
         map: [0; 4096],
+    }
+}
+
+// A fresh engine of words of b bits: 31. The second promise gives the answer as a number, 0 where it is no refusal.
+pub fn fresh(b: u64) -> Fresh
+    ensures { λ r. ⌜ r ≡ freshOf b ⌝ }
+    ensures numbered { λ r. ⌜ freshNumber (r .answer) ≡ cond (isWidth b) 0 31 ⌝ }
+{
+    if b == 36 {
+        return Fresh {
+            state: fresh_state(36),
+            answer: FreshAnswer::Done,
+        };
+    }
+    if b == 48 {
+        return Fresh {
+            state: fresh_state(48),
+            answer: FreshAnswer::Done,
+        };
+    }
+    Fresh {
+        state: fresh_state(0),
+        answer: FreshAnswer::NoWidth,
     }
 }
 
@@ -93,11 +120,10 @@ fn judge(b: u64, table: &[u64], limit: u64) -> bool
     if limit < (table.len() / 10) as u64 {
         return false;
     }
-    let found = check(b, table);
-    match found {
-        TableCheck::Lowest(row) => row == 0,
-        TableCheck::BadLength => false,
+    if !has_length(table) {
+        return false;
     }
+    lowest_ill_formed(b, table) == 0
 }
 
 // What a walk returns that stops at its first step.
@@ -113,9 +139,8 @@ fn stopped(state: State, answer: Answer) -> Walked
     }
 }
 
-// Up to limit steps of any engine: 11, finished and 1 are judged once.
+// Up to limit steps of any engine: 31, 11, finished and 1 are judged once.
 fn walk_from(
-    b: u64,
     state: State,
     table: &[u64],
     storage: &mut [u64],
@@ -123,12 +148,17 @@ fn walk_from(
     output: &mut [u8],
     limit: u64,
 ) -> Walked
-    requires { ⌜ (b ≤ 48) × (1 ≤ limit) ⌝ }
-    ensures { λ r. ⌜ record { walked = r; storage = now (storage .exit); output = now (output .exit) } ≡ walkFrom 0 b (limit - 1) (record { table = now (table .entry); input = now (input .entry); output = now (output .entry) }) (record { state = state; storage = now (storage .entry) }) ⌝ }
+    requires { ⌜ 1 ≤ limit ⌝ }
+    ensures { λ r. ⌜ record { walked = r; storage = now (storage .exit); output = now (output .exit) } ≡ walkFrom 0 (limit - 1) (record { table = now (table .entry); input = now (input .entry); output = now (output .entry) }) (record { state = state; storage = now (storage .entry) }) ⌝ }
 {
+    let width = state.width;
     let core = state.core;
     let map = state.map;
     let place = core.place;
+    let b = width as u64;
+    if !is_width(b) {
+        return stopped(state, Answer::Refused(Refusal::NoWidth));
+    }
     if !is_sound(b, core, &map, &*storage, input, &*output) {
         return stopped(state, Answer::Refused(Refusal::Unsound));
     }
@@ -139,7 +169,17 @@ fn walk_from(
         return stopped(state, Answer::Refused(Refusal::TableLength));
     }
     let judged = judge(b, table, limit);
-    walk(b, core, map, table, storage, input, output, limit, judged)
+    walk(
+        width,
+        core,
+        map,
+        table,
+        storage,
+        input,
+        output,
+        limit,
+        judged,
+    )
 }
 
 // One step. The second promise gives the answer as document 01's number, 0 where it is no refusal.
@@ -150,10 +190,10 @@ pub fn step(
     output: &mut [u8],
     state: State,
 ) -> Stepped
-    ensures { λ r. ⌜ record { stepped = r; storage = now (storage .exit); output = now (output .exit) } ≡ stepOf 36 (record { table = now (table .entry); input = now (input .entry); output = now (output .entry) }) (record { state = state; storage = now (storage .entry) }) ⌝ }
-    ensures numbered { λ r. ⌜ answerNumber (r .answer) ≡ answerNumber (stepOf 36 (record { table = now (table .entry); input = now (input .entry); output = now (output .entry) }) (record { state = state; storage = now (storage .entry) }) .stepped .answer) ⌝ }
+    ensures { λ r. ⌜ record { stepped = r; storage = now (storage .exit); output = now (output .exit) } ≡ stepOf (record { table = now (table .entry); input = now (input .entry); output = now (output .entry) }) (record { state = state; storage = now (storage .entry) }) ⌝ }
+    ensures numbered { λ r. ⌜ answerNumber (r .answer) ≡ answerNumber (stepOf (record { table = now (table .entry); input = now (input .entry); output = now (output .entry) }) (record { state = state; storage = now (storage .entry) }) .stepped .answer) ⌝ }
 {
-    let last = walk_from(36, state, table, storage, input, output, 1);
+    let last = walk_from(state, table, storage, input, output, 1);
     let after = last.state;
     let answer = last.answer;
     let report = last.report;
@@ -173,8 +213,8 @@ pub fn run(
     state: State,
     limit: u64,
 ) -> Ran
-    ensures { λ r. ⌜ record { ran = r; storage = now (storage .exit); output = now (output .exit) } ≡ runOf 36 limit (record { table = now (table .entry); input = now (input .entry); output = now (output .entry) }) (record { state = state; storage = now (storage .entry) }) ⌝ }
-    ensures numbered { λ r. ⌜ answerNumber (r .answer) ≡ answerNumber (runOf 36 limit (record { table = now (table .entry); input = now (input .entry); output = now (output .entry) }) (record { state = state; storage = now (storage .entry) }) .ran .answer) ⌝ }
+    ensures { λ r. ⌜ record { ran = r; storage = now (storage .exit); output = now (output .exit) } ≡ runOf limit (record { table = now (table .entry); input = now (input .entry); output = now (output .entry) }) (record { state = state; storage = now (storage .entry) }) ⌝ }
+    ensures numbered { λ r. ⌜ answerNumber (r .answer) ≡ answerNumber (runOf limit (record { table = now (table .entry); input = now (input .entry); output = now (output .entry) }) (record { state = state; storage = now (storage .entry) }) .ran .answer) ⌝ }
 {
     if limit == 0 {
         return Ran {
@@ -183,7 +223,7 @@ pub fn run(
             count: 0,
         };
     }
-    let last = walk_from(36, state, table, storage, input, output, limit);
+    let last = walk_from(state, table, storage, input, output, limit);
     let after = last.state;
     let answer = last.answer;
     Ran {

@@ -2,6 +2,7 @@
 ghost use mathlib.Core.Bool.{true, false, cond};
 ghost use mathlib.Core.Path.{_≡_};
 ghost use Prim.Native.Nat.{_-_, _≤_};
+ghost use Rattle.word.specs.Word.{isWidth};
 ghost use Rattle.table.specs.declared.TableCheck.the-variants.{Lowest};
 ghost use Rattle.table.specs.Row.{lengthFits};
 ghost use Rattle.table.specs.Table.{checked};
@@ -125,6 +126,7 @@ fn core_of(
 
 // What a walk returns that ends so.
 fn ended(
+    width: u8,
     place: Place,
     bugs: [u64; 26],
     records: Records,
@@ -136,10 +138,11 @@ fn ended(
     report: Report,
     count: u64,
 ) -> Walked
-    ensures { λ r. ⌜ r ≡ record { state = record { core = coreWith place bugs records entries counts setup; map = map }; answer = answer; report = report; count = count } ⌝ }
+    ensures { λ r. ⌜ r ≡ record { state = record { width = width; core = coreWith place bugs records entries counts setup; map = map }; answer = answer; report = report; count = count } ⌝ }
 {
     let core = core_of(place, bugs, records, entries, counts, setup);
     let state = State {
+        width: width,
         core: core,
         map: map,
     };
@@ -164,7 +167,7 @@ fn answer_at(place: Place) -> Answer
 
 // A walk of a sound engine that is not finished, with a table of the right length: up to limit steps.
 pub fn walk(
-    b: u64,
+    width: u8,
     core: Core,
     first: [u8; 4096],
     table: &[u64],
@@ -174,8 +177,8 @@ pub fn walk(
     limit: u64,
     judged: bool,
 ) -> Walked
-    requires { ⌜ (b ≤ 48) × (1 ≤ limit) × (lengthFits (now table) ≡ true) × (judged ≡ true → checked b (now table) ≡ Lowest 0) × (isFinished (core .place) ≡ false) × (sound b (record { table = now table; input = now input; output = now output }) (record { state = record { core = core; map = first }; storage = now storage }) ≡ true) ⌝ }
-    ensures { λ r. ⌜ record { walked = r; storage = now (storage .exit); output = now (output .exit) } ≡ walkFrom 0 b (limit - 1) (record { table = now (table .entry); input = now (input .entry); output = now (output .entry) }) (record { state = record { core = core; map = first }; storage = now (storage .entry) }) ⌝ }
+    requires { ⌜ (isWidth width ≡ true) × (1 ≤ limit) × (lengthFits (now table) ≡ true) × (judged ≡ true → checked width (now table) ≡ Lowest 0) × (isFinished (core .place) ≡ false) × (sound width (record { table = now table; input = now input; output = now output }) (record { state = record { width = width; core = core; map = first }; storage = now storage }) ≡ true) ⌝ }
+    ensures { λ r. ⌜ record { walked = r; storage = now (storage .exit); output = now (output .exit) } ≡ walkFrom 0 (limit - 1) (record { table = now (table .entry); input = now (input .entry); output = now (output .entry) }) (record { state = record { width = width; core = core; map = first }; storage = now (storage .entry) }) ⌝ }
 {
     let contents = core.contents;
     let mut place = core.place;
@@ -190,7 +193,7 @@ pub fn walk(
         count += 1;
         let definitions = records.definitions;
         let planned = plan_step(
-            b,
+            width as u64,
             place,
             &bugs,
             definitions,
@@ -207,6 +210,7 @@ pub fn walk(
         match planned {
             Planned::Stopped(r) => {
                 return ended(
+                    width,
                     place,
                     bugs,
                     records,
@@ -222,7 +226,7 @@ pub fn walk(
             Planned::Does(to, action) => {
                 let next = go_on(action, setup, counts, input.len(), output.len());
                 carry_out(
-                    b,
+                    width as u64,
                     setup,
                     counts,
                     &mut bugs,
@@ -242,6 +246,7 @@ pub fn walk(
                 setup = next.setup;
                 if (place.kind == 3) | (count == limit) {
                     return ended(
+                        width,
                         place,
                         bugs,
                         records,

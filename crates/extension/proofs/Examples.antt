@@ -10,7 +10,7 @@ use Rattle.machine.specs.State.{fresh}
 use Rattle.machine.specs.Sound.{Engine}
 use Rattle.machine.specs.Step.{engineRan}
 use Rattle.machine.specs.Bench.{tour, tourRun}
-use Rattle.machine.specs.Extend.{extensionNumber, notExtended, engineExtended, extendedBy, extend, engineLeft}
+use Rattle.machine.specs.Extend.{extensionNumber, notExtended, engineExtended, extendedBy, extendAt, extend, engineLeft}
 use Rattle.machine.proofs.Computing.{computing}
 
 -- the finished engine, with 7 in every word
@@ -19,22 +19,27 @@ finished = record { state = engineRan (tourRun tour []) .state; storage = replic
 
 -- the answer's number at a last address
 unfoldable pub answered : ℕ → ℕ
-answered last = extensionNumber (extend 36 last finished .extended .answer)
+answered last = extensionNumber (extend last finished .extended .answer)
 
 -- one block more, all words that there may be, and none; half a block, an earlier address, a block too many
 pub answers : map answered (31 ∷ 4103 ∷ 23 ∷ 27 ∷ 15 ∷ 4111 ∷ []) ≡ 0 ∷ 0 ∷ 32 ∷ 32 ∷ 32 ∷ 32 ∷ []
-unfolding computing answered finished extensionNumber extend extending extendedTo extendedBy notExtended engineRan
+unfolding computing answered finished extensionNumber extendAt extend extending extendedTo extendedBy notExtended engineRan
 answers = refl
 
 -- before a set-up
-pub early : extensionNumber (extend 36 31 (record { state = fresh; storage = replicate 4096 7 }) .extended .answer) ≡ 12
-unfolding computing extensionNumber extend notExtended
+pub early : extensionNumber (extend 31 (record { state = fresh 36; storage = replicate 4096 7 }) .extended .answer) ≡ 12
+unfolding computing extensionNumber extendAt extend notExtended
 early = refl
 
 -- after one block more: three free blocks, the sixteen words as they were, eight zeros, and then what stood there
-pub one-more : let e = engineLeft (extend 36 31 finished) in
+pub one-more : let e = engineLeft (extend 31 finished) in
     (free (e .state .core .setup) (e .state .map)
     ≡ record { address = 8; size = 8 } ∷ record { address = 16; size = 8 } ∷ record { address = 24; size = 8 } ∷ [])
     × (take 26 (e .storage) ≡ 7 ∷ 7 ∷ 7 ∷ 7 ∷ 7 ∷ 7 ∷ 7 ∷ 7 ∷ 7 ∷ 7 ∷ 7 ∷ 7 ∷ 7 ∷ 7 ∷ 7 ∷ 7 ∷ 0 ∷ 0 ∷ 0 ∷ 0 ∷ 0 ∷ 0 ∷ 0 ∷ 0 ∷ 7 ∷ 7 ∷ [])
-unfolding computing finished extend extending extendedTo extendedMap engineExtended extendedBy engineLeft engineRan
+unfolding computing finished extendAt extend extending extendedTo extendedMap engineExtended extendedBy engineLeft engineRan
 one-more = (refl, refl)
+
+-- of a width that is none
+pub no-width : extensionNumber (extend 31 (record { state = fresh 40; storage = replicate 4096 7 }) .extended .answer) ≡ 31
+unfolding computing extensionNumber extend notExtended
+no-width = refl

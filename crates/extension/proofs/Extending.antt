@@ -6,6 +6,7 @@ use mathlib.Core.List.{List}
 use mathlib.Core.Path.{_≡_, ap, _∙_}
 use borrow.Author.Tests.{eq-eqb, ne-eqb}
 use lib.ListN.{length, replicate}
+use Rattle.word.specs.Word.{isWidth}
 use Rattle.block.specs.declared.SetUp.{SetUp}
 use Rattle.block.specs.SetUp.{words, fitting}
 use Rattle.block.specs.Map.{keeps}
@@ -14,11 +15,11 @@ use Rattle.block.proofs.Size.{fitting-facts}
 use Rattle.block.proofs.Extension.{extending-facts, extended-words}
 use Rattle.machine.specs.declared.Core.{Core}
 use Rattle.machine.specs.declared.State.{State}
-use Rattle.machine.specs.declared.ExtensionAnswer.the-variants.{Done, Unsound, BeforeSetUp, LastAddress}
+use Rattle.machine.specs.declared.ExtensionAnswer.the-variants.{Done, NoWidth, Unsound, BeforeSetUp, LastAddress}
 use Rattle.machine.specs.State.{isSetUp, withSetUp, onCore, withMap}
 use Rattle.machine.specs.Storage.{placed}
 use Rattle.machine.specs.Sound.{Engine, soundEngine}
-use Rattle.machine.specs.Extend.{Extension, extensionNumber, notExtended, engineExtended, extendedBy, extend}
+use Rattle.machine.specs.Extend.{Extension, extensionNumber, notExtended, engineExtended, extendedBy, extendAt, extend}
 use Rattle.machine.proofs.Facts.{sound-facts}
 use Rattle.machine.proofs.Extend.{set-up-fits}
 
@@ -54,34 +55,47 @@ module _ (lent last : ℕ) (u : SetUp) (fits : fitting lent u ≡ true) (taken :
   map-room n long = omega (arith, extending-facts lent last u taken .few)
 
 -- the map and the words as the code makes them
-pub engine-made : (last : ℕ) (c : Core) (m new ws made : List ℕ) → new ≡ extendedMap last (c .setup) m
+pub engine-made : (last b : ℕ) (c : Core) (m new ws made : List ℕ) → new ≡ extendedMap last (c .setup) m
     → made ≡ placed (words (c .setup)) (replicate (last - c .setup .s2) 0) ws
-    → _≡_ {A = Engine} (record { state = record { core = withSetUp (extendedTo last (c .setup)) c; map = new }; storage = made })
-    (engineExtended last (record { state = record { core = c; map = m }; storage = ws }))
+    → _≡_ {A = Engine} (record { state = record { width = b; core = withSetUp (extendedTo last (c .setup)) c; map = new }; storage = made })
+    (engineExtended last (record { state = record { width = b; core = c; map = m }; storage = ws }))
 unfolding engineExtended onCore withMap
-engine-made last c m new ws made is are = rw (is, are)
+engine-made last b c m new ws made is are = rw (is, are)
 
-module _ (b last : ℕ) (e : Engine) where
+module _ (last : ℕ) (e : Engine) where
+  abbrev b : ℕ
+  b = e .state .width
+
   -- the first test that fails
-  pub extend-unsound : soundEngine b e ≡ false → notExtended Unsound e ≡ extend b last e
+  pub extend-no-width : isWidth b ≡ false → notExtended NoWidth e ≡ extend last e
   unfolding extend
-  extend-unsound k = rw k
+  extend-no-width k = rw k
 
-  module _ (fine : soundEngine b e ≡ true) where
-    pub extend-early : e .state .core .setup .d ≡ 0 → notExtended BeforeSetUp e ≡ extend b last e
-    unfolding extend
-    extend-early z = rw (fine, before-set-up (e .state .core) z)
+  module _ (wide : isWidth b ≡ true) where
+    pub extend-unsound : soundEngine b e ≡ false → notExtended Unsound e ≡ extend last e
+    unfolding extend extendAt
+    extend-unsound k = rw (wide, k)
 
-    module _ (some : e .state .core .setup .d ≡ 0 → ⊥) where
-      pub extend-refused : extending (length (e .storage)) last (e .state .core .setup) ≡ false → notExtended LastAddress e ≡ extend b last e
-      unfolding extend
-      extend-refused k = rw (fine, has-set-up (e .state .core) some, k)
+    module _ (fine : soundEngine b e ≡ true) where
+      pub extend-early : e .state .core .setup .d ≡ 0 → notExtended BeforeSetUp e ≡ extend last e
+      unfolding extend extendAt
+      extend-early z = rw (wide, fine, before-set-up (e .state .core) z)
 
-      -- or none
-      pub extend-done : extending (length (e .storage)) last (e .state .core .setup) ≡ true → (s : State) (ws : List ℕ)
-          → _≡_ {A = Engine} (record { state = s; storage = ws }) (engineExtended last e)
-          → record { extended = record { state = s; answer = Done }; storage = ws } ≡ extend b last e
-      unfolding extend extendedBy
-      extend-done k s ws is =
-          ap (λ (x : Engine). record { extended = record { state = x .state; answer = Done }; storage = x .storage }) is
-          ∙ rw (fine, has-set-up (e .state .core) some, k)
+      module _ (some : e .state .core .setup .d ≡ 0 → ⊥) where
+        pub extend-refused : extending (length (e .storage)) last (e .state .core .setup) ≡ false → notExtended LastAddress e ≡ extend last e
+        unfolding extend extendAt
+        extend-refused k = rw (wide, fine, has-set-up (e .state .core) some, k)
+
+        -- or none
+        pub extend-done : extending (length (e .storage)) last (e .state .core .setup) ≡ true → (s : State) (ws : List ℕ)
+            → _≡_ {A = Engine} (record { state = s; storage = ws }) (engineExtended last e)
+            → record { extended = record { state = s; answer = Done }; storage = ws } ≡ extend last e
+        unfolding extend extendAt extendedBy
+        extend-done k s ws is =
+            ap (λ (x : Engine). record { extended = record { state = x .state; answer = Done }; storage = x .storage }) is
+            ∙ rw (wide, fine, has-set-up (e .state .core) some, k)
+
+-- and the answer's number is the definition's
+pub numbered : (last : ℕ) (e : Engine) {x : Extension} → x ≡ extend last e
+    → (x ≡ extend last e) × (extensionNumber (x .extended .answer) ≡ extensionNumber (extend last e .extended .answer))
+numbered last e is = (is, ap (λ (y : Extension). extensionNumber (y .extended .answer)) is)

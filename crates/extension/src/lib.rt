@@ -17,11 +17,12 @@ use machine::Extended;
 use machine::ExtensionAnswer;
 use machine::State;
 use soundness::is_sound_engine;
+use word::is_width;
 
 // The engine with the words up to a new last address: free blocks, all zero.
-fn grown(core: Core, first: [u8; 4096], storage: &mut [u64], last: u16) -> State
+fn grown(width: u8, core: Core, first: [u8; 4096], storage: &mut [u64], last: u16) -> State
     requires { ⌜ (fitting (length (now storage)) (core .setup) ≡ true) × (extending (length (now storage)) last (core .setup) ≡ true) × (keeps (core .setup) first ≡ true) ⌝ }
-    ensures { λ r. ⌜ record { state = r; storage = now (storage .exit) } ≡ engineExtended last (record { state = record { core = core; map = first }; storage = now (storage .entry) }) ⌝ }
+    ensures { λ r. ⌜ record { state = r; storage = now (storage .exit) } ≡ engineExtended last (record { state = record { width = width; core = core; map = first }; storage = now (storage .entry) }) ⌝ }
 {
     let setup = core.setup;
     let mut map = first;
@@ -35,20 +36,31 @@ fn grown(core: Core, first: [u8; 4096], storage: &mut [u64], last: u16) -> State
     let mut next = core;
     next.setup = more;
     State {
+        width: width,
         core: next,
         map: map,
     }
 }
 
-// A new last address for the words set up, of b bits: 11, 12, 32.
-fn extend_at(b: u64, storage: &mut [u64], state: State, last: u64) -> Extended
-    requires { ⌜ b < 64 ⌝ }
+// A new last address for the words set up: 31, 11, 12, 32. The second promise gives the answer as the papers' number, 0 where it is no
+// refusal.
+pub fn extend(storage: &mut [u64], state: State, last: u64) -> Extended
     ensures { λ r. ⌜ record { extended = r; storage = now (storage .exit) }
-        ≡ extendOf b last (record { state = state; storage = now (storage .entry) }) ⌝ }
+        ≡ extendOf last (record { state = state; storage = now (storage .entry) }) ⌝ }
+    ensures numbered { λ r. ⌜ extensionNumber (r .answer)
+        ≡ extensionNumber (extendOf last (record { state = state; storage = now (storage .entry) }) .extended .answer) ⌝ }
 {
+    let width = state.width;
     let core = state.core;
     let map = state.map;
     let setup = core.setup;
+    let b = width as u64;
+    if !is_width(b) {
+        return Extended {
+            state: state,
+            answer: ExtensionAnswer::NoWidth,
+        };
+    }
     if !is_sound_engine(b, core, &map, &*storage) {
         return Extended {
             state: state,
@@ -67,21 +79,11 @@ fn extend_at(b: u64, storage: &mut [u64], state: State, last: u64) -> Extended
             answer: ExtensionAnswer::LastAddress,
         };
     }
-    let after = grown(core, map, storage, last as u16);
+    let after = grown(width, core, map, storage, last as u16);
     Extended {
         state: after,
         answer: ExtensionAnswer::Done,
     }
-}
-
-// A new last address for the words set up. The second promise gives the answer as the ticket's number, 0 where it is no refusal.
-pub fn extend(storage: &mut [u64], state: State, last: u64) -> Extended
-    ensures { λ r. ⌜ record { extended = r; storage = now (storage .exit) }
-        ≡ extendOf 36 last (record { state = state; storage = now (storage .entry) }) ⌝ }
-    ensures numbered { λ r. ⌜ extensionNumber (r .answer)
-        ≡ extensionNumber (extendOf 36 last (record { state = state; storage = now (storage .entry) }) .extended .answer) ⌝ }
-{
-    extend_at(36, storage, state, last)
 }
 
 // The number of an answer: 0 where nothing is refused.
@@ -90,6 +92,7 @@ pub fn number_of(answer: ExtensionAnswer) -> u64
 {
     match answer {
         ExtensionAnswer::Done => 0,
+        ExtensionAnswer::NoWidth => 31,
         ExtensionAnswer::Unsound => 11,
         ExtensionAnswer::BeforeSetUp => 12,
         ExtensionAnswer::LastAddress => 32,

@@ -13,3 +13,14 @@ pub fn read_file(name: &[u8], bytes: &mut [u8]) -> usize
     libc::close(file);
     count
 }
+
+// The word after the program's name, and how long it is, 0 where there is none. One that is empty or too long counts as eight characters.
+pub fn first_word(word: &mut [u8; 8]) -> usize
+    ensures { λ r. ⌜ Counts r (now (word .exit)) ⌝ }
+{
+    let length = os::arg(1, word);
+    if length != 0 {
+        return length;
+    }
+    if os::arg_count() < 2 { 0 } else { 8 }
+}

@@ -1,6 +1,7 @@
-// laps run LIMIT CALLS, laps step CALLS: the engine on the tour of tour.tab and stops.in, for its speed. It makes so many calls of run (one
-// where CALLS is left out) or of step, fewer up to a finish or refusal. Prints the last answer's number (0 running, 100 finished), the
-// count of steps and a checksum over the reports of the calls of step, the bugs and the storage.
+// laps run LIMIT CALLS WIDTH, laps step CALLS WIDTH: the engine on the tour of tour.tab and stops.in, for its speed. It makes so many calls of
+// run (one where CALLS is left out) or of step, fewer up to a finish or refusal, on words of WIDTH bits (36 where it is left out). Prints
+// the last answer's number (0 running, 100 finished), the count of steps and a checksum over the reports of the calls of step, the bugs and
+// the storage.
 ghost use Prim.Native.Nat.{_≤_};
 use cases::fold_words;
 use cases::left_after;
@@ -12,6 +13,14 @@ use machine::Core;
 use states::checksums;
 use std::num;
 use tour::numbers::read_table;
+
+// What is asked for: so many calls of step, or of run up to a limit, on words of a width.
+struct Asked {
+    stepping: bool,
+    limit: u64,
+    calls: u64,
+    width: u8,
+}
 
 // How the steps end: the last answer's number, the count and the checksum.
 struct Ended {
@@ -59,15 +68,21 @@ fn run_all(
     storage: &mut [u64],
     input: &[u8],
     output: &mut [u8],
-    limit: u64,
-    calls: u64,
+    asked: Asked,
 ) -> Ended {
-    let mut state = engine::fresh();
+    let mut state = engine::fresh_state(asked.width);
     let mut answer = 0;
     let mut count = 0;
-    let mut left = calls;
+    let mut left = asked.calls;
     while left > 0 {
-        let ran = engine::run(table, &mut *storage, input, &mut *output, state, limit);
+        let ran = engine::run(
+            table,
+            &mut *storage,
+            input,
+            &mut *output,
+            state,
+            asked.limit,
+        );
         let given = ran.answer;
         state = ran.state;
         answer = answer_number(given);
@@ -88,13 +103,13 @@ fn step_all(
     storage: &mut [u64],
     input: &[u8],
     output: &mut [u8],
-    calls: u64,
+    asked: Asked,
 ) -> Ended {
-    let mut state = engine::fresh();
+    let mut state = engine::fresh_state(asked.width);
     let mut answer = 0;
     let mut sum = 1;
     let mut count = 0;
-    let mut left = calls;
+    let mut left = asked.calls;
     while left > 0 {
         let stepped = engine::step(table, &mut *storage, input, &mut *output, state);
         let given = stepped.answer;
@@ -124,22 +139,22 @@ fn write(ended: Ended) {
 }
 
 // Steps through a table, with new storage and output.
-fn play(stepping: bool, first: u64, second: u64, table: &[u64], input: &[u8]) {
+fn play(asked: Asked, table: &[u64], input: &[u8]) {
     let mut storage = [0u64; 4096];
     let mut output = [0u8; 4096];
-    if stepping {
-        write(step_all(table, &mut storage, input, &mut output, first));
+    if asked.stepping {
+        write(step_all(table, &mut storage, input, &mut output, asked));
     } else {
-        write(run_all(table, &mut storage, input, &mut output, first, second));
+        write(run_all(table, &mut storage, input, &mut output, asked));
     }
 }
 
 // The same, given both files' bytes.
-fn play_files(stepping: bool, first: u64, second: u64, tab: &[u8], stops: &[u8]) {
+fn play_files(asked: Asked, tab: &[u8], stops: &[u8]) {
     let mut table = [0u64; 8000];
     let count = read_table(tab, &mut table);
     let given = at_most_4096(stops.len());
-    play(stepping, first, second, &table[..count], &stops[..given]);
+    play(asked, &table[..count], &stops[..given]);
 }
 
 // The number that an argument gives, or another one where it is missing.
@@ -159,16 +174,29 @@ fn is_step() -> bool {
     mode[0] == 115
 }
 
+// What the arguments ask for.
+fn arguments() -> Asked {
+    let stepping = is_step();
+    if stepping {
+        return Asked {
+            stepping: stepping,
+            limit: 1,
+            calls: argument(2, 0),
+            width: (argument(3, 36) % 256) as u8,
+        };
+    }
+    Asked {
+        stepping: stepping,
+        limit: argument(2, 0),
+        calls: argument(3, 1),
+        width: (argument(4, 36) % 256) as u8,
+    }
+}
+
 fn main() {
     let mut tab = io::large_buffer();
     let mut stops = io::large_buffer();
     let table = read_file(b"tour.tab", &mut tab);
     let given = read_file(b"stops.in", &mut stops);
-    play_files(
-        is_step(),
-        argument(2, 0),
-        argument(3, 1),
-        &tab[..table],
-        &stops[..given],
-    );
+    play_files(arguments(), &tab[..table], &stops[..given]);
 }

@@ -34,8 +34,11 @@ module _ {A : Type 0} (Range : A → Type 0) (none : A) (put : A → List ℕ) (
 
 -- the state of bytes that are a state's in a row, and nothing after them
 module _ (s : State) (ok : Ranged s) (t : List ℕ) where
+  abbrev r6675 : List ℕ
+  r6675 = bytesOf 1 (s .width) ++ []
+
   abbrev r2579 : List ℕ
-  r2579 = bytesOfAll (bytesOf 1) (s .map) ++ []
+  r2579 = bytesOfAll (bytesOf 1) (s .map) ++ r6675
 
   abbrev r1939 : List ℕ
   r1939 = bytesOfAll bytesOfPlace (s .core .calls .entries) ++ r2579
@@ -123,6 +126,9 @@ module _ (s : State) (ok : Ranged s) (t : List ℕ) where
     d2579 : drop 2579 t ≡ r2579
     d2579 = past t (bytesOfAll bytesOfPlace (s .core .calls .entries)) r2579 1939 640 d1939 (length-array bytesOfPlace (testsOf 0) 5 length-place (s .core .calls .entries) (ok .arrays .calls .long))
 
+    d6675 : drop 6675 t ≡ r6675
+    d6675 = past t (bytesOfAll (bytesOf 1) (s .map)) r6675 2579 4096 d2579 (length-array (bytesOf 1) 0 1 (length-bytes 1) (s .map) (ok .map .long))
+
     pub state-same : stateOf t ≡ s
     unfolding stateOf
     state-same =
@@ -140,10 +146,11 @@ module _ (s : State) (ok : Ranged s) (t : List ℕ) where
         let a1283 = array-back RangedDefinition undefined bytesOfDefinition definitionOf 4 length-definition definition-back 36 (s .core .definitions) (ok .arrays .definitions) t r1427 1283 d1283 in
         let a1427 = array-back RangedDefinition undefined bytesOfDefinition definitionOf 4 length-definition definition-back 128 (s .core .saved .entries) (ok .arrays .saved) t r1939 1427 d1427 in
         let a1939 = array-back RangedPlace (testsOf 0) bytesOfPlace placeOf 5 length-place place-back 128 (s .core .calls .entries) (ok .arrays .calls) t r2579 1939 d1939 in
-        let a2579 = array-back (Bytes 1) 0 (bytesOf 1) lowFirst 1 (length-bytes 1) (number-of-bytes 1) 4096 (s .map) (ok .map) t [] 2579 d2579 in
-        rw (place, n5, n13, n21, n23, n25, n27, n35, n43, a51, a259, a1283, a1427, a1939, a2579)
+        let a2579 = array-back (Bytes 1) 0 (bytesOf 1) lowFirst 1 (length-bytes 1) (number-of-bytes 1) 4096 (s .map) (ok .map) t r6675 2579 d2579 in
+        let n6675 = number t [] 6675 1 (s .width) d6675 (ok .width) in
+        rw (place, n5, n13, n21, n23, n25, n27, n35, n43, a51, a259, a1283, a1427, a1939, a2579, n6675)
 
 -- every value of the type comes back from its bytes
 pub state-back : (s : State) → Ranged s → stateOf (bytesOfState s) ≡ s
 unfolding bytesOfState bytesOfNumbers bytesOfArrays
-state-back s ok = state-same s ok (bytesOfState s) (simp append-assoc (rw (append-nil (bytesOfAll (bytesOf 1) (s .map)))))
+state-back s ok = state-same s ok (bytesOfState s) (simp append-assoc (rw (append-nil (bytesOf 1 (s .width)))))

@@ -1,4 +1,4 @@
--- The parts of a state put one after the other: numbers, arrays, map. Assumes nothing.
+-- The parts of a state put one after the other: numbers, arrays, map, width. Assumes nothing.
 use Prim.Native.Nat.{ℕ, _+_}
 use native.Mathlib.Omega.{arith}
 use mathlib.Core.List.{List, _++_, append-assoc}
@@ -13,7 +13,7 @@ use Rattle.machine.specs.Storage.{placed}
 use Rattle.layout.specs.Records.{bytesOfAll}
 use Rattle.layout.specs.Layout.{stateLength, bytesOfPlace, bytesOfDefinition, bytesOfNumbers, bytesOfArrays, bytesOfState}
 use Rattle.layout.specs.Ranged.{RangedArrays, Ranged}
-use Rattle.layout.proofs.Placing.{row-first, row-more, three-row, whole}
+use Rattle.layout.proofs.Placing.{row-first, row-more, three-row, four-row, whole}
 use Rattle.layout.proofs.Records.{length-array}
 use Rattle.layout.proofs.Widths.{length-place, length-definition}
 
@@ -80,12 +80,14 @@ module _ (s : State) (ok : Ranged s) where
   -- it has as many bytes as a state has
   pub length-state : length (bytesOfState s) ≡ stateLength
   unfolding bytesOfState
-  length-state = simp length-append (omega (arith, length-numbers (s .core), length-arrays (s .core) (ok .arrays), map-long))
+  length-state =
+      simp length-append (omega (arith, length-numbers (s .core), length-arrays (s .core) (ok .arrays), map-long, length-bytes 1 (s .width)))
 
-  pub state-put : (t : List ℕ) {t₁ t₂ t₃ : List ℕ} → length t ≡ stateLength → t₁ ≡ placed 0 (bytesOfNumbers (s .core)) t
-      → t₂ ≡ placed 51 (bytesOfArrays (s .core)) t₁ → t₃ ≡ placed 2579 (bytesOfAll (bytesOf 1) (s .map)) t₂ → t₃ ≡ bytesOfState s
+  pub state-put : (t : List ℕ) {t₁ t₂ t₃ t₄ : List ℕ} → length t ≡ stateLength → t₁ ≡ placed 0 (bytesOfNumbers (s .core)) t
+      → t₂ ≡ placed 51 (bytesOfArrays (s .core)) t₁ → t₃ ≡ placed 2579 (bytesOfAll (bytesOf 1) (s .map)) t₂
+      → t₄ ≡ placed 6675 (bytesOf 1 (s .width)) t₃ → t₄ ≡ bytesOfState s
   unfolding bytesOfState
-  state-put t h e f g =
-      let row = three-row 0 51 2528 4096 (bytesOfNumbers (s .core)) (bytesOfArrays (s .core)) (bytesOfAll (bytesOf 1) (s .map)) t (length-numbers (s .core))
-      (length-arrays (s .core) (ok .arrays)) map-long e f g (omega arith) in
+  state-put t h e f g i =
+      let row = four-row 0 51 2528 4096 (bytesOfNumbers (s .core)) (bytesOfArrays (s .core)) (bytesOfAll (bytesOf 1) (s .map)) t (length-numbers (s .core))
+      (length-arrays (s .core) (ok .arrays)) map-long 1 (bytesOf 1 (s .width)) (length-bytes 1 (s .width)) e f g i (omega arith) in
       row .put .same ∙ whole _ t (length-state ∙ sym h)

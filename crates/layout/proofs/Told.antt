@@ -14,7 +14,7 @@ use Rattle.machine.specs.declared.Definition.{Definition}
 use Rattle.machine.specs.declared.Core.{Core}
 use Rattle.machine.specs.declared.State.{State}
 use Rattle.layout.specs.Records.{numberAt, recordsOf}
-use Rattle.layout.specs.Layout.{placeOf, definitionOf, stateOf}
+use Rattle.layout.specs.Layout.{stateLength, placeOf, definitionOf, stateOf}
 use Rattle.layout.proofs.Widths.{number-within, byte-at}
 
 module _ (bytes : List ℕ) (at : ℕ) where
@@ -52,7 +52,7 @@ module _ (bytes : List ℕ) (at : ℕ) where
       let same : at + i ≡ at + 1 * i = omega arith in
       sym (byte-at (at + i) bytes h) ∙ ap (λ (n : ℕ). lowFirst (take 1 (drop n bytes))) same
 
--- all that is read of a state but its map
+-- all that is read of a state but its map and its width
 pub core-read : (bytes : List ℕ) {place : Place} {bugs words : List ℕ} {definitions saved : List Definition} {calls : List Place} {contents-count saved-count calls-count taken written : ℕ}
     {setup : SetUp} → bugs ≡ recordsOf lowFirst 8 26 (drop 51 bytes) → words ≡ recordsOf lowFirst 8 128 (drop 259 bytes)
     → definitions ≡ recordsOf definitionOf 4 36 (drop 1283 bytes) → saved ≡ recordsOf definitionOf 4 128 (drop 1427 bytes)
@@ -75,8 +75,12 @@ pub core-read : (bytes : List ℕ) {place : Place} {bugs words : List ℕ} {defi
 unfolding stateOf
 core-read bytes b w d s c p m n k u t o = rw (b, w, d, s, c, p, m, n, k, u, t, o)
 
--- and with it
-pub state-read : (bytes : List ℕ) {core : Core} {map : List ℕ} → core ≡ stateOf bytes .core → map ≡ recordsOf lowFirst 1 4096 (drop 2579 bytes)
-    → _≡_ {A = State} (record { core = core; map = map }) (stateOf bytes)
+-- and with them
+pub width-read : (bytes : List ℕ) → length bytes ≡ stateLength → getD bytes 6675 0 ≡ stateOf bytes .width
 unfolding stateOf
-state-read bytes c m = rw (c, m)
+width-read bytes long = sym (byte-at 6675 bytes (omega arith))
+
+pub state-read : (bytes : List ℕ) {width : ℕ} {core : Core} {map : List ℕ} → width ≡ stateOf bytes .width → core ≡ stateOf bytes .core
+    → map ≡ recordsOf lowFirst 1 4096 (drop 2579 bytes) → _≡_ {A = State} (record { width = width; core = core; map = map }) (stateOf bytes)
+unfolding stateOf
+state-read bytes w c m = rw (w, c, m)

@@ -70,16 +70,15 @@ short-at at bytes h =
     rw (drop-cons bytes at 0 (omega arith), drop-cons bytes (suc at) 0 (omega arith)) (omega (arith, ap (λ (k : ℕ). getD bytes k 0) (add-one at)))
 
 -- bytes as records of one byte are themselves
-pub bytes-are : (bytes : List ℕ) → recordsOf lowFirst 1 (length bytes) bytes ≡ bytes
+pub bytes-are : (n : ℕ) (bytes : List ℕ) → n ≤ length bytes → recordsOf lowFirst 1 n bytes ≡ take n bytes
 unfolding recordsOf lowFirst
-bytes-are [] = refl
-bytes-are (x ∷ xs) =
+bytes-are zero bytes h = refl
+bytes-are (suc n) [] h = absurd (omega arith)
+bytes-are (suc n) (x ∷ xs) h =
     let same : x + 256 * 0 ≡ x = omega arith in
-    ap (λ (y : ℕ). y ∷ recordsOf lowFirst 1 (length xs) xs) same ∙ ap (λ (ys : List ℕ). x ∷ ys) (bytes-are xs)
+    ap (λ (y : ℕ). y ∷ recordsOf lowFirst 1 n xs) same ∙ ap (λ (ys : List ℕ). x ∷ ys) (bytes-are n xs (omega arith))
 
--- so the map is what stands from its place on
-pub map-is : (bytes : List ℕ) → length bytes ≡ stateLength → stateOf bytes .map ≡ drop 2579 bytes
+-- so the map is the bytes from its place on
+pub map-is : (bytes : List ℕ) → length bytes ≡ stateLength → stateOf bytes .map ≡ take 4096 (drop 2579 bytes)
 unfolding stateOf
-map-is bytes h =
-    let long : 4096 ≡ length (drop 2579 bytes) = omega (arith, length-drop 2579 bytes) in
-    ap (λ (n : ℕ). recordsOf lowFirst 1 n (drop 2579 bytes)) long ∙ bytes-are (drop 2579 bytes)
+map-is bytes h = bytes-are 4096 (drop 2579 bytes) (omega (arith, length-drop 2579 bytes))

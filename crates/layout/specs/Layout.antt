@@ -1,4 +1,4 @@
--- The 6,675 bytes of a state: fixed places, numbers low byte first. Every list of that many bytes is that of a state, sound or not.
+-- The 6,676 bytes of a state: fixed places, numbers low byte first. Every list of that many bytes is that of a state, sound or not.
 -- Assumes nothing.
 use Prim.Native.Nat.{ℕ}
 use mathlib.Core.Bool.{not, cond}
@@ -14,7 +14,7 @@ use Rattle.layout.specs.Records.{numberAt, bytesOfAll, recordsOf}
 
 -- how many bytes a state has
 abbrev pub stateLength : ℕ
-stateLength = 6675
+stateLength = 6676
 
 -- a place: its kind in one byte, row and line in two
 unfoldable pub bytesOfPlace : Place → List ℕ
@@ -57,14 +57,16 @@ bytesOfArrays c =
     ++ (bytesOfAll bytesOfDefinition (c .definitions)
     ++ (bytesOfAll bytesOfDefinition (c .saved .entries) ++ bytesOfAll bytesOfPlace (c .calls .entries))))
 
--- the bytes of a state
+-- the bytes of a state: the width comes last
 unfoldable pub bytesOfState : State → List ℕ
-bytesOfState s = bytesOfNumbers (s .core) ++ (bytesOfArrays (s .core) ++ bytesOfAll (bytesOf 1) (s .map))
+bytesOfState s =
+    bytesOfNumbers (s .core) ++ (bytesOfArrays (s .core) ++ (bytesOfAll (bytesOf 1) (s .map) ++ bytesOf 1 (s .width)))
 
 -- the state of these bytes
 unfoldable pub stateOf : List ℕ → State
 stateOf bytes =
     record {
+      width = numberAt 6675 1 bytes;
       core = record {
         place = placeOf (take 5 bytes);
         taken = numberAt 5 8 bytes;

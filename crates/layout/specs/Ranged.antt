@@ -50,6 +50,7 @@ pub record RangedArrays (c : Core) : Type 0 where
   pub calls : Array RangedPlace (testsOf 0) 128 (c .calls .entries)
 
 pub record Ranged (s : State) : Type 0 where
+  pub width : Bytes 1 (s .width)
   pub numbers : RangedNumbers (s .core)
   pub arrays : RangedArrays (s .core)
   pub map : Array (Bytes 1) 0 4096 (s .map)

@@ -1,3 +1,3 @@
-// A state as 6,675 bytes: numbers low byte first, at fixed places.
+// A state as 6,676 bytes: numbers low byte first, at fixed places.
 pub mod reading;
 pub mod writing;

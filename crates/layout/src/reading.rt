@@ -137,7 +137,15 @@ pub fn setup_at(bytes: &[u8]) -> SetUp
     }
 }
 
-// All but the map.
+// The width.
+pub fn width_at(bytes: &[u8]) -> u8
+    requires { ⌜ length (now bytes) ≡ stateLength ⌝ }
+    ensures { λ r. ⌜ r ≡ stateOf (now (bytes .entry)) .width ⌝ }
+{
+    bytes[6675]
+}
+
+// All but the map and the width.
 fn core_at(bytes: &[u8]) -> Core
     requires { ⌜ length (now bytes) ≡ stateLength ⌝ }
     ensures { λ r. ⌜ r ≡ stateOf (now (bytes .entry)) .core ⌝ }
@@ -181,6 +189,7 @@ pub fn read_state(bytes: &[u8]) -> State
     let mut map = [0u8; 4096];
     read_bytes(bytes, 2579, &mut map);
     State {
+        width: width_at(bytes),
         core: core,
         map: map,
     }

@@ -162,6 +162,15 @@ fn put_arrays(bytes: &mut [u8], core: Core)
     put_calls(bytes, places);
 }
 
+// The width.
+fn put_width(bytes: &mut [u8], width: u8)
+    requires { ⌜ length (now bytes) ≡ stateLength ⌝ }
+    ensures { λ _. ⌜ now (bytes .exit) ≡ placed 6675 (bytesOf 1 width) (now (bytes .entry)) ⌝ }
+    ensures ranged { λ _. ⌜ Bytes 1 width ⌝ }
+{
+    put_number(bytes, 6675, 1, width as u64);
+}
+
 // The bytes of a state.
 pub fn write_state(bytes: &mut [u8], state: State)
     requires { ⌜ length (now bytes) ≡ stateLength ⌝ }
@@ -173,4 +182,5 @@ pub fn write_state(bytes: &mut [u8], state: State)
     put_numbers(bytes, core);
     put_arrays(bytes, core);
     put_bytes(bytes, 2579, &map);
+    put_width(bytes, state.width);
 }

@@ -48,7 +48,7 @@ fn eight_printed() -> u64 {
 fn bench_word(which: u64) -> u64 {
     match which {
         37 => fields::store_field(36, 6, 20, 0o777777777777, 32769),
-        38 => fields::kept_bits(0, 14, arithmetic::subtract(32768, 1)),
+        38 => fields::kept_bits(0, 14, arithmetic::subtract(36, 32768, 1)),
         39 => arithmetic::multiply(36, 0o400000000000, 3),
         40 => character::from_binary_decimal(6, 607),
         41 => character::from_binary_decimal(6, 1000607),

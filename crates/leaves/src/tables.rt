@@ -32,9 +32,10 @@ fn names_in(v: u64) -> u64 {
 
 // What the check answers: the row, or 1,000 for a refusal.
 fn checked(t: &[u64]) -> u64 {
-    match check::check(36, t) {
+    match check::check_table(36, t) {
         TableCheck::Lowest(r) => r,
         TableCheck::BadLength => 1000,
+        TableCheck::NoWidth => 1001,
     }
 }
 

@@ -36,7 +36,7 @@ pub fn result(which: u64, a: u64, x: u64, y: u64) -> u64 {
         0 => arithmetic::power(a % 64),
         1 => arithmetic::low_bits(w, y),
         2 => arithmetic::add(w, x, y),
-        3 => arithmetic::subtract(x / 2 + y / 2, y / 2),
+        3 => arithmetic::subtract(63, x / 4 + y / 4, y / 4),
         4 => arithmetic::multiply(w, x, y),
         5 => arithmetic::divide(x >> (a % 64), 1 + y % 64),
         6 => logic::or(w, x, y),

@@ -1,5 +1,5 @@
--- What a text of typed lines becomes: rows, labels, the faults of its lines, the answer and the lent table. Document 02, ticket 3.
--- Assumes nothing.
+-- What a text of typed lines becomes: rows, labels, the faults of its lines, the answer and the lent table. Document 02, tickets 3
+-- and 9. Assumes nothing.
 use Prim.Native.Nat.{ℕ, zero, suc, _+_, _*_}
 use mathlib.Core.Path.{_≡_}
 use mathlib.Core.Bool.{Bool, true, false, not, _&&_, _||_, cond}
@@ -7,10 +7,11 @@ use mathlib.Core.List.{List, [], _∷_, _++_, map}
 use mathlib.Core.Option.{Option, none, some}
 use lib.Dec.{eqb, leb}
 use lib.ListN.{length, drop, replicate}
+use Rattle.word.specs.Word.{isWidth}
 use Rattle.table.specs.declared.Row.{Row}
 use Rattle.table.specs.Row.{done}
 use Rattle.lines.specs.declared.Read.{Read}
-use Rattle.lines.specs.declared.Read.the-variants.{Rows, BadLine, BadLabel, TooLong}
+use Rattle.lines.specs.declared.Read.the-variants.{Rows, NoWidth, BadLine, BadLabel, TooLong}
 use Rattle.lines.specs.Words.{same, isEmpty, any, isDone, absentPair}
 use Rattle.lines.specs.Forms.{testForms, operationForms, expanded, formOf, symbolsIn, rowIn}
 use Rattle.lines.specs.Grammar.{Line, Typed}
@@ -156,27 +157,34 @@ reading b text lent =
     })
     (record { answer = refused (refusalOf b (length lent) text); table = lent })
 
--- the ticket's number of an answer, 0 where it is none; the row count and the line of the fault, 0 where there is none
+-- the call at a width: 31, before anything else, where that is none
+unfoldable pub readAt : ℕ → List ℕ → List ℕ → Left
+readAt b text lent = cond (isWidth b) (reading b text lent) (record { answer = NoWidth; table = lent })
+
+-- the papers' number of an answer, 0 where it is none; the row count and the line of the fault, 0 where there is none
 unfoldable pub readNumber : Read → ℕ
 readNumber (Rows n) = 0
+readNumber NoWidth = 31
 readNumber (BadLine line) = 23
 readNumber (BadLabel line) = 24
 readNumber (TooLong line) = 25
 
 unfoldable pub readCount : Read → ℕ
 readCount (Rows n) = n
+readCount NoWidth = 0
 readCount (BadLine line) = 0
 readCount (BadLabel line) = 0
 readCount (TooLong line) = 0
 
 unfoldable pub readFault : Read → ℕ
 readFault (Rows n) = 0
+readFault NoWidth = 0
 readFault (BadLine line) = line
 readFault (BadLabel line) = line
 readFault (TooLong line) = line
 
--- the answer in the ticket's numbers
+-- the answer in the papers' numbers
 pub record Numbered (b : ℕ) (text lent : List ℕ) (answer : Read) : Type 0 where
-  pub number : readNumber answer ≡ refusalOf b (length lent) text .number
-  pub count : readCount answer ≡ cond (eqb (refusalOf b (length lent) text .number) 0) (rowCount (program b text)) 0
-  pub fault : readFault answer ≡ refusalOf b (length lent) text .line
+  pub number : readNumber answer ≡ cond (isWidth b) (refusalOf b (length lent) text .number) 31
+  pub count : readCount answer ≡ cond (isWidth b && eqb (refusalOf b (length lent) text .number) 0) (rowCount (program b text)) 0
+  pub fault : readFault answer ≡ cond (isWidth b) (refusalOf b (length lent) text .line) 0

@@ -6,9 +6,10 @@ mod numbers;
 pub mod spots;
 pub mod words;
 
-// What a reading answers: the row count, or the refusals 23, 24 and 25, each with the line of the fault, counted from 1.
+// What a reading answers: the row count, refusal 31, or the refusals 23, 24 and 25, each with the line of the fault, counted from 1.
 pub enum Read {
     Rows(u64),
+    NoWidth,
     BadLine(u64),
     BadLabel(u64),
     TooLong(u64),

@@ -112,6 +112,7 @@ module _ (b : ℕ) (g : Given) (h : Facts b (g .engine)) where
     effects c second =
         record {
           state = record {
+            width = g .engine .state .width;
             core = c;
             map = deliveredMap (level (top (g .engine .state .core .setup .d)) (w .words)) address (g .engine .state .core .setup) (g .engine .state .map);
           };

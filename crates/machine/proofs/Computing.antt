@@ -26,7 +26,7 @@ unfolding fields-file.width fields-file.shift fields-file.fieldOf fields-file.ke
 fields = tt
 
 unfoldable words : Unit {0}
-unfolding words-file.bit words-file.sum words-file.product words-file.nearest words-file.complement words-file.bitwise words-file.either words-file.both words-file.differing words-file.ones words-file.zeros words-file.leftmost words-file.rightmostOf words-file.rightmost words-file.leftShift words-file.rightShift
+unfolding words-file.isWidth words-file.bit words-file.sum words-file.product words-file.nearest words-file.complement words-file.bitwise words-file.either words-file.both words-file.differing words-file.ones words-file.zeros words-file.leftmost words-file.rightmostOf words-file.rightmost words-file.leftShift words-file.rightShift
 words = tt
 
 unfoldable characters : Unit {0}
@@ -94,7 +94,7 @@ unfolding operations-file.orRefuse operations-file.asked operations-file.setUp o
 operations = tt
 
 unfoldable steps : Unit {0}
-unfolding steps-file.nextLine steps-file.operationOrExit steps-file.goingTo steps-file.testsStep steps-file.inTurn steps-file.given steps-file.operationStep steps-file.return steps-file.exitStep steps-file.plan steps-file.unchanged steps-file.carriedOut steps-file.outcome steps-file.step steps-file.engineOf steps-file.ending steps-file.runFrom steps-file.run
+unfolding steps-file.nextLine steps-file.operationOrExit steps-file.goingTo steps-file.testsStep steps-file.inTurn steps-file.given steps-file.operationStep steps-file.return steps-file.exitStep steps-file.plan steps-file.unchanged steps-file.carriedOut steps-file.outcome steps-file.stepAt steps-file.step steps-file.engineOf steps-file.ending steps-file.runFrom steps-file.run
 steps = tt
 
 unfoldable benches : Unit {0}

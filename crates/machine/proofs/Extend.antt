@@ -10,17 +10,19 @@ use borrow.Author.Tests.{lt-ltb}
 use lib.ListN.{length, take, drop, replicate, length-append, length-replicate}
 use lib.Seq.{take-at, length-take-le}
 use lib.Pow.{pow-pos}
+use Rattle.word.specs.Word.{isWidth}
+use Rattle.word.proofs.Tests.{by-test}
 use Rattle.block.specs.declared.SetUp.{SetUp}
 use Rattle.block.specs.SetUp.{words, fitting, absent}
 use Rattle.block.specs.Extension.{extendedTo, extending}
 use Rattle.block.proofs.Size.{absent-facts}
 use Rattle.block.proofs.Extension.{extending-facts, extended-words, extended-fits, extended-section}
 use Rattle.machine.specs.declared.ExtensionAnswer.{ExtensionAnswer}
-use Rattle.machine.specs.declared.ExtensionAnswer.the-variants.{Unsound, BeforeSetUp, LastAddress}
+use Rattle.machine.specs.declared.ExtensionAnswer.the-variants.{NoWidth, Unsound, BeforeSetUp, LastAddress}
 use Rattle.machine.specs.State.{isSetUp, withSetUp, onCore, withMap}
 use Rattle.machine.specs.Storage.{placed}
 use Rattle.machine.specs.Sound.{Engine, every, soundEngine}
-use Rattle.machine.specs.Extend.{Extension, isDone, notExtended, engineExtended, extendedBy, extend, engineLeft}
+use Rattle.machine.specs.Extend.{Extension, isDone, notExtended, engineExtended, extendedBy, extendAt, extend, engineLeft}
 use Rattle.machine.proofs.Checks.{or-parts, nonzero}
 use Rattle.machine.proofs.Every.{below, every-cons, every-parts, every-replicate}
 use Rattle.machine.proofs.Facts.{Facts, sound-facts, setup-facts}
@@ -33,9 +35,9 @@ pub data Extends (b last : ℕ) (e : Engine) (x : Extension) : Type 0 where
       → x ≡ extendedBy last e → Extends b last e x
 
 -- an extension leaves all as it was, or the engine with more words
-pub extends : (b last : ℕ) (e : Engine) → Extends b last e (extend b last e)
-unfolding extend isDone
-extends b last e =
+pub extends-at : (b last : ℕ) (e : Engine) → Extends b last e (extendAt b last e)
+unfolding extendAt isDone
+extends-at b last e =
     elim (soundEngine b e) as (λ t. soundEngine b e ≡ t → Extends b last e (cond t (cond (isSetUp (e .state .core))
     (cond (extending (length (e .storage)) last (e .state .core .setup)) (extendedBy last e) (notExtended LastAddress e))
     (notExtended BeforeSetUp e)) (notExtended Unsound e))) [
@@ -51,14 +53,35 @@ extends b last e =
       | false ↦ λ s. refusing Unsound refl refl
     ] refl
 
+-- an extension goes by the state's width, or is refused by 31
+pub extends : (last : ℕ) (e : Engine) → Extends (e .state .width) last e (extend last e)
+unfolding extend isDone
+extends last e =
+    by-test (λ t. Extends (e .state .width) last e (cond t (extendAt (e .state .width) last e) (notExtended NoWidth e))) (isWidth (e .state .width))
+    (λ _. extends-at (e .state .width) last e) (λ _. refusing NoWidth refl refl)
+
+-- where the width is one, it is an extension of words of that many bits
+pub extend-is : (b last : ℕ) (e : Engine) → e .state .width ≡ b → isWidth b ≡ true → extend last e ≡ extendAt b last e
+unfolding extend
+extend-is b last e same wide = rw (same, wide)
+
 -- a refused extension changes no state and no storage word
-pub refused-extension : (b last : ℕ) (e : Engine) → isDone (extend b last e .extended .answer) ≡ false → engineLeft (extend b last e) ≡ e
+pub refused-extension : (last : ℕ) (e : Engine) → isDone (extend last e .extended .answer) ≡ false → engineLeft (extend last e) ≡ e
 unfolding notExtended extendedBy engineLeft isDone
-refused-extension b last e k = go (extends b last e)
+refused-extension last e k = go (extends last e)
   where
-    go : Extends b last e (extend b last e) → engineLeft (extend b last e) ≡ e
+    go : Extends (e .state .width) last e (extend last e) → engineLeft (extend last e) ≡ e
     go (refusing answer f x) = rw x
     go (growing _ _ _ x) = let never : _≡_ {A = Bool} true false = sym (ap (λ (y : Extension). isDone (y .extended .answer)) x) ∙ k in cc
+
+-- an extension leaves the width
+pub extend-width : (b last : ℕ) (e : Engine) → extendAt b last e .extended .state .width ≡ e .state .width
+unfolding notExtended extendedBy engineExtended onCore withMap
+extend-width b last e = go (extends-at b last e)
+  where
+    go : Extends b last e (extendAt b last e) → extendAt b last e .extended .state .width ≡ e .state .width
+    go (refusing answer f x) = rw x
+    go (growing _ _ _ x) = rw x
 
 -- of two lists, one after the other
 every-append : {A : Type 0} (f : A → Bool) (xs ys : List A) → every f xs ≡ true → every f ys ≡ true → every f (xs ++ ys) ≡ true

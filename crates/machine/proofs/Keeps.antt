@@ -21,6 +21,7 @@ use Rattle.block.proofs.Tiling.{sizeAt-mem}
 use Rattle.block.proofs.Runs.{runs-sound}
 use Rattle.machine.specs.declared.State.{State}
 use Rattle.machine.specs.declared.Report.{Report}
+use Rattle.machine.specs.State.{withWidth}
 use Rattle.machine.specs.Storage.{noStore, noReport, placed, withStore, withDelivery, withCopy, afterReport}
 use Rattle.machine.specs.Sound.{Lent, Engine, every}
 use Rattle.machine.specs.Effects.{Effects, storageAfter, engineAfter}
@@ -200,6 +201,11 @@ module _ (b : ℕ) (e : Engine) (h : Facts b e) (x : Effects) where
       (storage-facts-of b (x .state) _ u (m .setup) (rw (long, m .fits)) (rw (m .map) (fresh-section _ u (m .fits) _))
       (zeros-first (below (2 ^ b)) (words u) (e .storage) (lt-ltb _ _ (pow-pos b))))
 
+  -- the clauses on the storage bear on no width of the state
+  any-width : (w : ℕ) → StorageFacts b (x .state) (storageAfter b x (e .storage))
+      → StorageFacts b (withWidth w (x .state)) (storageAfter b x (e .storage))
+  any-width w s = record { numbers = s .numbers; blocks = s .blocks; values = s .values }
+
   -- the effects of a plan keep the engine sound
   moves-storage : Moves b (e .state .core .setup) (e .state .map) x → StorageFacts b (x .state) (storageAfter b x (e .storage))
   moves-storage (still m) = still-storage b e h x m
@@ -208,5 +214,5 @@ module _ (b : ℕ) (e : Engine) (h : Facts b e) (x : Effects) where
 
   pub planned-facts : (l : Lent) → Planned b l e x → Facts b (engineAfter b x e)
   unfolding engineAfter
-  planned-facts l (settingUp _ core m) = record { core = core; storage = sets-up-storage (setUpAt l e) m }
-  planned-facts l (moving _ m) = record { core = m .core; storage = moves-storage (m .moves) }
+  planned-facts l (settingUp _ core m) = record { core = core; storage = any-width _ (sets-up-storage (setUpAt l e) m) }
+  planned-facts l (moving _ m) = record { core = m .core; storage = any-width _ (moves-storage (m .moves)) }

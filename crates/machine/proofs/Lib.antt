@@ -16,7 +16,7 @@ pub mod Plan
 pub mod Steps
 pub mod Keeps
 pub mod Counts
-pub mod Fresh
+pub mod Starting
 pub mod Soundness
 pub mod Extend
 pub mod Wanting

@@ -11,12 +11,12 @@ use Rattle.machine.specs.Answer.{isRunning}
 use Rattle.machine.specs.Storage.{placed}
 use Rattle.machine.specs.Sound.{Lent, Engine, sound, soundEngine}
 use Rattle.machine.specs.Effects.{engineAfter}
-use Rattle.machine.specs.Step.{Outcome, RunOutcome, unchanged, carriedOut, step, engineOf, ending, runFrom, engineRan}
+use Rattle.machine.specs.Step.{Outcome, RunOutcome, unchanged, carriedOut, stepAt, step, engineOf, ending, runFrom, engineRan}
 use Rattle.machine.proofs.Checks.{and-true}
 use Rattle.machine.proofs.Placed.{length-placed}
 use Rattle.machine.proofs.Facts.{facts-sound}
 use Rattle.machine.proofs.Plan.{planned}
-use Rattle.machine.proofs.Steps.{Stepping, refusing, staying, forward, stepping}
+use Rattle.machine.proofs.Steps.{Stepping, refusing, staying, forward, by-width, stepping-at, step-width}
 use Rattle.machine.proofs.Keeps.{planned-facts}
 use Rattle.machine.proofs.Counts.{plan-counts}
 
@@ -35,11 +35,11 @@ counts-fit b l e s =
     (leb-true _ _ (and-parts (soundEngine b e) input k .1), leb-true _ _ written)
 
 pub step-keeps-sound : (b : ℕ) (l : Lent) (e : Engine) → sound b l e ≡ true
-    → sound b (next l (step b l e)) (engineOf (step b l e)) ≡ true
+    → sound b (next l (stepAt b l e)) (engineOf (stepAt b l e)) ≡ true
 unfolding sound next engineOf unchanged carriedOut engineAfter
-step-keeps-sound b l e s = go (stepping b l e)
+step-keeps-sound b l e s = go (stepping-at b l e)
   where
-    go : Stepping b l e (step b l e) → sound b (next l (step b l e)) (engineOf (step b l e)) ≡ true
+    go : Stepping b l e (stepAt b l e) → sound b (next l (stepAt b l e)) (engineOf (stepAt b l e)) ≡ true
     go (refusing r o) = subst (λ (o : Outcome). sound b (next l o) (engineOf o) ≡ true) (sym o) s
     go (staying f o) = subst (λ (o : Outcome). sound b (next l o) (engineOf o) ≡ true) (sym o) s
     go (forward x h f p o) =
@@ -55,20 +55,31 @@ step-keeps-sound b l e s = go (stepping b l e)
 unfoldable pub lentRan : Lent → RunOutcome → Lent
 lentRan l r = record { table = l .table; input = l .input; output = r .output }
 
-pub run-keeps-sound : (b count limit : ℕ) (l : Lent) (e : Engine)
-    → sound b l e ≡ true → sound b (lentRan l (runFrom count b limit l e)) (engineRan (runFrom count b limit l e)) ≡ true
+-- sound at its own width
+abbrev fine : Lent → Engine → Type 0
+fine l e = sound (e .state .width) l e ≡ true
+
+step-keeps-fine : (l : Lent) (e : Engine) → fine l e → fine (next l (step l e)) (engineOf (step l e))
+unfolding unchanged next engineOf
+step-keeps-fine l e s =
+    by-width l e (λ o. fine (next l o) (engineOf o))
+    (λ _. subst (λ (b : ℕ). sound b (next l (stepAt (e .state .width) l e)) (engineOf (stepAt (e .state .width) l e)) ≡ true)
+    (sym (step-width (e .state .width) l e)) (step-keeps-sound (e .state .width) l e s))
+    (λ _. s)
+
+pub run-keeps-sound : (count limit : ℕ) (l : Lent) (e : Engine) → fine l e → fine (lentRan l (runFrom count limit l e)) (engineRan (runFrom count limit l e))
 unfolding runFrom ending engineRan lentRan next engineOf
-run-keeps-sound b count zero l e s = s
-run-keeps-sound b count (suc limit) l e s =
-    let o : Outcome = step b l e in
-    let fine = step-keeps-sound b l e s in
+run-keeps-sound count zero l e s = s
+run-keeps-sound count (suc limit) l e s =
+    let o : Outcome = step l e in
+    let stays = step-keeps-fine l e s in
     let rest : Lent = next l o in
     elim (isRunning (o .stepped .answer)) as (λ t.
     let r : RunOutcome = (elim t [
-      | true ↦ runFrom (suc count) b limit rest (engineOf o)
+      | true ↦ runFrom (suc count) limit rest (engineOf o)
       | false ↦ ending (o .stepped .answer) (suc count) (engineOf o) (o .output)
     ]) in
-    sound b (lentRan l r) (engineRan r) ≡ true) [
-      | true ↦ run-keeps-sound b (suc count) limit rest (engineOf o) fine
-      | false ↦ fine
+    fine (lentRan l r) (engineRan r)) [
+      | true ↦ run-keeps-sound (suc count) limit rest (engineOf o) stays
+      | false ↦ stays
     ]

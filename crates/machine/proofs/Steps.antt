@@ -8,20 +8,21 @@ use lib.Dec.{leb}
 use lib.ListN.{length}
 use mathlib.Core.List.{List·Memᴰ}
 use mathlib.Core.Path.{_≡_, refl, subst, sym, ap, _∙_}
-use Rattle.word.proofs.Tests.{and-true as and-parts}
+use Rattle.word.specs.Word.{isWidth}
+use Rattle.word.proofs.Tests.{and-true as and-parts, by-test}
 use Rattle.block.specs.SetUp.{runs}
 use Rattle.machine.specs.declared.Answer.{Answer}
 use Rattle.machine.specs.declared.Answer.the-variants.{Running, Finished, Refused}
 use Rattle.machine.specs.declared.Refusal.{Refusal}
 use Rattle.machine.specs.declared.Report.{Report}
-use Rattle.machine.specs.declared.Refusal.the-variants.{Unsound}
+use Rattle.machine.specs.declared.Refusal.the-variants.{Unsound, NoWidth}
 use Rattle.machine.specs.Answer.{Checked, refused, passed}
 use Rattle.machine.specs.State.{isFinished}
 use Rattle.machine.specs.Storage.{noReport}
 use Rattle.machine.specs.Sound.{Lent, Engine, sound, soundEngine}
 use Rattle.machine.specs.Locate.{liveBlocks}
 use Rattle.machine.specs.Effects.{Effects}
-use Rattle.machine.specs.Step.{Outcome, plan, unchanged, carriedOut, outcome, step}
+use Rattle.machine.specs.Step.{Outcome, plan, unchanged, carriedOut, outcome, stepAt, step}
 use Rattle.machine.proofs.Facts.{Facts, sound-facts}
 use Rattle.machine.proofs.Moves.{Moves, still, frees, delivers}
 use Rattle.machine.proofs.Plan.{Planned, settingUp, moving, planned}
@@ -42,9 +43,9 @@ sound-engine b l e s =
     sound-facts b e (and-parts (soundEngine b e) inputs (and-parts (soundEngine b e && inputs) outputs s .0) .0)
 
 -- a step leaves all as it was, or carries out the effects of its plan
-pub stepping : (b : ℕ) (l : Lent) (e : Engine) → Stepping b l e (step b l e)
-unfolding step outcome
-stepping b l e =
+pub stepping-at : (b : ℕ) (l : Lent) (e : Engine) → Stepping b l e (stepAt b l e)
+unfolding stepAt outcome
+stepping-at b l e =
     elim (sound b l e) as (λ t. sound b l e ≡ t → Stepping b l e (cond t (cond (isFinished (e .state .core .place)) (unchanged Finished l e)
     (outcome b (plan b l e) l e)) (unchanged (Refused Unsound) l e))) [
       | true ↦ λ s. elim (isFinished (e .state .core .place)) as (λ t. isFinished (e .state .core .place) ≡ t
@@ -57,6 +58,22 @@ stepping b l e =
         → Stepping b l e (outcome b p l e)
     go h f (refused r) k = refusing r refl
     go h f (passed x) k = forward x h f k refl
+
+-- a step goes by the state's width, or is refused by 31
+pub by-width : (l : Lent) (e : Engine) (P : Outcome → Type 0) → (isWidth (e .state .width) ≡ true → P (stepAt (e .state .width) l e))
+    → (isWidth (e .state .width) ≡ false → P (unchanged (Refused NoWidth) l e)) → P (step l e)
+unfolding step
+by-width l e P at-width none =
+    by-test (λ t. P (cond t (stepAt (e .state .width) l e) (unchanged (Refused NoWidth) l e))) (isWidth (e .state .width)) at-width none
+
+-- where the width is one, it is a step of words of that many bits
+pub step-is : (b : ℕ) (l : Lent) (e : Engine) → e .state .width ≡ b → isWidth b ≡ true → step l e ≡ stepAt b l e
+unfolding step
+step-is b l e same wide = rw (same, wide)
+
+pub stepping : (l : Lent) (e : Engine) → Stepping (e .state .width) l e (step l e)
+stepping l e =
+    by-width l e (Stepping (e .state .width) l e) (λ _. stepping-at (e .state .width) l e) (λ _. refusing NoWidth refl)
 
 -- a step that carries effects out is not refused
 never-refused : (t : Bool) (r : Refusal) → cond t Finished Running ≡ Refused r → ⊥
@@ -75,22 +92,22 @@ unfolding unchanged
 unchanged-as-before answer l e = record { state = refl; storage = refl; output = refl; report = refl }
 
 -- a refused step changes no state, storage word or output byte
-pub refused-changes-nothing : (b : ℕ) (l : Lent) (e : Engine) (r : Refusal)
-    → step b l e .stepped .answer ≡ Refused r → AsBefore l e (step b l e)
+pub refused-changes-nothing : (l : Lent) (e : Engine) (r : Refusal)
+    → step l e .stepped .answer ≡ Refused r → AsBefore l e (step l e)
 unfolding carriedOut
-refused-changes-nothing b l e r k = go (stepping b l e)
+refused-changes-nothing l e r k = go (stepping l e)
   where
-    go : Stepping b l e (step b l e) → AsBefore l e (step b l e)
+    go : Stepping (e .state .width) l e (step l e) → AsBefore l e (step l e)
     go (refusing r′ o) = subst (AsBefore l e) (sym o) (unchanged-as-before (Refused r′) l e)
     go (staying f o) = subst (AsBefore l e) (sym o) (unchanged-as-before Finished l e)
     go (forward x h f p o) =
         absurd (never-refused (isFinished (x .state .core .place)) r (sym (ap (λ (o : Outcome). o .stepped .answer) o) ∙ k))
 
 -- a finished engine answers finished and changes nothing
-pub finished-stays : (b : ℕ) (l : Lent) (e : Engine) → sound b l e ≡ true
-    → isFinished (e .state .core .place) ≡ true → (step b l e .stepped .answer ≡ Finished) × AsBefore l e (step b l e)
-unfolding step unchanged
-finished-stays b l e s f = rw (s, f) (refl, unchanged-as-before Finished l e)
+pub finished-stays : (l : Lent) (e : Engine) → isWidth (e .state .width) ≡ true → sound (e .state .width) l e ≡ true
+    → isFinished (e .state .core .place) ≡ true → (step l e .stepped .answer ≡ Finished) × AsBefore l e (step l e)
+unfolding step stepAt unchanged
+finished-stays l e w s f = rw (w, s, f) (refl, unchanged-as-before Finished l e)
 
 -- the lowest of the aligned runs of n words outside the live blocks
 pub record LowestRun (e : Engine) (n at : ℕ) : Type 0 where
@@ -112,12 +129,25 @@ planned-run b l e x (moving _ m) some = go (m .moves)
     go (frees m) = absurd (some (m .size))
     go (delivers m) = rw (m .size) (record { isRun = m .isRun; isLowest = m .isLowest })
 
-pub delivered-run : (b : ℕ) (l : Lent) (e : Engine) → DeliversRun e (step b l e .stepped .report)
+pub delivered-run : (l : Lent) (e : Engine) → DeliversRun e (step l e .stepped .report)
 unfolding unchanged carriedOut noReport
-delivered-run b l e = go (stepping b l e)
+delivered-run l e = go (stepping l e)
   where
-    go : Stepping b l e (step b l e) → DeliversRun e (step b l e .stepped .report)
+    go : Stepping (e .state .width) l e (step l e) → DeliversRun e (step l e .stepped .report)
     go (refusing r o) = subst (λ (o : Outcome). DeliversRun e (o .stepped .report)) (sym o) (λ some. absurd (some refl))
     go (staying f o) = subst (λ (o : Outcome). DeliversRun e (o .stepped .report)) (sym o) (λ some. absurd (some refl))
     go (forward x h f p o) =
-        subst (λ (o : Outcome). DeliversRun e (o .stepped .report)) (sym o) (planned-run b l e x (planned b l e h f x p))
+        subst (λ (o : Outcome). DeliversRun e (o .stepped .report)) (sym o) (planned-run (e .state .width) l e x (planned (e .state .width) l e h f x p))
+
+-- a step leaves the width
+pub step-width : (b : ℕ) (l : Lent) (e : Engine) → stepAt b l e .stepped .state .width ≡ e .state .width
+unfolding unchanged carriedOut
+step-width b l e = go (stepping-at b l e)
+  where
+    kept : (o : Outcome) → stepAt b l e ≡ o → o .stepped .state .width ≡ e .state .width → stepAt b l e .stepped .state .width ≡ e .state .width
+    kept o is same = rw is same
+
+    go : Stepping b l e (stepAt b l e) → stepAt b l e .stepped .state .width ≡ e .state .width
+    go (refusing r o) = kept _ o refl
+    go (staying f o) = kept _ o refl
+    go (forward x h f p o) = kept _ o refl

@@ -17,7 +17,7 @@ use Rattle.table.specs.Row.{rowAt, goTo, done}
 use Rattle.machine.specs.declared.Answer.the-variants.{Running, Finished, Refused}
 use Rattle.machine.specs.declared.Location.{Location}
 use Rattle.machine.specs.declared.Refusal.{Refusal}
-use Rattle.machine.specs.declared.Refusal.the-variants.{TableLength, BadRow, SetUpNumbers, InputByte, InputShort, NotADigit, DefinitionNumber, BlockSize, ZeroDivisor, CharacterCount, Unsound, BeforeSetUp, SecondSetUp, UndefinedField, NotABlock, OutsideBlock, NoRun, FieldFreed, StackFull, StackEmpty, OutputFull, SubtrahendGreater}
+use Rattle.machine.specs.declared.Refusal.the-variants.{TableLength, BadRow, SetUpNumbers, InputByte, InputShort, NotADigit, DefinitionNumber, BlockSize, ZeroDivisor, CharacterCount, Unsound, BeforeSetUp, SecondSetUp, UndefinedField, NotABlock, OutsideBlock, NoRun, FieldFreed, StackFull, StackEmpty, OutputFull, SubtrahendGreater, NoWidth}
 use Rattle.machine.specs.Answer.{Checked, refused, passed, _>>=_, _>>_, need}
 use Rattle.machine.specs.Sound.{Lent, Engine, sound}
 use Rattle.machine.specs.State.{isFinished}
@@ -25,7 +25,8 @@ use Rattle.machine.specs.Locate.{World, Value, linkBy, link, follow, loc
 use Rattle.machine.specs.Test.{settling, testing, satisfied}
 use Rattle.machine.specs.Effects.{Effects, quietly}
 use Rattle.machine.specs.Operations.{Given, Operation, getWants, duplicateWants, own, makes, orRefuse, setUp, define, free, interchange, computing, difference, quotient, input, print, saveContents, restoreContents, saveDefinition, restoreDefinition, do-line, operations, operationOf, meaningOf, meaning}
-use Rattle.machine.specs.Step.{testsStep, inTurn, operationStep, return, exitStep, plan, unchanged, carriedOut, outcome, step}
+use Rattle.machine.proofs.Steps.{by-width}
+use Rattle.machine.specs.Step.{testsStep, inTurn, operationStep, return, exitStep, plan, unchanged, carriedOut, outcome, stepAt, step}
 
 -- 17
 unfoldable pub isRun : Refusal → Bool
@@ -51,6 +52,7 @@ isRun StackFull = false
 isRun StackEmpty = false
 isRun OutputFull = false
 isRun SubtrahendGreater = false
+isRun NoWidth = false
 
 -- checks that are not refused by 17
 pub data Fine {A : Type 0} : Checked A → Type 0 where
@@ -280,8 +282,8 @@ module _ (b : ℕ) (l : Lent) (e : Engine) where
       (λ _ k. let z : _≡_ {A = ℕ} 0 1 = cc in omega arith) (λ _ k. let z : _≡_ {A = ℕ} 0 1 = cc in omega arith)
   not-run (refused r) h = λ k. never h (let same : r ≡ NoRun = cc in ap refused same)
 
-  only-deliveries : step b l e .stepped .answer ≡ Refused NoRun → (Delivers → ⊥) → ⊥
-  unfolding step unchanged
+  only-deliveries : stepAt b l e .stepped .answer ≡ Refused NoRun → (Delivers → ⊥) → ⊥
+  unfolding stepAt unchanged
   only-deliveries k not-one =
       by-test
       (λ t. cond t (cond (isFinished (e .state .core .place)) (unchanged Finished l e) (outcome b (plan b l e) l e)) (unchanged (Refused Unsound) l e) .stepped .answer
@@ -290,11 +292,17 @@ module _ (b : ℕ) (l : Lent) (e : Engine) where
       (λ _ j. let z : _≡_ {A = ℕ} 0 1 = cc in omega arith) (λ _. not-run (plan b l e) (plan-fine not-one)))
       (λ _ j. let z : _≡_ {A = ℕ} 0 1 = cc in omega arith) k
 
-  -- 17 is a get's or a duplicate's
-  pub no-run-delivers : step b l e .stepped .answer ≡ Refused NoRun → Delivers
-  no-run-delivers k =
+  pub no-run-delivers-at : stepAt b l e .stepped .answer ≡ Refused NoRun → Delivers
+  no-run-delivers-at k =
       by-eqb (λ _. Delivers) (e .state .core .place .kind) 1
       (λ at. by-eqb (λ _. Delivers) code 3 (λ get. (at, inl get))
       (λ no-get. by-eqb (λ _. Delivers) code 5 (λ copy. (at, inr copy))
       (λ no-copy. absurd (only-deliveries k (λ d. ⊎-elim no-get no-copy (d .1))))))
       (λ elsewhere. absurd (only-deliveries k (λ d. elsewhere (d .0))))
+
+-- 17 is a get's or a duplicate's
+pub no-run-delivers : (l : Lent) (e : Engine) → step l e .stepped .answer ≡ Refused NoRun → Delivers (e .state .width) l e
+unfolding unchanged
+no-run-delivers l e =
+    by-width l e (λ o. o .stepped .answer ≡ Refused NoRun → Delivers (e .state .width) l e)
+    (λ _. no-run-delivers-at (e .state .width) l e) (λ _ k. let z : _≡_ {A = ℕ} 0 1 = cc in absurd (omega arith))

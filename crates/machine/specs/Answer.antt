@@ -3,11 +3,11 @@
 use Prim.Native.Nat.{ℕ}
 use mathlib.Core.Bool.{Bool, true, false}
 use Rattle.machine.specs.declared.Refusal.{Refusal}
-use Rattle.machine.specs.declared.Refusal.the-variants.{TableLength, BadRow, SetUpNumbers, InputByte, InputShort, NotADigit, DefinitionNumber, BlockSize, ZeroDivisor, CharacterCount, Unsound, BeforeSetUp, SecondSetUp, UndefinedField, NotABlock, OutsideBlock, NoRun, FieldFreed, StackFull, StackEmpty, OutputFull, SubtrahendGreater}
+use Rattle.machine.specs.declared.Refusal.the-variants.{TableLength, BadRow, SetUpNumbers, InputByte, InputShort, NotADigit, DefinitionNumber, BlockSize, ZeroDivisor, CharacterCount, Unsound, BeforeSetUp, SecondSetUp, UndefinedField, NotABlock, OutsideBlock, NoRun, FieldFreed, StackFull, StackEmpty, OutputFull, SubtrahendGreater, NoWidth}
 use Rattle.machine.specs.declared.Answer.{Answer}
 use Rattle.machine.specs.declared.Answer.the-variants.{Running, Finished, Refused}
 
--- the number of a refusal: document 01's, and 22 of ticket 1
+-- the number of a refusal: document 01's, 22 of ticket 1, and 31 of ticket 9
 unfoldable pub refusalNumber : Refusal → ℕ
 refusalNumber TableLength = 1
 refusalNumber BadRow = 2
@@ -31,6 +31,7 @@ refusalNumber StackFull = 19
 refusalNumber StackEmpty = 20
 refusalNumber OutputFull = 21
 refusalNumber SubtrahendGreater = 22
+refusalNumber NoWidth = 31
 
 -- an answer's refusal by its number; 0 for running and finished
 unfoldable pub answerNumber : Answer → ℕ

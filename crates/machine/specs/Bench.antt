@@ -32,16 +32,16 @@ chain r (x ∷ y ∷ ys) = (3 ∷ suc r ∷ x) ++ chain (suc r) (y ∷ ys)
 unfoldable pub program : List (List ℕ) → List ℕ
 program operations = replicate 10 0 ++ (1 ∷ 0 ∷ 0 ∷ 0 ∷ 0 ∷ 2 ∷ 0 ∷ 0 ∷ 0 ∷ 0 ∷ []) ++ chain 2 operations
 
--- a program after the set-up of the bench, run from a fresh engine with 16 words, no input and room for 16 characters
+-- a program after the set-up of the bench, run from a fresh engine of 36 bits with 16 words, no input and room for 16 characters
 unfoldable pub benchRun : List (List ℕ) → RunOutcome
 benchRun operations =
-    run 36 100
+    run 100
     (record {
       table = program (operation 1 0 (lit 8 ++ lit 8 ++ lit 23) ∷ operations);
       input = [];
       output = replicate 16 63;
     })
-    (record { state = fresh; storage = replicate 16 1 })
+    (record { state = fresh 36; storage = replicate 16 1 })
 
 -- what is looked at: the refusal's number, the bug of a letter, a storage word, the sizes of the live blocks
 unfoldable pub refusalOf : RunOutcome → ℕ
@@ -162,8 +162,8 @@ cases =
 unfoldable pub tour : List ℕ
 tour = program (operation 1 0 (lit 8 ++ lit 8 ++ lit 23) ∷ operation 25 0 (lit 2 ++ lit 7) ∷ [])
 
--- what tourrun lends: 4,096 words, no input, 4,096 output bytes; it runs 100,000 steps
+-- what tourrun lends: 4,096 words, no input, 4,096 output bytes; it runs 100,000 steps of words of 36 bits
 unfoldable pub tourRun : List ℕ → List ℕ → RunOutcome
 tourRun table input =
-    run 36 100000 (record { table = table; input = input; output = replicate 4096 0 })
-    (record { state = fresh; storage = replicate 4096 0 })
+    run 100000 (record { table = table; input = input; output = replicate 4096 0 })
+    (record { state = fresh 36; storage = replicate 4096 0 })

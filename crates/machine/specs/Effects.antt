@@ -12,7 +12,7 @@ use Rattle.machine.specs.declared.Location.{Location}
 use Rattle.machine.specs.declared.Location.the-variants.{Bug, Field}
 use Rattle.machine.specs.declared.Store.{Store}
 use Rattle.machine.specs.declared.Report.{Report}
-use Rattle.machine.specs.State.{withBug, onCore}
+use Rattle.machine.specs.State.{withBug, onCore, withWidth}
 use Rattle.machine.specs.Storage.{noStore, noReport, placed, afterReport}
 use Rattle.machine.specs.Sound.{Engine}
 
@@ -53,6 +53,6 @@ storing b at v s =
 unfoldable pub storageAfter : ℕ → Effects → List ℕ → List ℕ
 storageAfter b x ws = afterReport b (x .state .core .setup .s1) (x .report) (placed 0 (replicate (x .zeroed) 0) ws)
 
--- the engine after the effects
+-- the engine after the effects: its width stays
 unfoldable pub engineAfter : ℕ → Effects → Engine → Engine
-engineAfter b x e = record { state = x .state; storage = storageAfter b x (e .storage) }
+engineAfter b x e = record { state = withWidth (e .state .width) (x .state); storage = storageAfter b x (e .storage) }

@@ -1,14 +1,15 @@
 -- More storage while a tour runs: between steps a host gives a new last address. What it comes to is determined by the address and the
 -- engine; no table, input or output bears on it.
--- Document 02: ticket 11. Assumes nothing.
+-- Document 02: tickets 11 and 9. Assumes nothing.
 use Prim.Native.Nat.{ℕ, _-_}
 use mathlib.Core.Bool.{Bool, true, false, cond}
 use mathlib.Core.List.{List}
 use lib.ListN.{length, replicate}
+use Rattle.word.specs.Word.{isWidth}
 use Rattle.block.specs.SetUp.{words}
 use Rattle.block.specs.Extension.{extendedTo, extending, extendedMap}
 use Rattle.machine.specs.declared.ExtensionAnswer.{ExtensionAnswer}
-use Rattle.machine.specs.declared.ExtensionAnswer.the-variants.{Done, Unsound, BeforeSetUp, LastAddress}
+use Rattle.machine.specs.declared.ExtensionAnswer.the-variants.{Done, NoWidth, Unsound, BeforeSetUp, LastAddress}
 use Rattle.machine.specs.declared.Extended.{Extended}
 use Rattle.machine.specs.State.{isSetUp, withSetUp, onCore, withMap}
 use Rattle.machine.specs.Storage.{placed}
@@ -17,12 +18,14 @@ use Rattle.machine.specs.Sound.{Engine, soundEngine}
 -- the number of the refusal, 0 where it is none
 unfoldable pub extensionNumber : ExtensionAnswer → ℕ
 extensionNumber Done = 0
+extensionNumber NoWidth = 31
 extensionNumber Unsound = 11
 extensionNumber BeforeSetUp = 12
 extensionNumber LastAddress = 32
 
 unfoldable pub isDone : ExtensionAnswer → Bool
 isDone Done = true
+isDone NoWidth = false
 isDone Unsound = false
 isDone BeforeSetUp = false
 isDone LastAddress = false
@@ -53,14 +56,18 @@ extendedBy last e =
       storage = engineExtended last e .storage;
     }
 
--- an extension to a new last address, in the order 11 (input and output counts aside), 12, 32; in a finished engine too
-unfoldable pub extend : ℕ → ℕ → Engine → Extension
-extend b last e =
+-- an extension of words of b bits to a new last address, in the order 11 (input and output counts aside), 12, 32; in a finished engine too
+unfoldable pub extendAt : ℕ → ℕ → Engine → Extension
+extendAt b last e =
     cond (soundEngine b e)
     (cond (isSetUp (e .state .core))
     (cond (extending (length (e .storage)) last (e .state .core .setup)) (extendedBy last e) (notExtended LastAddress e))
     (notExtended BeforeSetUp e))
     (notExtended Unsound e)
+
+-- an extension: it goes by the state's width, and is refused by 31, before anything else, where that is none
+unfoldable pub extend : ℕ → Engine → Extension
+extend last e = cond (isWidth (e .state .width)) (extendAt (e .state .width) last e) (notExtended NoWidth e)
 
 -- the engine that an extension leaves
 unfoldable pub engineLeft : Extension → Engine

@@ -1,10 +1,11 @@
 -- The engine's state: places, the fresh engine, and each change of one part.
--- Document 01: "Steps". Assumes nothing.
+-- Document 01: "Steps"; document 02, ticket 9. Assumes nothing.
 use Prim.Native.Nat.{ℕ}
-use mathlib.Core.Bool.{Bool, false, not}
+use mathlib.Core.Bool.{Bool, false, not, cond}
 use mathlib.Core.List.{List}
 use lib.Dec.{eqb}
 use lib.ListN.{set, replicate}
+use Rattle.word.specs.Word.{isWidth}
 use Rattle.block.specs.declared.SetUp.{SetUp}
 use Rattle.table.specs.declared.BugLetter.{BugLetter}
 use Rattle.table.specs.declared.FieldName.{FieldName}
@@ -15,6 +16,9 @@ use Rattle.machine.specs.declared.DefinitionStack.{DefinitionStack}
 use Rattle.machine.specs.declared.CallStack.{CallStack}
 use Rattle.machine.specs.declared.Core.{Core}
 use Rattle.machine.specs.declared.State.{State}
+use Rattle.machine.specs.declared.Fresh.{Fresh}
+use Rattle.machine.specs.declared.FreshAnswer.{FreshAnswer}
+use Rattle.machine.specs.declared.FreshAnswer.the-variants.{Done, NoWidth}
 
 -- a place is a line's tests, one operation (its row and its line's), or a line's exit; or the engine is finished
 unfoldable pub testsOf : ℕ → Place
@@ -42,10 +46,12 @@ noSetUp = record { d = 0; s1 = 0; s2 = 0 }
 unfoldable pub isSetUp : Core → Bool
 isSetUp c = not (eqb (c .setup .d) 0)
 
--- a fresh engine is at the tests of row 1, with no set-up, definition or stack entry and nothing taken or written; bugs are zero
-unfoldable pub fresh : State
-fresh =
+-- a fresh engine of width b is at the tests of row 1, with no set-up, definition or stack entry and nothing taken or written; bugs are
+-- zero
+unfoldable pub fresh : ℕ → State
+fresh b =
     record {
+      width = b;
       core = record {
         place = testsOf 1;
         bugs = replicate 26 0;
@@ -59,6 +65,15 @@ fresh =
       };
       map = replicate 4096 0;
     }
+
+-- one of the width that is asked for: 31 where that is none, and then a state that every call refuses by 31
+unfoldable pub freshOf : ℕ → Fresh
+freshOf b = cond (isWidth b) (record { state = fresh b; answer = Done }) (record { state = fresh 0; answer = NoWidth })
+
+-- the number of the refusal, 0 where it is none
+unfoldable pub freshNumber : FreshAnswer → ℕ
+freshNumber Done = 0
+freshNumber NoWidth = 31
 
 -- a core by its parts, in the order of the struct
 abbrev core-of : Place → List ℕ → List Definition → ContentsStack → DefinitionStack → CallStack → SetUp → ℕ → ℕ → Core
@@ -103,9 +118,12 @@ withTaken n c = core-of c.place c.bugs c.definitions c.contents c.saved c.calls 
 unfoldable pub withWritten : ℕ → Core → Core
 withWritten n c = core-of c.place c.bugs c.definitions c.contents c.saved c.calls c.setup c.taken n
 
--- the same state with its core changed, or its map
+-- the same state with its core changed, its map, or its width
 unfoldable pub onCore : (Core → Core) → State → State
-onCore f s = record { core = f (s .core); map = s .map }
+onCore f s = record { width = s .width; core = f (s .core); map = s .map }
 
 unfoldable pub withMap : List ℕ → State → State
-withMap m s = record { core = s .core; map = m }
+withMap m s = record { width = s .width; core = s .core; map = m }
+
+abbrev pub withWidth : ℕ → State → State
+withWidth b s = record { width = b; core = s .core; map = s .map }

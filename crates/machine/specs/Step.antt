@@ -1,21 +1,22 @@
 -- One step and the run: what they give is determined by what is lent and the engine.
--- Document 01: "Steps" and the order of all refusals. Assumes nothing.
+-- Document 01: "Steps" and the order of all refusals; document 02, ticket 9. Assumes nothing.
 use Prim.Native.Nat.{ℕ, zero, suc, _-_}
 use mathlib.Core.Bool.{true, false, not, _&&_, cond}
 use mathlib.Core.List.{List}
 use lib.Dec.{eqb, ltb}
 use lib.ListN.{getD}
+use Rattle.word.specs.Word.{isWidth}
 use Rattle.block.specs.declared.SetUp.{SetUp}
 use Rattle.table.specs.Row.{lengthFits, rows, rowAt, firstTest, firstOperation, goTo, done}
 use Rattle.table.specs.Table.{usable}
-use Rattle.machine.specs.declared.Refusal.the-variants.{TableLength, BadRow, Unsound, BeforeSetUp, SecondSetUp, StackEmpty}
+use Rattle.machine.specs.declared.Refusal.the-variants.{TableLength, BadRow, Unsound, BeforeSetUp, SecondSetUp, StackEmpty, NoWidth}
 use Rattle.machine.specs.declared.Answer.{Answer}
 use Rattle.machine.specs.declared.Answer.the-variants.{Running, Finished, Refused}
 use Rattle.machine.specs.declared.Place.{Place}
 use Rattle.machine.specs.declared.Stepped.{Stepped}
 use Rattle.machine.specs.declared.Ran.{Ran}
 use Rattle.machine.specs.Answer.{Checked, refused, passed, _>>=_, _>>_, need, isRunning}
-use Rattle.machine.specs.State.{testsOf, operationAt, exitOf, theEnd, noSetUp, isFinished, isSetUp, movedTo, withCalls, onCore}
+use Rattle.machine.specs.State.{testsOf, operationAt, exitOf, theEnd, noSetUp, isFinished, isSetUp, movedTo, withCalls, onCore, withWidth}
 use Rattle.machine.specs.Storage.{noReport, placed}
 use Rattle.machine.specs.Sound.{Lent, Engine, sound}
 use Rattle.machine.specs.Locate.{world}
@@ -114,12 +115,12 @@ unchanged answer l e =
       output = l .output;
     }
 
--- any other step carries its effects out
+-- any other step carries its effects out; the width stays
 unfoldable pub carriedOut : ℕ → Effects → Lent → Engine → Outcome
 carriedOut b x l e =
     record {
       stepped = record {
-        state = x .state;
+        state = withWidth (e .state .width) (x .state);
         answer = cond (isFinished (x .state .core .place)) Finished Running;
         report = x .report;
       };
@@ -131,12 +132,16 @@ unfoldable pub outcome : ℕ → Checked Effects → Lent → Engine → Outcome
 outcome b (refused r) l e = unchanged (Refused r) l e
 outcome b (passed x) l e = carriedOut b x l e
 
--- one step, in the order 11, finished, then the plan
-unfoldable pub step : ℕ → Lent → Engine → Outcome
-step b l e =
+-- one step of words of b bits, in the order 11, finished, then the plan
+unfoldable pub stepAt : ℕ → Lent → Engine → Outcome
+stepAt b l e =
     cond (sound b l e)
     (cond (isFinished (e .state .core .place)) (unchanged Finished l e) (outcome b (plan b l e) l e))
     (unchanged (Refused Unsound) l e)
+
+-- one step: it goes by the state's width, and is refused by 31, before anything else, where that is none
+unfoldable pub step : Lent → Engine → Outcome
+step l e = cond (isWidth (e .state .width)) (stepAt (e .state .width) l e) (unchanged (Refused NoWidth) l e)
 
 -- the engine that a step leaves
 unfoldable pub engineOf : Outcome → Engine
@@ -162,17 +167,17 @@ ending answer count e output =
 
 -- a run takes a step limit and is that many steps, or fewer up to a finish or refusal (counted); earlier steps stand.
 -- Count steps came before
-unfoldable pub runFrom : ℕ → ℕ → ℕ → Lent → Engine → RunOutcome
-runFrom count b zero l e = ending Running count e (l .output)
-runFrom count b (suc limit) l e =
-    let o : Outcome = step b l e in
+unfoldable pub runFrom : ℕ → ℕ → Lent → Engine → RunOutcome
+runFrom count zero l e = ending Running count e (l .output)
+runFrom count (suc limit) l e =
+    let o : Outcome = step l e in
     elim (isRunning (o .stepped .answer)) [
       | true ↦
-          runFrom (suc count) b limit (record { table = l .table; input = l .input; output = o .output }) (engineOf o)
+          runFrom (suc count) limit (record { table = l .table; input = l .input; output = o .output }) (engineOf o)
       | false ↦ ending (o .stepped .answer) (suc count) (engineOf o) (o .output)
     ]
 
-unfoldable pub run : ℕ → ℕ → Lent → Engine → RunOutcome
+unfoldable pub run : ℕ → Lent → Engine → RunOutcome
 run = runFrom 0
 
 -- the engine that a run leaves

@@ -1,6 +1,6 @@
 // The engine's state, answers and reports: what they mean stands in specs/.
 
-// Why a step is refused: document 01's refusals 1 to 21, in its order, then 22 of ticket 1.
+// Why a step is refused: document 01's refusals 1 to 21, in its order, then 22 of ticket 1 and 31 of ticket 9.
 pub enum Refusal {
     TableLength,
     BadRow,
@@ -24,6 +24,7 @@ pub enum Refusal {
     StackEmpty,
     OutputFull,
     SubtrahendGreater,
+    NoWidth,
 }
 
 pub enum Answer {
@@ -76,7 +77,9 @@ pub struct Core {
     pub written: usize,
 }
 
+// The words of its engine have width bits.
 pub struct State {
+    pub width: u8,
     pub core: Core,
     pub map: [u8; 4096],
 }
@@ -119,9 +122,22 @@ pub struct Ran {
     pub count: u64,
 }
 
-// What an extension answers: that it is done, or why it is refused (11, 12, and 32 of ticket 11).
+// What is answered where a fresh engine is asked for: that it is made, or that its width is none (31).
+pub enum FreshAnswer {
+    Done,
+    NoWidth,
+}
+
+// A fresh engine's state. With NoWidth comes one that every call refuses by 31.
+pub struct Fresh {
+    pub state: State,
+    pub answer: FreshAnswer,
+}
+
+// What an extension answers: that it is done, or why it is refused (31, 11, 12, and 32 of ticket 11).
 pub enum ExtensionAnswer {
     Done,
+    NoWidth,
     Unsound,
     BeforeSetUp,
     LastAddress,

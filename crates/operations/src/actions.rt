@@ -128,7 +128,7 @@ fn take(b: u64, to: Place, at: Location, taken: usize, input: &[u8], n: u64) -> 
 
 // The operations that compute a value and store it in a.
 fn make(b: u64, to: Place, code: u64, at: Location, a: u64, aw: u64, x: u64, xw: u64) -> Planned
-    requires { ⌜ (b ≤ 48) × (x < 2 ^ b) × (aw ≤ b) × (xw ≤ b) × Computes code ⌝ }
+    requires { ⌜ (b ≤ 48) × (a < 2 ^ b) × (x < 2 ^ b) × (aw ≤ b) × (xw ≤ b) × Computes code ⌝ }
     ensures { λ r. ⌜ r ≡ planned to (storing at (valueBy code b (valued a aw) (valued x xw))) ⌝ }
 {
     let made = compute(b, code, a, aw, x, xw);

@@ -12,13 +12,14 @@ use character::Converted;
 use machine::Refusal;
 
 // 9 subtract: 22.
-fn subtracted(x: u64, y: u64) -> Computed
+fn subtracted(b: u64, x: u64, y: u64) -> Computed
+    requires { ⌜ (b ≤ 48) × (x < 2 ^ b) ⌝ }
     ensures { λ r. ⌜ r ≡ computed (difference 0 (valued x 0) (valued y 0)) ⌝ }
 {
     if x < y {
         return Computed::Stopped(Refusal::SubtrahendGreater);
     }
-    Computed::Made(word::arithmetic::subtract(x, y))
+    Computed::Made(word::arithmetic::subtract(b, x, y))
 }
 
 // 11 divide: 9.
@@ -45,13 +46,13 @@ fn binary(base: u64, n: usize, v: u64) -> Computed
 
 // 6 copy, and 8 to 11.
 fn arithmetic(b: u64, code: u64, a: u64, aw: u64, x: u64, xw: u64) -> Computed
-    requires { ⌜ (b ≤ 48) × (6 ≤ code) × (code ≤ 11) × (code ≡ 7 → ⊥) × (x < 2 ^ b) ⌝ }
+    requires { ⌜ (b ≤ 48) × (6 ≤ code) × (code ≤ 11) × (code ≡ 7 → ⊥) × (a < 2 ^ b) × (x < 2 ^ b) ⌝ }
     ensures { λ r. ⌜ r ≡ computed (valueBy code b (valued a aw) (valued x xw)) ⌝ }
 {
     match code {
         6 => Computed::Made(x),
         8 => Computed::Made(word::arithmetic::add(b, a, x)),
-        9 => subtracted(a, x),
+        9 => subtracted(b, a, x),
         10 => Computed::Made(word::arithmetic::multiply(b, a, x)),
         _ => divided(a, x),
     }
@@ -114,7 +115,7 @@ fn conversions(b: u64, code: u64, a: u64, aw: u64, x: u64, xw: u64) -> Computed
 
 // The value, by the code.
 pub fn compute(b: u64, code: u64, a: u64, aw: u64, x: u64, xw: u64) -> Computed
-    requires { ⌜ (b ≤ 48) × (x < 2 ^ b) × (aw ≤ b) × (xw ≤ b) × Computes code ⌝ }
+    requires { ⌜ (b ≤ 48) × (a < 2 ^ b) × (x < 2 ^ b) × (aw ≤ b) × (xw ≤ b) × Computes code ⌝ }
     ensures { λ r. ⌜ r ≡ computed (valueBy code b (valued a aw) (valued x xw)) ⌝ }
 {
     if code < 12 {

@@ -6,14 +6,16 @@ use mathlib.Core.Path.{_≡_, refl, sym, ap, _∙_}
 use borrow.Author.Tests.{eq-eqb, ne-eqb}
 use lib.Dec.{eqb}
 use lib.ListN.{length}
+use Rattle.word.specs.Word.{isWidth}
 use Rattle.machine.specs.declared.Ran.{Ran}
 use Rattle.machine.specs.declared.State.{State}
 use Rattle.machine.specs.declared.Stepped.{Stepped}
-use Rattle.machine.specs.State.{fresh, isFinished}
+use Rattle.machine.specs.declared.Fresh.{Fresh}
+use Rattle.machine.specs.State.{fresh, freshOf, freshNumber, isFinished}
 use Rattle.machine.specs.Sound.{Lent}
 use Rattle.machine.specs.Step.{Outcome, RunOutcome, step, run}
 use Rattle.layout.specs.Layout.{stateLength, bytesOfState, stateOf}
-use Rattle.player.specs.Calls.{stepCall, runCall, code, moved, bytesAfter, engineAt, FreshLeft, freshLeft, numbersOfReport, StepLeft, afterStep, noStep, stepLeft, RunLeft, afterRun, noRun, runLeft, wrongState, wrongReport}
+use Rattle.player.specs.Calls.{code, moved, bytesAfter, engineAt, FreshLeft, freshLeft, numbersOfReport, StepLeft, afterStep, noStep, stepLeft, RunLeft, afterRun, noRun, runLeft, wrongState, wrongReport}
 use Rattle.player.proofs.Moving.{step-kept, run-kept}
 
 -- bytes that were written, or left, tell the state afterwards
@@ -33,11 +35,10 @@ module _ (l : Lent) (storage bytes report : List ℕ) where
 
   -- what the engine's step leaves, of a state that was read, and what is made of it
   module _ {before : State} {stepped : Stepped} {storage' output' bytes' : List ℕ} (read : before ≡ stateOf bytes)
-      (is : _≡_ {A = Outcome} (record { stepped = stepped; storage = storage'; output = output' }) (step 36 l (record { state = before; storage = storage })))
+      (is : _≡_ {A = Outcome} (record { stepped = stepped; storage = storage'; output = output' }) (step l (record { state = before; storage = storage })))
       (kept : bytes' ≡ cond (moved (eqb (before .core .place .kind) 3) (stepped .answer) 1) (bytesOfState (stepped .state)) bytes) where
-    called : _≡_ {A = Outcome} (record { stepped = stepped; storage = storage'; output = output' }) (stepCall l (engineAt bytes storage))
-    unfolding stepCall
-    called = is ∙ ap (λ (s : State). step 36 l (record { state = s; storage = storage })) read
+    called : _≡_ {A = Outcome} (record { stepped = stepped; storage = storage'; output = output' }) (step l (engineAt bytes storage))
+    called = is ∙ ap (λ (s : State). step l (record { state = s; storage = storage })) read
 
     pub step-leaves : {report' : List ℕ} {answer : ℕ} → length bytes ≡ stateLength → length report ≡ 12 → report' ≡ numbersOfReport (stepped .report) → answer ≡ code (stepped .answer)
         → _≡_ {A = StepLeft} (record { answer = answer; storage = storage'; output = output'; state = bytes'; report = report' }) (stepLeft l storage bytes report)
@@ -46,12 +47,12 @@ module _ (l : Lent) (storage bytes report : List ℕ) where
         rw (eq-eqb (length bytes) stateLength h, eq-eqb (length report) 12 k, ← called, a, r, kept, read)
 
     still-so : moved (eqb (before .core .place .kind) 3) (stepped .answer) 1 ≡ false
-        → moved (isFinished (stateOf bytes .core .place)) (stepCall l (engineAt bytes storage) .stepped .answer) 1 ≡ false
+        → moved (isFinished (stateOf bytes .core .place)) (step l (engineAt bytes storage) .stepped .answer) 1 ≡ false
     unfolding isFinished
     still-so k = rw (← called, ← read) k
 
     pub step-told : (moved (eqb (before .core .place .kind) 3) (stepped .answer) 1 ≡ true → stateOf (bytesOfState (stepped .state)) ≡ stepped .state)
-        → stateOf bytes' ≡ stepCall l (engineAt bytes storage) .stepped .state
+        → stateOf bytes' ≡ step l (engineAt bytes storage) .stepped .state
     unfolding isFinished
     step-told back =
         told (moved (eqb (before .core .place .kind) 3) (stepped .answer) 1) bytes (stepped .state) kept back
@@ -65,11 +66,10 @@ module _ (limit : ℕ) (l : Lent) (storage bytes : List ℕ) where
 
   -- what the engine's run leaves
   module _ {before : State} {ran : Ran} {storage' output' bytes' : List ℕ} (read : before ≡ stateOf bytes)
-      (is : _≡_ {A = RunOutcome} (record { ran = ran; storage = storage'; output = output' }) (run 36 limit l (record { state = before; storage = storage })))
+      (is : _≡_ {A = RunOutcome} (record { ran = ran; storage = storage'; output = output' }) (run limit l (record { state = before; storage = storage })))
       (kept : bytes' ≡ cond (moved (eqb (before .core .place .kind) 3) (ran .answer) (ran .count)) (bytesOfState (ran .state)) bytes) where
-    run-called : _≡_ {A = RunOutcome} (record { ran = ran; storage = storage'; output = output' }) (runCall limit l (engineAt bytes storage))
-    unfolding runCall
-    run-called = is ∙ ap (λ (s : State). run 36 limit l (record { state = s; storage = storage })) read
+    run-called : _≡_ {A = RunOutcome} (record { ran = ran; storage = storage'; output = output' }) (run limit l (engineAt bytes storage))
+    run-called = is ∙ ap (λ (s : State). run limit l (record { state = s; storage = storage })) read
 
     pub run-leaves : (count : ℕ) {answer : ℕ} → length bytes ≡ stateLength → answer ≡ code (ran .answer)
         → _≡_ {A = RunLeft} (record { answer = answer; storage = storage'; output = output'; state = bytes'; count = ran .count }) (runLeft limit l storage bytes count)
@@ -77,12 +77,12 @@ module _ (limit : ℕ) (l : Lent) (storage bytes : List ℕ) where
     run-leaves count h a = rw (eq-eqb (length bytes) stateLength h, ← run-called, a, kept, read)
 
     run-still : moved (eqb (before .core .place .kind) 3) (ran .answer) (ran .count) ≡ false
-        → moved (isFinished (stateOf bytes .core .place)) (runCall limit l (engineAt bytes storage) .ran .answer) (runCall limit l (engineAt bytes storage) .ran .count) ≡ false
+        → moved (isFinished (stateOf bytes .core .place)) (run limit l (engineAt bytes storage) .ran .answer) (run limit l (engineAt bytes storage) .ran .count) ≡ false
     unfolding isFinished
     run-still k = rw (← run-called, ← read) k
 
     pub run-told : (moved (eqb (before .core .place .kind) 3) (ran .answer) (ran .count) ≡ true → stateOf (bytesOfState (ran .state)) ≡ ran .state)
-        → stateOf bytes' ≡ runCall limit l (engineAt bytes storage) .ran .state
+        → stateOf bytes' ≡ run limit l (engineAt bytes storage) .ran .state
     unfolding isFinished
     run-told back =
         told (moved (eqb (before .core .place .kind) 3) (ran .answer) (ran .count)) bytes (ran .state) kept back
@@ -90,11 +90,21 @@ module _ (limit : ℕ) (l : Lent) (storage bytes : List ℕ) where
         ∙ ap (λ (r : RunOutcome). r .ran .state) run-called
 
 -- a fresh state
-pub fresh-short : (bytes : List ℕ) → (length bytes ≡ stateLength → ⊥) → _≡_ {A = FreshLeft} (record { answer = wrongState; state = bytes }) (freshLeft bytes)
-unfolding freshLeft
-fresh-short bytes h = rw (ne-eqb (length bytes) stateLength h)
+module _ (b : ℕ) (bytes : List ℕ) where
+  pub fresh-no-width : isWidth b ≡ false → _≡_ {A = FreshLeft} (record { answer = 31; state = bytes }) (freshLeft b bytes)
+  unfolding freshLeft freshNumber
+  fresh-no-width w = rw w
 
-pub fresh-leaves : (bytes : List ℕ) {state : State} {after : List ℕ} → length bytes ≡ stateLength → state ≡ fresh → after ≡ bytesOfState state
-    → _≡_ {A = FreshLeft} (record { answer = 0; state = after }) (freshLeft bytes)
-unfolding freshLeft
-fresh-leaves bytes h s is = rw (eq-eqb (length bytes) stateLength h, is, s)
+  module _ (w : isWidth b ≡ true) where
+    pub fresh-short : (length bytes ≡ stateLength → ⊥) → _≡_ {A = FreshLeft} (record { answer = wrongState; state = bytes }) (freshLeft b bytes)
+    unfolding freshLeft
+    fresh-short h = rw (w, ne-eqb (length bytes) stateLength h)
+
+    pub fresh-made : {made : Fresh} → made ≡ freshOf b → made .state ≡ fresh b
+    unfolding freshOf
+    fresh-made is = ap (λ (f : Fresh). f .state) is ∙ rw w
+
+    pub fresh-leaves : {state : State} {after : List ℕ} → length bytes ≡ stateLength → state ≡ fresh b → after ≡ bytesOfState state
+        → _≡_ {A = FreshLeft} (record { answer = 0; state = after }) (freshLeft b bytes)
+    unfolding freshLeft
+    fresh-leaves h s is = rw (w, eq-eqb (length bytes) stateLength h, is, s)

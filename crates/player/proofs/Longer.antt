@@ -8,19 +8,20 @@ use borrow.Author.Tests.{eq-eqb, ne-eqb}
 use lib.ListN.{length}
 use Rattle.machine.specs.declared.Extended.{Extended}
 use Rattle.machine.specs.declared.ExtensionAnswer.{ExtensionAnswer}
-use Rattle.machine.specs.declared.ExtensionAnswer.the-variants.{Done, Unsound, BeforeSetUp, LastAddress}
+use Rattle.machine.specs.declared.ExtensionAnswer.the-variants.{Done, NoWidth, Unsound, BeforeSetUp, LastAddress}
 use Rattle.machine.specs.declared.State.{State}
 use Rattle.machine.specs.Sound.{Engine}
 use Rattle.machine.specs.Extend.{Extension, extensionNumber, isDone, extend, engineLeft}
 use Rattle.machine.proofs.Extend.{refused-extension}
 use Rattle.layout.specs.Layout.{stateLength, bytesOfState, stateOf}
 use Rattle.player.specs.Calls.{wrongState, engineAt}
-use Rattle.player.specs.Extending.{extendCall, ExtendLeft, afterExtension, extendLeft}
+use Rattle.player.specs.Extending.{ExtendLeft, afterExtension, extendLeft}
 
 -- an answer is no refusal where its number is 0
 number-done : (a : ExtensionAnswer) → 0 ≡ extensionNumber a → isDone a ≡ true
 unfolding extensionNumber isDone
 number-done Done e = refl
+number-done NoWidth e = absurd (omega arith)
 number-done Unsound e = absurd (omega arith)
 number-done BeforeSetUp e = absurd (omega arith)
 number-done LastAddress e = absurd (omega arith)
@@ -28,6 +29,7 @@ number-done LastAddress e = absurd (omega arith)
 number-refused : (a : ExtensionAnswer) → (extensionNumber a ≡ 0 → ⊥) → isDone a ≡ false
 unfolding extensionNumber isDone
 number-refused Done h = absurd (h refl)
+number-refused NoWidth h = refl
 number-refused Unsound h = refl
 number-refused BeforeSetUp h = refl
 number-refused LastAddress h = refl
@@ -40,11 +42,10 @@ module _ (last : ℕ) (storage bytes : List ℕ) where
 
   -- what the engine's extension leaves, of a state that was read
   module _ {before : State} {x : Extended} {storage' : List ℕ} {number : ℕ} (long : length bytes ≡ stateLength) (read : before ≡ stateOf bytes)
-      (is : _≡_ {A = Extension} (record { extended = x; storage = storage' }) (extend 36 last (record { state = before; storage = storage })))
+      (is : _≡_ {A = Extension} (record { extended = x; storage = storage' }) (extend last (record { state = before; storage = storage })))
       (numbered : number ≡ extensionNumber (x .answer)) where
-    called : _≡_ {A = Extension} (record { extended = x; storage = storage' }) (extendCall last (engineAt bytes storage))
-    unfolding extendCall
-    called = is ∙ ap (λ (s : State). extend 36 last (record { state = s; storage = storage })) read
+    called : _≡_ {A = Extension} (record { extended = x; storage = storage' }) (extend last (engineAt bytes storage))
+    called = is ∙ ap (λ (s : State). extend last (record { state = s; storage = storage })) read
 
     module _ (refused : number ≡ 0 → ⊥) where
       not-done : isDone (x .answer) ≡ false
@@ -54,17 +55,17 @@ module _ (last : ℕ) (storage bytes : List ℕ) where
       unfolding extendLeft afterExtension
       extend-refused = rw (eq-eqb (length bytes) stateLength long, ← called, not-done, numbered)
 
-      pub extend-kept : stateOf bytes ≡ extendCall last (engineAt bytes storage) .extended .state
-      unfolding extendCall engineLeft
+      pub extend-kept : stateOf bytes ≡ extend last (engineAt bytes storage) .extended .state
+      unfolding engineLeft
       extend-kept =
-          let same : isDone (extend 36 last (engineAt bytes storage) .extended .answer) ≡ false
+          let same : isDone (extend last (engineAt bytes storage) .extended .answer) ≡ false
           = ap (λ (y : Extension). isDone (y .extended .answer)) (sym called) ∙ not-done in
-          sym (ap (λ (e : Engine). e .state) (refused-extension 36 last (engineAt bytes storage) same))
+          sym (ap (λ (e : Engine). e .state) (refused-extension last (engineAt bytes storage) same))
 
     module _ (done : number ≡ 0) {after : List ℕ} (written : after ≡ bytesOfState (x .state)) where
       pub extend-done : _≡_ {A = ExtendLeft} (record { answer = 0; storage = storage'; state = after }) (extendLeft last storage bytes)
       unfolding extendLeft afterExtension
       extend-done = rw (eq-eqb (length bytes) stateLength long, ← called, number-done (x .answer) (sym done ∙ numbered), written, ← numbered, done)
 
-      pub extend-told : stateOf (bytesOfState (x .state)) ≡ x .state → stateOf after ≡ extendCall last (engineAt bytes storage) .extended .state
+      pub extend-told : stateOf (bytesOfState (x .state)) ≡ x .state → stateOf after ≡ extend last (engineAt bytes storage) .extended .state
       extend-told back = ap stateOf written ∙ back ∙ ap (λ (y : Extension). y .extended .state) called

@@ -15,7 +15,7 @@ use Rattle.machine.specs.Sound.{Lent, Engine}
 use Rattle.machine.specs.Step.{Outcome, RunOutcome, step, run, runFrom, unchanged, carriedOut, engineOf, ending}
 use Rattle.machine.proofs.Steps.{AsBefore, Stepping, refusing, staying, forward, stepping}
 use Rattle.layout.specs.Layout.{bytesOfState, stateOf}
-use Rattle.player.specs.Calls.{stepCall, runCall, isRefused, moved}
+use Rattle.player.specs.Calls.{isRefused, moved}
 
 -- which of the tests says it
 module _ (kind : ℕ) (answer : Answer) (count : ℕ) where
@@ -39,9 +39,8 @@ true-false : _≡_ {A = Bool} true false → ⊥
 true-false k = let z : _≡_ {A = ℕ} 0 1 = cc in omega arith
 
 -- a step that was not carried out
-pub step-kept : (l : Lent) (e : Engine) → moved (isFinished (e .state .core .place)) (stepCall l e .stepped .answer) 1 ≡ false → AsBefore l e (stepCall l e)
-unfolding stepCall
-step-kept l e still = go (stepping 36 l e) still
+pub step-kept : (l : Lent) (e : Engine) → moved (isFinished (e .state .core .place)) (step l e .stepped .answer) 1 ≡ false → AsBefore l e (step l e)
+step-kept l e still = go (stepping l e) still
   where
     same : (answer : Answer) → AsBefore l e (unchanged answer l e)
     same answer = unfold unchanged in record { state = refl; storage = refl; output = refl; report = refl }
@@ -50,12 +49,12 @@ step-kept l e still = go (stepping 36 l e) still
     carried finished true none = unfold moved isRefused in rw none
     carried finished false none = unfold moved isRefused in rw none
 
-    go : Stepping 36 l e (step 36 l e) → moved (isFinished (e .state .core .place)) (step 36 l e .stepped .answer) 1 ≡ false
-        → AsBefore l e (step 36 l e)
+    go : Stepping (e .state .width) l e (step l e) → moved (isFinished (e .state .core .place)) (step l e .stepped .answer) 1 ≡ false
+        → AsBefore l e (step l e)
     go (refusing r is) k = subst (AsBefore l e) (sym is) (same (Refused r))
     go (staying f is) k = subst (AsBefore l e) (sym is) (same Finished)
     go (forward x facts f p is) k =
-        let yes : moved (isFinished (e .state .core .place)) (step 36 l e .stepped .answer) 1 ≡ true =
+        let yes : moved (isFinished (e .state .core .place)) (step l e .stepped .answer) 1 ≡ true =
         ap (λ (o : Outcome). moved (isFinished (e .state .core .place)) (o .stepped .answer) 1) is ∙ unfold carriedOut in carried _ (isFinished (x .state .core .place)) f in
         absurd (let z : _≡_ {A = Bool} true false = cc in true-false z)
 
@@ -67,22 +66,22 @@ next l o = record { table = l .table; input = l .input; output = o .output }
 abbrev goes-on : Bool → ℕ → ℕ → Lent → Outcome → RunOutcome
 goes-on t count limit l o =
     elim t [
-      | true ↦ runFrom (suc count) 36 limit (next l o) (engineOf o)
+      | true ↦ runFrom (suc count) limit (next l o) (engineOf o)
       | false ↦ ending (o .stepped .answer) (suc count) (engineOf o) (o .output)
     ]
 
-first-counts : (count limit : ℕ) (l : Lent) (o : Outcome) (t : Bool) → suc count ≤ runFrom (suc count) 36 limit (next l o) (engineOf o) .ran .count
+first-counts : (count limit : ℕ) (l : Lent) (o : Outcome) (t : Bool) → suc count ≤ runFrom (suc count) limit (next l o) (engineOf o) .ran .count
     → suc count ≤ goes-on t count limit l o .ran .count
 unfolding ending
 first-counts count limit l o true h = h
 first-counts count limit l o false h = omega arith
 
 -- a run with a limit counts its first step
-counted : (count limit : ℕ) (l : Lent) (e : Engine) → suc count ≤ runFrom count 36 (suc limit) l e .ran .count
+counted : (count limit : ℕ) (l : Lent) (e : Engine) → suc count ≤ runFrom count (suc limit) l e .ran .count
 unfolding runFrom ending
-counted count zero l e = first-counts count zero l (step 36 l e) (isRunning (step 36 l e .stepped .answer)) (omega arith)
+counted count zero l e = first-counts count zero l (step l e) (isRunning (step l e .stepped .answer)) (omega arith)
 counted count (suc limit) l e =
-    let o : Outcome = step 36 l e in
+    let o : Outcome = step l e in
     first-counts count (suc limit) l o (isRunning (o .stepped .answer)) (omega (arith, counted (suc count) limit (next l o) (engineOf o)))
 
 -- what a run leaves as it was
@@ -104,20 +103,20 @@ moved-two finished answer count h = rw (lt-ltb 1 count h)
 
 -- a run of which no step was carried out
 pub run-kept : (limit : ℕ) (l : Lent) (e : Engine)
-    → moved (isFinished (e .state .core .place)) (runCall limit l e .ran .answer) (runCall limit l e .ran .count) ≡ false → RunAsBefore l e (runCall limit l e)
-unfolding runCall run runFrom
+    → moved (isFinished (e .state .core .place)) (run limit l e .ran .answer) (run limit l e .ran .count) ≡ false → RunAsBefore l e (run limit l e)
+unfolding run runFrom
 run-kept zero l e still = unfold ending in record { state = refl; storage = refl; output = refl }
 run-kept (suc limit) l e still = by-case limit (isRunning (o .stepped .answer)) refl still
   where
     o : Outcome
-    o = step 36 l e
+    o = step l e
 
     finished : Bool
     finished = isFinished (e .state .core .place)
 
     first : (answer : Answer) → moved finished (o .stepped .answer) 1 ≡ false → RunAsBefore l e (ending answer 1 (engineOf o) (o .output))
     first answer k =
-        let same : AsBefore l e o = unfold stepCall in step-kept l e k in
+        let same : AsBefore l e o = step-kept l e k in
         unfold ending engineOf in record { state = same .state; storage = same .storage; output = same .output }
 
     by-case : (limit : ℕ) (t : Bool) → isRunning (o .stepped .answer) ≡ t

@@ -5,29 +5,26 @@ use mathlib.Core.Bool.{Bool, true, false, not, _&&_, _||_, cond}
 use mathlib.Core.List.{List, [], _∷_, _++_}
 use lib.Dec.{eqb, ltb}
 use lib.ListN.{length}
+use Rattle.word.specs.Word.{isWidth}
 use Rattle.table.specs.declared.TableCheck.{TableCheck}
+use Rattle.table.specs.declared.TableCheck.the-variants as table-check
 use Rattle.table.specs.declared.TableCheck.the-variants.{Lowest, BadLength}
-use Rattle.table.specs.Table.{checked}
+use Rattle.table.specs.Table.{tableChecked, checkRefusal}
 use Rattle.machine.specs.declared.Answer.{Answer}
 use Rattle.machine.specs.declared.Answer.the-variants.{Running, Finished, Refused}
+use Rattle.machine.specs.declared.Refusal.the-variants as refusals
 use Rattle.machine.specs.declared.Refusal.the-variants.{Unsound}
+use Rattle.machine.specs.declared.FreshAnswer.the-variants.{NoWidth}
 use Rattle.machine.specs.declared.Report.{Report}
 use Rattle.machine.specs.declared.State.{State}
 use Rattle.machine.specs.declared.Store.{Store}
 use Rattle.machine.specs.Answer.{refusalNumber}
-use Rattle.machine.specs.State.{fresh, isFinished}
+use Rattle.machine.specs.State.{fresh, freshNumber, isFinished}
 use Rattle.machine.specs.Sound.{Lent, Engine}
 use Rattle.machine.specs.Step.{Outcome, RunOutcome, step, run}
 use Rattle.block.specs.Blocks.{Block}
 use Rattle.layout.specs.Layout.{stateLength, bytesOfState, stateOf}
 use Rattle.listing.specs.Listing.{areBlocks, blocks, numbersOf}
-
--- a step of the engine, and a run
-unfoldable pub stepCall : Lent → Engine → Outcome
-stepCall = step 36
-
-unfoldable pub runCall : ℕ → Lent → Engine → RunOutcome
-runCall = run 36
 
 -- the number of an answer: 0 running, 100 finished, document 01's number of a refusal
 unfoldable pub code : Answer → ℕ
@@ -67,9 +64,12 @@ pub record FreshLeft : Type 0 where
   pub answer : ℕ
   pub state : List ℕ
 
-unfoldable pub freshLeft : List ℕ → FreshLeft
-freshLeft bytes =
-    cond (eqb (length bytes) stateLength) (record { answer = 0; state = bytesOfState fresh }) (record { answer = wrongState; state = bytes })
+-- 31 before the library's own answer
+unfoldable pub freshLeft : ℕ → List ℕ → FreshLeft
+freshLeft b bytes =
+    cond (isWidth b)
+    (cond (eqb (length bytes) stateLength) (record { answer = 0; state = bytesOfState (fresh b) }) (record { answer = wrongState; state = bytes }))
+    (record { answer = freshNumber NoWidth; state = bytes })
 
 -- a report as twelve numbers
 unfoldable pub numbersOfStore : Store → List ℕ
@@ -106,7 +106,7 @@ noStep answer l storage bytes report =
 unfoldable pub stepLeft : Lent → List ℕ → List ℕ → List ℕ → StepLeft
 stepLeft l storage bytes report =
     cond (eqb (length bytes) stateLength)
-    (cond (eqb (length report) 12) (afterStep bytes (stepCall l (engineAt bytes storage))) (noStep wrongReport l storage bytes report))
+    (cond (eqb (length report) 12) (afterStep bytes (step l (engineAt bytes storage))) (noStep wrongReport l storage bytes report))
     (noStep wrongState l storage bytes report)
 
 -- l6_run
@@ -133,30 +133,35 @@ noRun answer l storage bytes count =
 
 unfoldable pub runLeft : ℕ → Lent → List ℕ → List ℕ → ℕ → RunLeft
 runLeft limit l storage bytes count =
-    cond (eqb (length bytes) stateLength) (afterRun bytes (runCall limit l (engineAt bytes storage))) (noRun wrongState l storage bytes count)
+    cond (eqb (length bytes) stateLength) (afterRun bytes (run limit l (engineAt bytes storage))) (noRun wrongState l storage bytes count)
 
--- l6_check: the lowest ill-formed row, or 1 with row as it was
+-- l6_check: the lowest ill-formed row, or 31 or 1 with row as it was
 pub record CheckLeft : Type 0 where
   pub answer : ℕ
   pub row : ℕ
 
 unfoldable pub afterCheck : TableCheck → ℕ → CheckLeft
-afterCheck (Lowest r) row = record { answer = 0; row = r }
-afterCheck BadLength row = record { answer = 1; row = row }
+afterCheck (Lowest r) row = record { answer = checkRefusal (Lowest r); row = r }
+afterCheck BadLength row = record { answer = checkRefusal BadLength; row = row }
+afterCheck (table-check.NoWidth) row = record { answer = checkRefusal table-check.NoWidth; row = row }
 
-unfoldable pub checkLeft : List ℕ → ℕ → CheckLeft
-checkLeft table row = afterCheck (checked 36 table) row
+unfoldable pub checkLeft : ℕ → List ℕ → ℕ → CheckLeft
+checkLeft b table row = afterCheck (tableChecked b table) row
 
 -- l6_count_blocks and l6_list_blocks leave the list that they are lent
 pub record ListLeft : Type 0 where
   pub answer : ℕ
   pub list : List ℕ
 
+-- what is wrong with the bytes of a state that blocks are asked of: their length, or their width (31); 0 where nothing is
+unfoldable pub stateFault : List ℕ → ℕ
+stateFault bytes = cond (eqb (length bytes) stateLength) (cond (isWidth (stateOf bytes .width)) 0 (code (Refused refusals.NoWidth))) wrongState
+
 -- the live blocks of these bytes, or the free ones
 abbrev pub blocksAt : Bool → List ℕ → List Block
 blocksAt asked bytes = blocks asked (stateOf bytes .core .setup) (stateOf bytes .map)
 
--- what the blocks give, where the state has the right length and its set-up numbers and map keep their sections
+-- what the blocks give, where the state's set-up numbers and map keep their sections
 unfoldable pub ofBlocks : List ℕ → List ℕ → ListLeft → ListLeft
 ofBlocks bytes list given =
     cond (areBlocks (stateOf bytes .core .setup) (stateOf bytes .map)) given (record { answer = code (Refused Unsound); list = list })
@@ -164,17 +169,17 @@ ofBlocks bytes list given =
 -- how many blocks are live and how many free, in a list of two
 unfoldable pub countsLeft : List ℕ → List ℕ → ListLeft
 countsLeft bytes list =
-    cond (eqb (length bytes) stateLength)
+    cond (eqb (stateFault bytes) 0)
     (cond (eqb (length list) 2)
     (ofBlocks bytes list (record { answer = 0; list = length (blocksAt true bytes) ∷ length (blocksAt false bytes) ∷ [] }))
     (record { answer = wrongList; list = list }))
-    (record { answer = wrongState; list = list })
+    (record { answer = stateFault bytes; list = list })
 
 -- address and size of each live block (live is not 0) or free one (live is 0), in a list of just that length
 unfoldable pub blocksLeft : List ℕ → ℕ → List ℕ → ListLeft
 blocksLeft bytes live list =
     let found : List Block = blocksAt (not (eqb live 0)) bytes in
-    cond (eqb (length bytes) stateLength)
+    cond (eqb (stateFault bytes) 0)
     (ofBlocks bytes list
     (cond (eqb (length list) (2 * length found)) (record { answer = 0; list = numbersOf found }) (record { answer = wrongList; list = list })))
-    (record { answer = wrongState; list = list })
+    (record { answer = stateFault bytes; list = list })

@@ -2,7 +2,7 @@
 use Prim.Native.Nat.{ℕ}
 use mathlib.Core.List.{List}
 use Rattle.defined.specs.declared.FieldsCheck.{FieldsCheck}
-use Rattle.defined.specs.declared.FieldsCheck.the-variants.{Yes, No, BadLength, IllFormed, WrongKind}
+use Rattle.defined.specs.declared.FieldsCheck.the-variants.{Yes, No, NoWidth, BadLength, IllFormed, WrongKind}
 use Rattle.defined.specs.Answer.{fieldsChecked, refusalOf}
 
 -- answers of the library's own: a field is used where it is not defined, and an ill-formed row
@@ -22,10 +22,10 @@ pub record DefinedLeft : Type 0 where
 unfoldable pub afterDefined : FieldsCheck → ℕ → ℕ → DefinedLeft
 afterDefined Yes row field = record { answer = refusalOf Yes; row = row; field = field }
 afterDefined (No r n) row field = record { answer = notDefined; row = r; field = n }
+afterDefined NoWidth row field = record { answer = refusalOf NoWidth; row = row; field = field }
 afterDefined BadLength row field = record { answer = refusalOf BadLength; row = row; field = field }
 afterDefined (IllFormed r) row field = record { answer = illFormed; row = r; field = field }
 afterDefined (WrongKind r) row field = record { answer = refusalOf (WrongKind r); row = r; field = field }
 
--- of words of 36 bits
-unfoldable pub definedLeft : List ℕ → ℕ → ℕ → DefinedLeft
-definedLeft table row field = afterDefined (fieldsChecked 36 table) row field
+unfoldable pub definedLeft : ℕ → List ℕ → ℕ → ℕ → DefinedLeft
+definedLeft b table row field = afterDefined (fieldsChecked b table) row field

@@ -1,4 +1,4 @@
--- l6_extend: what it answers, and what it leaves in the memory lent to it. Document 02, ticket 11. Assumes nothing.
+-- l6_extend: what it answers, and what it leaves in the memory lent to it. Document 02, tickets 9 and 11. Assumes nothing.
 use Prim.Native.Nat.{ℕ}
 use mathlib.Core.Bool.{cond}
 use mathlib.Core.List.{List}
@@ -8,10 +8,6 @@ use Rattle.machine.specs.Sound.{Engine}
 use Rattle.machine.specs.Extend.{Extension, extensionNumber, isDone, extend}
 use Rattle.layout.specs.Layout.{stateLength, bytesOfState}
 use Rattle.player.specs.Calls.{wrongState, engineAt}
-
--- an extension of the engine
-unfoldable pub extendCall : ℕ → Engine → Extension
-extendCall = extend 36
 
 pub record ExtendLeft : Type 0 where
   pub answer : ℕ
@@ -29,5 +25,5 @@ afterExtension bytes x =
 
 unfoldable pub extendLeft : ℕ → List ℕ → List ℕ → ExtendLeft
 extendLeft last storage bytes =
-    cond (eqb (length bytes) stateLength) (afterExtension bytes (extendCall last (engineAt bytes storage)))
+    cond (eqb (length bytes) stateLength) (afterExtension bytes (extend last (engineAt bytes storage)))
     (record { answer = wrongState; storage = storage; state = bytes })

@@ -5,18 +5,6 @@ use Rattle.columns.specs.declared.Kept.{Kept}
 use Rattle.columns.specs.declared.Kept.the-variants.{Count, NoWidth, WordTooWide, NotSaved, OutputShort}
 use Rattle.columns.specs.Columns.{Left, saving, loading, keptNumber}
 
--- an answer of the library's own: no width of an engine's words
-abbrev pub wrongWidth : ℕ
-wrongWidth = 105
-
--- the number of an answer
-unfoldable pub keptCode : Kept → ℕ
-keptCode (Count n) = keptNumber (Count n)
-keptCode NoWidth = wrongWidth
-keptCode WordTooWide = keptNumber WordTooWide
-keptCode NotSaved = keptNumber NotSaved
-keptCode OutputShort = keptNumber OutputShort
-
 -- how many were written, otherwise the count as it was
 unfoldable pub countOf : Kept → ℕ → ℕ
 countOf (Count n) count = n
@@ -32,7 +20,7 @@ pub record SaveLeft : Type 0 where
   pub count : ℕ
 
 unfoldable pub afterSave : ℕ → Left → SaveLeft
-afterSave count l = record { answer = keptCode (l .answer); bytes = l .output; count = countOf (l .answer) count }
+afterSave count l = record { answer = keptNumber (l .answer); bytes = l .output; count = countOf (l .answer) count }
 
 unfoldable pub saveLeft : ℕ → List ℕ → List ℕ → ℕ → SaveLeft
 saveLeft width words bytes count = afterSave count (saving width words bytes)
@@ -43,7 +31,7 @@ pub record LoadLeft : Type 0 where
   pub words : List ℕ
 
 unfoldable pub afterLoad : Left → LoadLeft
-afterLoad l = record { answer = keptCode (l .answer); words = l .output }
+afterLoad l = record { answer = keptNumber (l .answer); words = l .output }
 
 unfoldable pub loadLeft : ℕ → List ℕ → ℕ → List ℕ → LoadLeft
 loadLeft width bytes n words = afterLoad (loading width n bytes words)

@@ -2,12 +2,13 @@
 use Prim.Native.Nat.{ℕ}
 use mathlib.Core.List.{List}
 use Rattle.lines.specs.declared.Read.{Read}
-use Rattle.lines.specs.declared.Read.the-variants.{Rows, BadLine, BadLabel, TooLong}
-use Rattle.lines.specs.Program.{Left, reading, readNumber}
+use Rattle.lines.specs.declared.Read.the-variants.{Rows, NoWidth, BadLine, BadLabel, TooLong}
+use Rattle.lines.specs.Program.{Left, readAt, readNumber}
 
 -- the row count, otherwise the count as it was
 unfoldable pub rowsAfter : Read → ℕ → ℕ
 rowsAfter (Rows n) count = n
+rowsAfter NoWidth count = count
 rowsAfter (BadLine line) count = count
 rowsAfter (BadLabel line) count = count
 rowsAfter (TooLong line) count = count
@@ -15,6 +16,7 @@ rowsAfter (TooLong line) count = count
 -- the line of the fault, otherwise the line as it was
 unfoldable pub lineAfter : Read → ℕ → ℕ
 lineAfter (Rows n) before = before
+lineAfter NoWidth before = before
 lineAfter (BadLine line) before = line
 lineAfter (BadLabel line) before = line
 lineAfter (TooLong line) before = line
@@ -30,5 +32,5 @@ unfoldable pub afterReading : ℕ → ℕ → Left → ReadLeft
 afterReading count line l =
     record { answer = readNumber (l .answer); table = l .table; count = rowsAfter (l .answer) count; line = lineAfter (l .answer) line }
 
-unfoldable pub readLeft : List ℕ → List ℕ → ℕ → ℕ → ReadLeft
-readLeft text table count line = afterReading count line (reading 36 text table)
+unfoldable pub readLeft : ℕ → List ℕ → List ℕ → ℕ → ℕ → ReadLeft
+readLeft b text table count line = afterReading count line (readAt b text table)

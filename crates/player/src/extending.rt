@@ -2,7 +2,8 @@
 ghost use mathlib.Core.Path.{_≡_};
 ghost use lib.ListN.{length};
 ghost use Rattle.layout.specs.Layout.{stateLength, stateOf};
-ghost use Rattle.player.specs.Extending.{extendCall, extendLeft};
+ghost use Rattle.machine.specs.Extend.{extend as extendOf};
+ghost use Rattle.player.specs.Extending.{extendLeft};
 ghost use Rattle.player.specs.Calls.{engineAt};
 use extension::extend;
 use extension::number_of;
@@ -15,9 +16,9 @@ pub extern "C" fn l6_extend(storage: &mut [u64], state: &mut [u8], last: u64) ->
     ensures { λ r. ⌜ record { answer = r; storage = now (storage .exit); state = now (state .exit) }
         ≡ extendLeft last (now (storage .entry)) (now (state .entry)) ⌝ }
     ensures back { λ _. ⌜ (length (now (state .entry)) ≡ stateLength → stateOf (now (state .exit))
-        ≡ extendCall last (engineAt (now (state .entry)) (now (storage .entry))) .extended .state) ⌝ }
+        ≡ extendOf last (engineAt (now (state .entry)) (now (storage .entry))) .extended .state) ⌝ }
 {
-    if state.len() != 6675 {
+    if state.len() != 6676 {
         return 101;
     }
     let extended = extend(storage, read_state(&*state), last);

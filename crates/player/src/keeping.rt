@@ -1,17 +1,18 @@
 // Storage kept by bit columns, for players in C and Rust.
 ghost use mathlib.Core.Path.{_≡_};
-ghost use Rattle.player.specs.Keeping.{keptCode, countOf, saveLeft, loadLeft};
+ghost use Rattle.columns.specs.Columns.{keptNumber};
+ghost use Rattle.player.specs.Keeping.{countOf, saveLeft, loadLeft};
 use columns::Kept;
 use columns::load;
 use columns::save;
 
 // The number of an answer that is no count.
 fn number_of(answer: Kept) -> u64
-    ensures { λ r. ⌜ r ≡ keptCode answer ⌝ }
+    ensures { λ r. ⌜ r ≡ keptNumber answer ⌝ }
 {
     match answer {
         Kept::Count(_) => 0,
-        Kept::NoWidth => 105,
+        Kept::NoWidth => 31,
         Kept::WordTooWide => 33,
         Kept::NotSaved => 34,
         Kept::OutputShort => 35,

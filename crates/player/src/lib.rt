@@ -12,16 +12,19 @@ ghost use mathlib.Core.List.{[], _∷_};
 ghost use mathlib.Core.Path.{_≡_};
 ghost use lib.Dec.{eqb};
 ghost use lib.ListN.{length};
+ghost use Rattle.word.specs.Word.{isWidth};
 ghost use Rattle.machine.specs.State.{fresh as freshState};
+ghost use Rattle.machine.specs.Step.{step as stepOf, run as runOf};
 ghost use Rattle.machine.specs.Storage.{placed};
 ghost use Rattle.layout.specs.Layout.{stateLength, bytesOfState, stateOf};
-ghost use Rattle.player.specs.Calls.{code, moved, numbersOfStore, numbersOfReport, engineAt, stepCall, runCall, freshLeft, stepLeft, runLeft, checkLeft, countsLeft, blocksLeft};
+ghost use Rattle.player.specs.Calls.{code, moved, numbersOfStore, numbersOfReport, engineAt, freshLeft, stepLeft, runLeft, checkLeft, stateFault, countsLeft, blocksLeft};
 use engine::answers::refusal_number;
 use engine::fresh;
 use engine::run;
 use engine::step;
 use layout::reading::read_state;
 use layout::reading::setup_at;
+use layout::reading::width_at;
 use layout::writing::write_state;
 use listing::are_blocks;
 use listing::count_blocks;
@@ -31,7 +34,8 @@ use machine::Report;
 use machine::State;
 use machine::Store;
 use table::TableCheck;
-use table::check::check;
+use table::check::check_table;
+use word::is_width;
 
 // The number of an answer: 0 running, 100 finished, otherwise document 01's number of the refusal.
 fn code_of(answer: Answer) -> u64
@@ -109,16 +113,27 @@ fn put_report(report: &mut [u64], of: Report)
     put_store(report, 8, of.second);
 }
 
-// A fresh state.
+// How many bytes a state has, and where its map begins and ends.
+const STATE: usize = 6676;
+
+const MAP: usize = 2579;
+
+const MAP_END: usize = 6675;
+
+// A fresh state of words of width bits.
 #[no_mangle]
-pub extern "C" fn l6_fresh(state: &mut [u8]) -> u64
-    ensures { λ r. ⌜ record { answer = r; state = now (state .exit) } ≡ freshLeft (now (state .entry)) ⌝ }
-    ensures back { λ _. ⌜ (length (now (state .entry)) ≡ stateLength → stateOf (now (state .exit)) ≡ freshState) ⌝ }
+pub extern "C" fn l6_fresh(width: u64, state: &mut [u8]) -> u64
+    ensures { λ r. ⌜ record { answer = r; state = now (state .exit) } ≡ freshLeft width (now (state .entry)) ⌝ }
+    ensures back { λ _. ⌜ (isWidth width ≡ true → length (now (state .entry)) ≡ stateLength → stateOf (now (state .exit)) ≡ freshState width) ⌝ }
 {
-    if state.len() != 6675 {
+    if !is_width(width) {
+        return 31;
+    }
+    if state.len() != STATE {
         return 101;
     }
-    write_state(state, fresh());
+    let made = fresh(width);
+    write_state(state, made.state);
     0
 }
 
@@ -133,9 +148,9 @@ pub extern "C" fn l6_step(
     report: &mut [u64],
 ) -> u64
     ensures { λ r. ⌜ record { answer = r; storage = now (storage .exit); output = now (output .exit); state = now (state .exit); report = now (report .exit) } ≡ stepLeft (record { table = now (table .entry); input = now (input .entry); output = now (output .entry) }) (now (storage .entry)) (now (state .entry)) (now (report .entry)) ⌝ }
-    ensures back { λ _. ⌜ (length (now (state .entry)) ≡ stateLength → length (now (report .entry)) ≡ 12 → stateOf (now (state .exit)) ≡ stepCall (record { table = now (table .entry); input = now (input .entry); output = now (output .entry) }) (engineAt (now (state .entry)) (now (storage .entry))) .stepped .state) ⌝ }
+    ensures back { λ _. ⌜ (length (now (state .entry)) ≡ stateLength → length (now (report .entry)) ≡ 12 → stateOf (now (state .exit)) ≡ stepOf (record { table = now (table .entry); input = now (input .entry); output = now (output .entry) }) (engineAt (now (state .entry)) (now (storage .entry))) .stepped .state) ⌝ }
 {
-    if state.len() != 6675 {
+    if state.len() != STATE {
         return 101;
     }
     if report.len() != 12 {
@@ -164,9 +179,9 @@ pub extern "C" fn l6_run(
     count: &mut u64,
 ) -> u64
     ensures { λ r. ⌜ record { answer = r; storage = now (storage .exit); output = now (output .exit); state = now (state .exit); count = now (count .exit) } ≡ runLeft limit (record { table = now (table .entry); input = now (input .entry); output = now (output .entry) }) (now (storage .entry)) (now (state .entry)) (now (count .entry)) ⌝ }
-    ensures back { λ _. ⌜ (length (now (state .entry)) ≡ stateLength → stateOf (now (state .exit)) ≡ runCall limit (record { table = now (table .entry); input = now (input .entry); output = now (output .entry) }) (engineAt (now (state .entry)) (now (storage .entry))) .ran .state) ⌝ }
+    ensures back { λ _. ⌜ (length (now (state .entry)) ≡ stateLength → stateOf (now (state .exit)) ≡ runOf limit (record { table = now (table .entry); input = now (input .entry); output = now (output .entry) }) (engineAt (now (state .entry)) (now (storage .entry))) .ran .state) ⌝ }
 {
-    if state.len() != 6675 {
+    if state.len() != STATE {
         return 101;
     }
     let before = read_state(&*state);
@@ -180,19 +195,33 @@ pub extern "C" fn l6_run(
     code_of(answer)
 }
 
-// The table check.
+// The table check for words of width bits.
 #[no_mangle]
-pub extern "C" fn l6_check(table: &[u64], row: &mut u64) -> u64
-    ensures { λ r. ⌜ record { answer = r; row = now (row .exit) } ≡ checkLeft (now (table .entry)) (now (row .entry)) ⌝ }
+pub extern "C" fn l6_check(width: u64, table: &[u64], row: &mut u64) -> u64
+    ensures { λ r. ⌜ record { answer = r; row = now (row .exit) } ≡ checkLeft width (now (table .entry)) (now (row .entry)) ⌝ }
 {
-    let found = check(36, table);
+    let found = check_table(width, table);
     match found {
         TableCheck::Lowest(r) => {
             *row = r;
             0
         }
         TableCheck::BadLength => 1,
+        TableCheck::NoWidth => 31,
     }
+}
+
+// What is wrong with a state that blocks are asked of, 0 where nothing is.
+fn state_fault(state: &[u8]) -> u64
+    ensures { λ r. ⌜ r ≡ stateFault (now (state .entry)) ⌝ }
+{
+    if state.len() != STATE {
+        return 101;
+    }
+    if !is_width(width_at(state) as u64) {
+        return 31;
+    }
+    0
 }
 
 // How many blocks are live, and how many free.
@@ -200,14 +229,15 @@ pub extern "C" fn l6_check(table: &[u64], row: &mut u64) -> u64
 pub extern "C" fn l6_count_blocks(state: &[u8], counts: &mut [u64]) -> u64
     ensures { λ r. ⌜ record { answer = r; list = now (counts .exit) } ≡ countsLeft (now (state .entry)) (now (counts .entry)) ⌝ }
 {
-    if state.len() != 6675 {
-        return 101;
+    let fault = state_fault(state);
+    if fault != 0 {
+        return fault;
     }
     if counts.len() != 2 {
         return 103;
     }
     let setup = setup_at(state);
-    let map = &state[2579..];
+    let map = &state[MAP..MAP_END];
     if !are_blocks(setup, map) {
         return 11;
     }
@@ -223,11 +253,12 @@ pub extern "C" fn l6_count_blocks(state: &[u8], counts: &mut [u64]) -> u64
 pub extern "C" fn l6_list_blocks(state: &[u8], live: u64, list: &mut [u64]) -> u64
     ensures { λ r. ⌜ record { answer = r; list = now (list .exit) } ≡ blocksLeft (now (state .entry)) live (now (list .entry)) ⌝ }
 {
-    if state.len() != 6675 {
-        return 101;
+    let fault = state_fault(state);
+    if fault != 0 {
+        return fault;
     }
     let setup = setup_at(state);
-    let map = &state[2579..];
+    let map = &state[MAP..MAP_END];
     if !are_blocks(setup, map) {
         return 11;
     }

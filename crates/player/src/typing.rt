@@ -4,17 +4,25 @@ ghost use Rattle.player.specs.Typed.{readLeft};
 use lines::Read;
 use typed::read;
 
-// The table of a text and how many rows it has, or the line of its fault.
+// The table of a text for words of width bits and how many rows it has, or the line of its fault.
 #[no_mangle]
-pub extern "C" fn l6_read(text: &[u8], table: &mut [u64], count: &mut u64, line: &mut u64) -> u64
-    ensures { λ r. ⌜ record { answer = r; table = now (table .exit); count = now (count .exit); line = now (line .exit) } ≡ readLeft (now (text .entry)) (now (table .entry)) (now (count .entry)) (now (line .entry)) ⌝ }
+pub extern "C" fn l6_read(
+    width: u64,
+    text: &[u8],
+    table: &mut [u64],
+    count: &mut u64,
+    line: &mut u64,
+) -> u64
+    ensures { λ r. ⌜ record { answer = r; table = now (table .exit); count = now (count .exit); line = now (line .exit) }
+        ≡ readLeft width (now (text .entry)) (now (table .entry)) (now (count .entry)) (now (line .entry)) ⌝ }
 {
-    let answer = read(text, table);
+    let answer = read(width, text, table);
     match answer {
         Read::Rows(n) => {
             *count = n;
             0
         }
+        Read::NoWidth => 31,
         Read::BadLine(n) => {
             *line = n;
             23

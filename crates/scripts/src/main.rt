@@ -18,6 +18,7 @@ const FIGURES: usize = 5;
 fn told(found: Read) -> u64 {
     match found {
         Read::Rows(rows) => rows,
+        Read::NoWidth => 31,
         Read::BadLine(line) => cases::fold(23, line),
         Read::BadLabel(line) => cases::fold(24, line),
         Read::TooLong(line) => cases::fold(25, line),
@@ -28,6 +29,7 @@ fn told(found: Read) -> u64 {
 fn kind(found: Read) -> usize {
     match found {
         Read::Rows(_) => 1,
+        Read::NoWidth => 2,
         Read::BadLine(_) => 2,
         Read::BadLabel(_) => 3,
         Read::TooLong(_) => 4,
@@ -44,6 +46,7 @@ fn write_number(word: &[u8], n: u64) {
 fn write_found(found: Read) {
     match found {
         Read::Rows(rows) => write_number(b"rows ", rows),
+        Read::NoWidth => write_number(b"", 31),
         Read::BadLine(line) => write_number(b"23, line ", line),
         Read::BadLabel(line) => write_number(b"24, line ", line),
         Read::TooLong(line) => write_number(b"25, line ", line),
@@ -83,9 +86,9 @@ fn end_of(file: &[u8], from: usize, length: u64) -> usize {
 // What is said of the bytes between two places, which are none where the places are not in the file in this order.
 fn read_part(file: &[u8], from: usize, end: usize, table: &mut [u64]) -> Read {
     if end < from || file.len() < end {
-        return typed::read(&file[0..0], table);
+        return typed::read(36, &file[0..0], table);
     }
-    typed::read(&file[from..end], table)
+    typed::read(36, &file[from..end], table)
 }
 
 // The same with so many numbers of a table lent, which has them.

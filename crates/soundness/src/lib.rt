@@ -189,7 +189,7 @@ fn is_sound_storage(b: u64, setup: SetUp, map: &[u8], storage: &[u64]) -> bool
 // What of soundness no lent input or output bears on: core and storage.
 pub fn is_sound_engine(b: u64, core: Core, map: &[u8], storage: &[u64]) -> bool
     requires { ⌜ b < 64 ⌝ }
-    ensures { λ r. ⌜ r ≡ soundEngine b (record { state = record { core = core; map = now (map .entry) }; storage = now (storage .entry) }) ⌝ }
+    ensures { λ r. ⌜ r ≡ soundEngine b (record { state = record { width = b; core = core; map = now (map .entry) }; storage = now (storage .entry) }) ⌝ }
 {
     let setup = core.setup;
     is_sound_core(b, core) & is_sound_storage(b, setup, map, storage)
@@ -205,7 +205,7 @@ pub fn is_sound(
     output: &[u8],
 ) -> bool
     requires { ⌜ b < 64 ⌝ }
-    ensures { λ r. ⌜ r ≡ sound b (record { table = []; input = now (input .entry); output = now (output .entry) }) (record { state = record { core = core; map = now (map .entry) }; storage = now (storage .entry) }) ⌝ }
+    ensures { λ r. ⌜ r ≡ sound b (record { table = []; input = now (input .entry); output = now (output .entry) }) (record { state = record { width = b; core = core; map = now (map .entry) }; storage = now (storage .entry) }) ⌝ }
 {
     is_sound_engine(b, core, map, storage)
         & (core.taken <= input.len())

@@ -11,16 +11,18 @@ use crate::numbers::write_text;
 use machine::Store;
 use std::num;
 
-// How many counts there are: 36 operations, then from 36 on tests, from 50 modes, from 59 refusals, from 81 set-ups, from 89 stores,
-// and from 93 refusal 17 without and with free blocks.
-pub const COUNTS: usize = 95;
+// How many counts there are for a width: 36 operations, then from 36 on tests, from 50 modes, from 59 refusals, from 81 set-ups, from 89
+// stores, from 93 refusal 17 without and with free blocks, and 95 refusal 31.
+pub const COUNTS: usize = 96;
 
-// Where the map starts among a state's bytes.
+// Where the map starts and ends among a state's bytes.
 const MAP: usize = 2579;
+
+const MAP_END: usize = 6675;
 
 // One more of count i.
 fn add(counts: &mut [u64; COUNTS], i: u64) {
-    if i < 95 {
+    if i < 96 {
         let at = i as usize;
         counts[at] = num::wrapping_add_u64(counts[at], 1);
     }
@@ -66,11 +68,11 @@ fn set_up_count(d: u64) -> u64 {
     }
 }
 
-// Which count a reported first store belongs to if its destination is a field.
-pub fn store_count(store: Store) -> u64 {
+// Which count a reported first store belongs to if its destination is a field, words having so many bits.
+pub fn store_count(store: Store, width: u64) -> u64 {
     if store.address == 0 {
         92
-    } else if (store.left == 0) & (store.right == 35) {
+    } else if (store.left == 0) & (store.right as u64 + 1 == width) {
         90
     } else {
         91
@@ -119,7 +121,7 @@ pub fn done(
 // Whether a block of a state's map is free.
 fn has_free(state: &[u8; STATE]) -> bool {
     let mut i = MAP;
-    while i < STATE {
+    while i < MAP_END {
         if state[i] % 2 == 1 {
             return true;
         }
@@ -133,16 +135,20 @@ pub fn ended(counts: &mut [u64; COUNTS], answer: u64, state: &[u8; STATE]) {
     if answer == 17 {
         add(counts, 93 + bit(has_free(state)));
     }
+    if answer == 31 {
+        add(counts, 95);
+        return;
+    }
     if (answer != 0) & (answer != 100) {
         add(counts, 58 + answer % 32);
     }
 }
 
-// Writes the counts; what each is of stands in the input from a place on, each with its length before it.
-pub fn write(counts: &[u64; COUNTS], file: &[u8], from: usize) {
+// Writes the counts; what each is of stands in the input from a place on, each with its length before it. Tells where that ends.
+pub fn write(counts: &[u64; COUNTS], file: &[u8], from: usize) -> usize {
     let mut at = from;
     let mut i = 0;
-    while i < 95 {
+    while i < 96 {
         let length = number_at(file, at);
         at = write_text(file, length.next, length.value);
         io::write_all(1, b": ");
@@ -150,4 +156,5 @@ pub fn write(counts: &[u64; COUNTS], file: &[u8], from: usize) {
         io::write_all(1, b"\n");
         i += 1;
     }
+    at
 }

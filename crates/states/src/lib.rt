@@ -6,7 +6,7 @@ pub mod numbers;
 use octets::number_at;
 
 // How many bytes a state has (crate layout).
-pub const STATE: usize = 6675;
+pub const STATE: usize = 6676;
 
 // The kind of the place, its row and its line.
 pub fn kind(state: &[u8; STATE]) -> u64 {
@@ -19,4 +19,9 @@ pub fn row(state: &[u8; STATE]) -> u64 {
 
 pub fn line(state: &[u8; STATE]) -> u64 {
     number_at(state, 3, 2)
+}
+
+// How many bits its words have.
+pub fn width(state: &[u8; STATE]) -> u64 {
+    number_at(state, 6675, 1)
 }

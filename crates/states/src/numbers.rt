@@ -19,6 +19,7 @@ pub struct Case {
     pub before: u64,
     pub damages: usize,
     pub limit: u64,
+    pub width: u64,
 }
 
 // The number that starts at a place: groups of seven bits, the lowest first, every byte but the last with 128 added.
@@ -97,6 +98,7 @@ pub fn case_of(numbers: &[u64]) -> Case
         before: number(numbers, 4),
         damages: within(number(numbers, 5), 512),
         limit: number(numbers, 6),
+        width: number(numbers, 7),
     }
 }
 

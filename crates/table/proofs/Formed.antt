@@ -8,14 +8,15 @@ use borrow.Author.Tests.{le-leb, lt-leb, lt-ltb, le-ltb, eq-eqb, ne-eqb}
 use mathlib.Core.List.{List}
 use lib.Dec.{leb}
 use lib.ListN.{length}
+use Rattle.word.specs.Word.{isWidth}
 use Rattle.table.specs.declared.Row.{Row}
 use Rattle.table.specs.declared.Shape.{Shape}
 use Rattle.table.specs.declared.TableCheck.{TableCheck}
-use Rattle.table.specs.declared.TableCheck.the-variants.{Lowest, BadLength}
+use Rattle.table.specs.declared.TableCheck.the-variants.{Lowest, BadLength, NoWidth}
 use Rattle.table.specs.declared.Operand.{Operand}
 use Rattle.table.specs.declared.Pair.{Pair}
 use Rattle.table.specs.Operands.{testShape, takes}
-use Rattle.table.specs.Table.{fits, isLine, isTest, shapeOf, isOperation, chained, shaped, wellFormedAs, wellFormed, usable, lowestFrom, checked, checkRefusal, checkRow}
+use Rattle.table.specs.Table.{fits, isLine, isTest, shapeOf, isOperation, chained, shaped, wellFormedAs, wellFormed, usable, lowestFrom, checked, tableChecked, checkRefusal, checkRow}
 use Rattle.table.specs.Row.{lengthFits, rows, rowAt}
 
 -- a pair's test is the definition's at the operand that is told
@@ -120,19 +121,32 @@ pub checked-length : (b : ℕ) (table : List ℕ) {fits : Bool} → fits ≡ len
 unfolding checked
 checked-length b table f t = rw (sym f ∙ t)
 
--- the check's answer in document 01's numbers
-pub check-numbers : (b : ℕ) (table : List ℕ) {x : TableCheck} → x ≡ checked b table
-    → (x ≡ checked b table) × ((checkRefusal x ≡ cond (lengthFits table) 0 1) × (checkRow x ≡ cond (lengthFits table) (lowestFrom b table 1 (rows table - 1)) 0))
-unfolding checked checkRefusal checkRow
-check-numbers b table {x} is = (is, (ap checkRefusal is ∙ refusal (lengthFits table), ap checkRow is ∙ row (lengthFits table)))
+-- the check at a width, by that width
+pub check-no-width : (b : ℕ) (table : List ℕ) → isWidth b ≡ false → NoWidth ≡ tableChecked b table
+unfolding tableChecked
+check-no-width b table w = rw w
+
+pub check-at-width : (b : ℕ) (table : List ℕ) → isWidth b ≡ true → {x : TableCheck} → x ≡ checked b table → x ≡ tableChecked b table
+unfolding tableChecked
+check-at-width b table w is = rw w is
+
+-- its answer in the papers' numbers
+pub check-numbers : (b : ℕ) (table : List ℕ) {x : TableCheck} → x ≡ tableChecked b table
+    → (x ≡ tableChecked b table)
+    × ((checkRefusal x ≡ cond (isWidth b) (cond (lengthFits table) 0 1) 31)
+    × (checkRow x ≡ cond (isWidth b && lengthFits table) (lowestFrom b table 1 (rows table - 1)) 0))
+unfolding tableChecked checked checkRefusal checkRow
+check-numbers b table {x} is = (is, (ap checkRefusal is ∙ refusal (isWidth b) (lengthFits table), ap checkRow is ∙ row (isWidth b) (lengthFits table)))
   where
     n : ℕ
     n = lowestFrom b table 1 (rows table - 1)
 
-    refusal : (t : Bool) → checkRefusal (cond t (Lowest n) BadLength) ≡ cond t 0 1
-    refusal true = refl
-    refusal false = refl
+    refusal : (w t : Bool) → checkRefusal (cond w (cond t (Lowest n) BadLength) NoWidth) ≡ cond w (cond t 0 1) 31
+    refusal true true = refl
+    refusal true false = refl
+    refusal false t = refl
 
-    row : (t : Bool) → checkRow (cond t (Lowest n) BadLength) ≡ cond t n 0
-    row true = refl
-    row false = refl
+    row : (w t : Bool) → checkRow (cond w (cond t (Lowest n) BadLength) NoWidth) ≡ cond (w && t) n 0
+    row true true = refl
+    row true false = refl
+    row false t = refl

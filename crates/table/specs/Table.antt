@@ -5,9 +5,10 @@ use mathlib.Core.Bool.{Bool, not, _&&_, _||_, cond}
 use mathlib.Core.List.{List}
 use lib.Dec.{eqb, leb, ltb}
 use lib.ListN.{getD}
+use Rattle.word.specs.Word.{isWidth}
 use Rattle.table.specs.declared.Row.{Row}
 use Rattle.table.specs.declared.TableCheck.{TableCheck}
-use Rattle.table.specs.declared.TableCheck.the-variants.{Lowest, BadLength}
+use Rattle.table.specs.declared.TableCheck.the-variants.{Lowest, BadLength, NoWidth}
 use Rattle.table.specs.Row.{rows, rowAt, lengthFits, firstTest, firstOperation, goTo, done}
 use Rattle.table.specs.declared.Operand.the-variants.{Absent}
 use Rattle.table.specs.declared.Shape.{Shape}
@@ -96,15 +97,21 @@ lowestFrom b table r (suc count) =
     let others = lowestFrom b table (suc r) count in
     cond (wellFormed b (rows table) r (rowAt table r)) others r
 
--- the table check: the lowest ill-formed row, 0 if none; row 0 is not read, and it refuses only by 1
+-- the table check of words of b bits: the lowest ill-formed row, 0 if none; row 0 is not read, and it refuses only by 1
 unfoldable pub checked : ℕ → List ℕ → TableCheck
 checked b table = cond (lengthFits table) (Lowest (lowestFrom b table 1 (rows table - 1))) BadLength
+
+-- the check at a width that a host gives: 31, before anything else, where that is none (ticket 9)
+unfoldable pub tableChecked : ℕ → List ℕ → TableCheck
+tableChecked b table = cond (isWidth b) (checked b table) NoWidth
 
 -- document 01's number of the check's refusal, 0 where it is none, and the row that it gives
 unfoldable pub checkRefusal : TableCheck → ℕ
 checkRefusal (Lowest r) = 0
 checkRefusal BadLength = 1
+checkRefusal NoWidth = 31
 
 unfoldable pub checkRow : TableCheck → ℕ
 checkRow (Lowest r) = r
 checkRow BadLength = 0
+checkRow NoWidth = 0

@@ -1,12 +1,13 @@
 // Well-formed rows, and the check of a whole table.
-ghost use mathlib.Core.Bool.{cond};
+ghost use mathlib.Core.Bool.{_&&_, cond};
 ghost use mathlib.Core.Path.{_≡_};
 ghost use Prim.Native.Nat.{_-_, _≤_};
+ghost use Rattle.word.specs.Word.{isWidth};
 ghost use Rattle.table.specs.Operands.{shape, namedShape};
 ghost use Rattle.table.specs.Table.{shapeOf, rowOrNone, namesRows, hasMode, hasTests};
 ghost use Rattle.table.specs.Table.{goesOn, restUnused, complete, isLine, isTest, isOperation};
 ghost use Rattle.table.specs.Table.{chained, shaped, wellFormedAs, wellFormed};
-ghost use Rattle.table.specs.Table.{usable, lowestFrom, checked, checkRefusal, checkRow};
+ghost use Rattle.table.specs.Table.{usable, lowestFrom, tableChecked, checkRefusal, checkRow};
 ghost use Rattle.table.specs.Row.{lengthFits, rows};
 use crate::Operand;
 use crate::Row;
@@ -262,8 +263,8 @@ pub fn is_usable(kind: u64, b: u64, table: &[u64], r: usize) -> bool
     well_formed_as(kind, b, rows as u64, r as u64, rows::row_at(table, r))
 }
 
-// The lowest ill-formed row, 0 if none.
-fn lowest_ill_formed(b: u64, table: &[u64]) -> u64
+// The lowest ill-formed row of words of b bits, 0 if none.
+pub fn lowest_ill_formed(b: u64, table: &[u64]) -> u64
     ensures { λ x. ⌜ x ≡ lowestFrom b (now (table .entry)) 1 (rows (now (table .entry)) - 1) ⌝ }
 {
     let rows = table.len() / 10;
@@ -277,14 +278,18 @@ fn lowest_ill_formed(b: u64, table: &[u64]) -> u64
     0
 }
 
-// The table check: the lowest ill-formed row, 0 if none; it refuses only by 1. In document 01's numbers: refusal and row.
-pub fn check(b: u64, table: &[u64]) -> TableCheck
-    ensures { λ x. ⌜ x ≡ checked b (now (table .entry)) ⌝ }
-    ensures numbered { λ x. ⌜ (checkRefusal x ≡ cond (lengthFits (now (table .entry))) 0 1) × (checkRow x ≡ cond (lengthFits (now (table .entry))) (lowestFrom b (now (table .entry)) 1 (rows (now (table .entry)) - 1)) 0) ⌝ }
+// The table check at a width: 31, then 1, then the row. In the papers' numbers: refusal and row.
+pub fn check_table(b: u64, table: &[u64]) -> TableCheck
+    ensures { λ x. ⌜ x ≡ tableChecked b (now (table .entry)) ⌝ }
+    ensures refusal { λ x. ⌜ checkRefusal x ≡ cond (isWidth b) (cond (lengthFits (now (table .entry))) 0 1) 31 ⌝ }
+    ensures row { λ x. ⌜ checkRow x ≡ cond (isWidth b && lengthFits (now (table .entry)))
+        (lowestFrom b (now (table .entry)) 1 (rows (now (table .entry)) - 1)) 0 ⌝ }
 {
-    if has_length(table) {
-        TableCheck::Lowest(lowest_ill_formed(b, table))
-    } else {
-        TableCheck::BadLength
+    if !word::is_width(b) {
+        return TableCheck::NoWidth;
     }
+    if !has_length(table) {
+        return TableCheck::BadLength;
+    }
+    TableCheck::Lowest(lowest_ill_formed(b, table))
 }

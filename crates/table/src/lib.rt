@@ -53,8 +53,9 @@ pub struct Shape {
     pub third: Operand,
 }
 
-// What the table check answers: the lowest ill-formed row, 0 if there is none, or that the table's length is refused.
+// What the table check answers: the lowest ill-formed row, 0 if there is none, or that the table's length or the width is refused.
 pub enum TableCheck {
     Lowest(u64),
     BadLength,
+    NoWidth,
 }

@@ -10,34 +10,35 @@ use borrow.Author.Tests.{lt-leb, leb-true, leb-false}
 use lib.Dec.{eqb, leb}
 use lib.ListN.{length, take, replicate}
 use lib.Seq.{take-all, take-take, length-take-le}
+use Rattle.word.specs.Word.{isWidth}
 use Rattle.table.specs.Row.{lengthFits}
 use Rattle.machine.specs.declared.Answer.the-variants.{Refused}
 use Rattle.machine.specs.declared.Refusal.the-variants.{TableLength}
 use Rattle.machine.specs.Answer.{refusalNumber, isRunning, need, _>>_}
 use Rattle.machine.specs.State.{fresh, isFinished, testsOf}
 use Rattle.machine.specs.Sound.{Lent, Engine, sound}
-use Rattle.machine.specs.Step.{Outcome, RunOutcome, unchanged, outcome, plan, step, engineOf, ending, runFrom, run}
-use Rattle.machine.proofs.Fresh.{fresh-sound}
+use Rattle.machine.specs.Step.{Outcome, RunOutcome, unchanged, outcome, plan, stepAt, step, engineOf, ending, runFrom, run}
+use Rattle.machine.proofs.Starting.{fresh-sound}
 use Rattle.tour.specs.Tour.{tableOf, numbers, played, codes, codesLine, digitsWithin, decimal, answerText, lastLine, lines, printed, newline, blank}
 
 -- a fresh engine with a table of the wrong length
 module _ (l : Lent) (ws : List ℕ) (short : lengthFits (l .table) ≡ false) where
   abbrev start : Engine
-  start = record { state = fresh; storage = ws }
+  start = record { state = fresh 36; storage = ws }
 
-  first-refused : step 36 l start ≡ unchanged (Refused TableLength) l start
-  unfolding step outcome plan need _>>_ fresh isFinished testsOf
+  first-refused : step l start ≡ unchanged (Refused TableLength) l start
+  unfolding step stepAt isWidth outcome plan need _>>_ fresh isFinished testsOf
   first-refused = rw (fresh-sound 36 l ws, short)
 
   -- a run whose first step leaves this
   goes-on : ℕ → Outcome → RunOutcome
   goes-on limit o =
       elim (isRunning (o .stepped .answer)) [
-        | true ↦ runFrom 1 36 limit (record { table = l .table; input = l .input; output = o .output }) (engineOf o)
+        | true ↦ runFrom 1 limit (record { table = l .table; input = l .input; output = o .output }) (engineOf o)
         | false ↦ ending (o .stepped .answer) 1 (engineOf o) (o .output)
       ]
 
-  run-refused : (limit : ℕ) → run 36 (suc limit) l start ≡ ending (Refused TableLength) 1 start (l .output)
+  run-refused : (limit : ℕ) → run (suc limit) l start ≡ ending (Refused TableLength) 1 start (l .output)
   unfolding run runFrom isRunning unchanged engineOf goes-on
   run-refused limit = ap (goes-on limit) first-refused
 

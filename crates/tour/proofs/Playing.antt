@@ -11,7 +11,7 @@ use lib.Seq.{take-all}
 use Rattle.machine.specs.declared.State.{State}
 use Rattle.machine.specs.State.{fresh}
 use Rattle.machine.specs.Step.{RunOutcome, run, engineRan}
-use Rattle.machine.proofs.Fresh.{fresh-sound}
+use Rattle.machine.proofs.Starting.{fresh-sound}
 use Rattle.machine.proofs.Soundness.{run-keeps-sound, counts-fit, lentRan}
 use Rattle.tour.specs.Tour.{tableOf, played, codes, lines, printed}
 use Rattle.tour.specs.Put.{putBefore}
@@ -31,8 +31,8 @@ take-least n xs =
 
 -- the run of what was read
 pub run-played : (tab stops first : List ℕ) {table : List ℕ} {count given : ℕ} {state : State} {r : RunOutcome} → count ≡ length (tableOf tab)
-    → table ≡ putBefore count (tableOf tab) first → given ≡ min (length stops) 4096 → state ≡ fresh
-    → r ≡ run 36 100000 (record { table = take count table; input = take given stops; output = replicate 4096 0 })
+    → table ≡ putBefore count (tableOf tab) first → given ≡ min (length stops) 4096 → state ≡ fresh 36
+    → r ≡ run 100000 (record { table = take count table; input = take given stops; output = replicate 4096 0 })
     (record { state = state; storage = replicate 4096 0 })
     → r ≡ played tab stops
 unfolding played
@@ -40,10 +40,10 @@ run-played tab stops first {table} {count} n t g s is = is ∙ rw (t, take-put (
 
 -- no more codes are written than the output holds
 pub written-fits : (tab stops : List ℕ) {r : RunOutcome} → r ≡ played tab stops → r .ran .state .core .written ≤ length (r .output)
-unfolding played run engineRan lentRan
+unfolding played run engineRan lentRan fresh
 written-fits tab stops is =
     rw is
-    (counts-fit 36 _ _ (run-keeps-sound 36 0 100000 _ _ (fresh-sound 36 _ _)) .1)
+    (counts-fit _ _ _ (run-keeps-sound 0 100000 _ _ (fresh-sound 36 _ _)) .1)
 
 -- what is printed of it
 pub printed-is : (tab stops : List ℕ) {r : RunOutcome} → r ≡ played tab stops → lines (codes r) (r .ran .answer) (r .ran .count) ≡ printed tab stops

@@ -21,11 +21,11 @@ numbers (suc n) bytes = lowFirst (take 8 bytes) ∷ numbers n (drop 8 bytes)
 unfoldable pub tableOf : List ℕ → List ℕ
 tableOf tab = cond (eqb (length tab % 8) 0 && leb (length tab) 64000) (numbers (length tab / 8) tab) []
 
--- 100,000 steps of a fresh engine over 4,096 words, with the first 4,096 bytes of stops.in and 4,096 output bytes
+-- 100,000 steps of a fresh engine of 36 bits over 4,096 words, with the first 4,096 bytes of stops.in and 4,096 output bytes
 unfoldable pub played : List ℕ → List ℕ → RunOutcome
 played tab stops =
-    run 36 100000 (record { table = tableOf tab; input = take 4096 stops; output = replicate 4096 0 })
-    (record { state = fresh; storage = replicate 4096 0 })
+    run 100000 (record { table = tableOf tab; input = take 4096 stops; output = replicate 4096 0 })
+    (record { state = fresh 36; storage = replicate 4096 0 })
 
 -- the codes written
 unfoldable pub codes : RunOutcome → List ℕ

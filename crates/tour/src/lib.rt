@@ -7,8 +7,9 @@ ghost use Rattle.tour.specs.Put.{putBefore};
 
 pub mod numbers;
 pub mod text;
+pub mod width;
 
-use engine::fresh;
+use engine::fresh_state;
 use engine::run;
 use numbers::read_table;
 use text::put_lines;
@@ -19,6 +20,9 @@ fn least(a: usize, b: usize) -> usize
 {
     if a < b { a } else { b }
 }
+
+// tourrun's words have 36 bits.
+const WIDTH: u8 = 36;
 
 // Runs a tour and puts what tourrun prints at the end of the text. Returns where it starts.
 pub fn play(tab: &[u8], stops: &[u8], text: &mut [u8; 12331]) -> usize
@@ -35,7 +39,7 @@ pub fn play(tab: &[u8], stops: &[u8], text: &mut [u8; 12331]) -> usize
         &mut storage,
         &stops[..given],
         &mut output,
-        fresh(),
+        fresh_state(WIDTH),
         100000,
     );
     let state = ran.state;

@@ -1,7 +1,8 @@
-// tourread: reads tour.l6 and writes tour.tab, or prints the line of a fault. What it writes and prints is proved of what it reads (crate
-// tourtext).
+// tourread: reads tour.l6 and writes tour.tab, or prints the line of a fault. It takes a width as its argument, 36 or 48, and 36 where there is
+// none. What it writes and prints is proved of what it reads (crate tourtext).
 use files::read_file;
 use libc::STDOUT_FILENO;
+use tour::width::width_of;
 use tourtext::translate;
 
 // Writes tour.tab anew.
@@ -18,12 +19,19 @@ fn main() {
     let mut typed = io::large_buffer();
     let mut tab = [0u8; 64000];
     let mut printed = [0u8; 128];
+    let mut word = [0u8; 8];
+    let asked = files::first_word(&mut word);
     let given = read_file(b"tour.l6", &mut typed);
     if given == 65536 {
         io::write_all(STDOUT_FILENO, b"tour.l6 has more than 65535 bytes\n");
         return;
     }
-    let done = translate(&typed[..given], &mut tab, &mut printed);
+    let done = translate(
+        width_of(&word[..asked]),
+        &typed[..given],
+        &mut tab,
+        &mut printed,
+    );
     let bytes = done.bytes;
     let start = done.start;
     if 0 < bytes {

@@ -4,21 +4,22 @@ use native.Mathlib.Nat.{zero-add}
 use native.Mathlib.Numerals.{add-one}
 use native.Mathlib.Omega.{arith}
 use mathlib.Core.Path.{_≡_, refl, ap, ap₂, sym, subst, _∙_}
-use mathlib.Core.Bool.{Bool, true, false, cond}
+use mathlib.Core.Bool.{Bool, true, false, _&&_, cond}
 use mathlib.Core.List.{List, [], _∷_, _++_}
 use borrow.Author.Tests.{eq-eqb, ne-eqb}
 use lib.Dec.{eqb}
 use lib.ListN.{length, take, drop, getD, replicate, length-append, length-drop, drop-of-length-le}
 use lib.Seq.{drop-cons, length-take-le}
-use Rattle.word.proofs.Tests.{by-eqb}
+use Rattle.word.specs.Word.{isWidth}
+use Rattle.word.proofs.Tests.{by-test, by-eqb}
 use Rattle.octets.specs.Octets.{bytesOf}
 use Rattle.lines.specs.declared.Read.{Read}
-use Rattle.lines.specs.declared.Read.the-variants.{Rows, BadLine, BadLabel, TooLong}
-use Rattle.lines.specs.Program.{rowCount, refusalOf, program, Left, reading, readCount, Numbered}
+use Rattle.lines.specs.declared.Read.the-variants.{Rows, NoWidth, BadLine, BadLabel, TooLong}
+use Rattle.lines.specs.Program.{rowCount, refusalOf, program, Left, readAt, readCount, Numbered}
 use Rattle.lines.proofs.Accepted.{accepted}
 use Rattle.typed.specs.Putting.{putAt}
 use Rattle.typed.proofs.Putting.{put-nothing, put-put, put-long}
-use Rattle.tourtext.specs.Translation.{filed, faultLine, tourRead, fileBy, fileOf, printedBy, printedOf}
+use Rattle.tourtext.specs.Translation.{filed, faultLine, widthLine, tourRead, fileBy, fileOf, printedBy, printedOf}
 use Rattle.tour.specs.Put.{putBefore}
 use Rattle.tour.proofs.Putting.{put-none}
 
@@ -84,71 +85,82 @@ filing-none table tab room =
       rest = ap (λ (n : ℕ). filed table ++ drop n tab) (zero-add (length (filed table)) ∙ filed-long table);
     }
 
-most : (text : List ℕ) → cond (eqb (refusalOf 36 8000 text .number) 0) (rowCount (program 36 text)) 0 ≤ 800
-most text = by-eqb (λ x. cond x (rowCount (program 36 text)) 0 ≤ 800) (refusalOf 36 8000 text .number) 0 (λ z. accepted 36 8000 text z .short)
+most : (b : ℕ) (text : List ℕ) → cond (isWidth b && eqb (refusalOf b 8000 text .number) 0) (rowCount (program b text)) 0 ≤ 800
+most b text =
+    by-test (λ x. cond (x && eqb (refusalOf b 8000 text .number) 0) (rowCount (program b text)) 0 ≤ 800) (isWidth b)
+    (λ _. by-eqb (λ x. cond x (rowCount (program b text)) 0 ≤ 800) (refusalOf b 8000 text .number) 0 (λ z. accepted b 8000 text z .short)
+    (λ _. omega arith))
     (λ _. omega arith)
 
 -- what the call answers tells the file and the line
-module _ (text : List ℕ) {answer : Read} {table : List ℕ} (e : record { answer = answer; table = table } ≡ reading 36 text (replicate 8000 0)) where
-  pub file-is : fileBy answer table ≡ fileOf text
+module _ (b : ℕ) (text : List ℕ) {answer : Read} {table : List ℕ} (e : record { answer = answer; table = table } ≡ readAt b text (replicate 8000 0)) where
+  pub file-is : fileBy answer table ≡ fileOf b text
   unfolding fileOf tourRead
   file-is = ap (λ (l : Left). fileBy (l .answer) (l .table)) e
 
-  pub printed-is : printedBy answer ≡ printedOf text
+  pub printed-is : printedBy answer ≡ printedOf b text
   unfolding printedOf tourRead
   printed-is = ap (λ (l : Left). printedBy (l .answer)) e
 
   -- by the answer
   module _ {n : ℕ} (is : answer ≡ Rows n) where
-    pub rows-file : filed (take (10 * n) table) ≡ fileOf text
+    pub rows-file : filed (take (10 * n) table) ≡ fileOf b text
     unfolding fileBy
     rows-file = sym (ap (λ (r : Read). fileBy r table) is) ∙ file-is
 
-    pub rows-printed : [] ≡ printedOf text
+    pub rows-printed : [] ≡ printedOf b text
     unfolding printedBy
     rows-printed = sym (ap printedBy is) ∙ printed-is
 
-    pub rows-few : Numbered 36 text (replicate 8000 0) answer → n ≤ 800
+    pub rows-few : Numbered b text (replicate 8000 0) answer → n ≤ 800
     unfolding readCount
-    rows-few m = subst (λ (k : ℕ). k ≤ 800) (sym (ap readCount (sym is) ∙ m .count)) (most text)
+    rows-few m = subst (λ (k : ℕ). k ≤ 800) (sym (ap readCount (sym is) ∙ m .count)) (most b text)
+
+  pub width-file : answer ≡ NoWidth → [] ≡ fileOf b text
+  unfolding fileBy
+  width-file is = sym (ap (λ (r : Read). fileBy r table) is) ∙ file-is
+
+  pub width-printed : answer ≡ NoWidth → widthLine ≡ printedOf b text
+  unfolding printedBy
+  width-printed is = sym (ap printedBy is) ∙ printed-is
 
   module _ {line : ℕ} where
-    pub line-file : answer ≡ BadLine line → [] ≡ fileOf text
+    pub line-file : answer ≡ BadLine line → [] ≡ fileOf b text
     unfolding fileBy
     line-file is = sym (ap (λ (r : Read). fileBy r table) is) ∙ file-is
 
-    pub label-file : answer ≡ BadLabel line → [] ≡ fileOf text
+    pub label-file : answer ≡ BadLabel line → [] ≡ fileOf b text
     unfolding fileBy
     label-file is = sym (ap (λ (r : Read). fileBy r table) is) ∙ file-is
 
-    pub long-file : answer ≡ TooLong line → [] ≡ fileOf text
+    pub long-file : answer ≡ TooLong line → [] ≡ fileOf b text
     unfolding fileBy
     long-file is = sym (ap (λ (r : Read). fileBy r table) is) ∙ file-is
 
-    pub line-printed : answer ≡ BadLine line → faultLine 23 line ≡ printedOf text
+    pub line-printed : answer ≡ BadLine line → faultLine 23 line ≡ printedOf b text
     unfolding printedBy
     line-printed is = sym (ap printedBy is) ∙ printed-is
 
-    pub label-printed : answer ≡ BadLabel line → faultLine 24 line ≡ printedOf text
+    pub label-printed : answer ≡ BadLabel line → faultLine 24 line ≡ printedOf b text
     unfolding printedBy
     label-printed is = sym (ap printedBy is) ∙ printed-is
 
-    pub long-printed : answer ≡ TooLong line → faultLine 25 line ≡ printedOf text
+    pub long-printed : answer ≡ TooLong line → faultLine 25 line ≡ printedOf b text
     unfolding printedBy
     long-printed is = sym (ap printedBy is) ∙ printed-is
 
 -- what is left of the buffers, by what is written and printed
-pub record Translating (text tab printed tabAfter printedAfter : List ℕ) (bytes start : ℕ) : Type 0 where
-  pub bytes-are : bytes ≡ length (fileOf text)
-  pub starts : start + length (printedOf text) ≡ 128
+pub record Translating (b : ℕ) (text tab printed tabAfter printedAfter : List ℕ) (bytes start : ℕ) : Type 0 where
+  pub bytes-are : bytes ≡ length (fileOf b text)
+  pub starts : start + length (printedOf b text) ≡ 128
   pub tab-room : bytes ≤ length tabAfter
-  pub tab-is : tabAfter ≡ fileOf text ++ drop (length (fileOf text)) tab
-  pub printed-so : printedAfter ≡ putBefore 128 (printedOf text) printed
+  pub tab-is : tabAfter ≡ fileOf b text ++ drop (length (fileOf b text)) tab
+  pub printed-so : printedAfter ≡ putBefore 128 (printedOf b text) printed
 
-pub by-rows : (text tab printed table tabAfter : List ℕ) {n bytes start : ℕ} → bytes ≤ length tabAfter → n ≤ 800 → length table ≡ 8000
-    → filed (take (10 * n) table) ≡ fileOf text → [] ≡ printedOf text
-    → bytes ≡ 80 * n → start ≡ 128 → tabAfter ≡ filed (take (10 * n) table) ++ drop (80 * n) tab → Translating text tab printed tabAfter printed bytes start
-by-rows text tab printed table tabAfter {n} {bytes} {start} within few room f p size at is =
+pub by-rows : (b : ℕ) (text tab printed table tabAfter : List ℕ) {n bytes start : ℕ} → bytes ≤ length tabAfter → n ≤ 800 → length table ≡ 8000
+    → filed (take (10 * n) table) ≡ fileOf b text → [] ≡ printedOf b text
+    → bytes ≡ 80 * n → start ≡ 128 → tabAfter ≡ filed (take (10 * n) table) ++ drop (80 * n) tab → Translating b text tab printed tabAfter printed bytes start
+by-rows b text tab printed table tabAfter {n} {bytes} {start} within few room f p size at is =
     let taken = length-take-le (10 * n) table (omega arith) in
     let long : length (filed (take (10 * n) table)) ≡ 80 * n = filed-long (take (10 * n) table) ∙ omega arith in
     record {
@@ -159,10 +171,10 @@ by-rows text tab printed table tabAfter {n} {bytes} {start} within few room f p 
       printed-so = rw (← p) (sym (put-none 128 printed));
     }
 
-pub by-fault : (text tab printed line printedAfter : List ℕ) {bytes start : ℕ} → [] ≡ fileOf text → line ≡ printedOf text → bytes ≡ 0
+pub by-fault : (b : ℕ) (text tab printed line printedAfter : List ℕ) {bytes start : ℕ} → [] ≡ fileOf b text → line ≡ printedOf b text → bytes ≡ 0
     → start + length line ≡ 128
-    → printedAfter ≡ putBefore 128 line printed → Translating text tab printed tab printedAfter bytes start
-by-fault text tab printed line printedAfter f p long at is =
+    → printedAfter ≡ putBefore 128 line printed → Translating b text tab printed tab printedAfter bytes start
+by-fault b text tab printed line printedAfter f p long at is =
     record {
       bytes-are = long ∙ ap length f;
       tab-room = omega arith;

@@ -4,7 +4,7 @@ ghost use mathlib.Core.List.{_++_};
 ghost use Prim.Native.Nat.{_+_, _*_, _≤_};
 ghost use lib.ListN.{length, take, drop};
 ghost use Rattle.tour.specs.Put.{putBefore};
-ghost use Rattle.tourtext.specs.Translation.{filed, meaning, faultLine, fileOf, printedOf};
+ghost use Rattle.tourtext.specs.Translation.{filed, meaning, faultLine, widthLine, fileOf, printedOf};
 use lines::Read;
 use octets::put_number;
 use tour::text::put;
@@ -93,17 +93,27 @@ fn fault(printed: &mut [u8; 128], number: u64, line: u64) -> Translated
     Translated { bytes: 0, start }
 }
 
-// Reads a text: the bytes of tour.tab at the start of tab, and what is printed at the end of printed.
-pub fn translate(text: &[u8], tab: &mut [u8; 64000], printed: &mut [u8; 128]) -> Translated
-    ensures { λ r. ⌜ (r .bytes ≡ length (fileOf (now (text .entry)))) × (r .start + length (printedOf (now (text .entry))) ≡ 128) ⌝ }
-    ensures { λ _. ⌜ now (tab .exit) ≡ fileOf (now (text .entry)) ++ drop (length (fileOf (now (text .entry)))) (now (tab .entry)) ⌝ }
-    ensures { λ _. ⌜ now (printed .exit) ≡ putBefore 128 (printedOf (now (text .entry))) (now (printed .entry)) ⌝ }
+// Nothing for the file, and that the width is none.
+fn no_width(printed: &mut [u8; 128]) -> Translated
+    ensures { λ r. ⌜ (r .bytes ≡ 0) × (r .start + length widthLine ≡ 128) ⌝ }
+    ensures { λ _. ⌜ now (printed .exit) ≡ putBefore 128 widthLine (now (printed .entry)) ⌝ }
+{
+    let start = put_word(printed, 128, b"31 words have 36 or 48 bits\n");
+    Translated { bytes: 0, start }
+}
+
+// Reads a text for words of b bits: the bytes of tour.tab at the start of tab, and what is printed at the end of printed.
+pub fn translate(b: u64, text: &[u8], tab: &mut [u8; 64000], printed: &mut [u8; 128]) -> Translated
+    ensures { λ r. ⌜ (r .bytes ≡ length (fileOf b (now (text .entry)))) × (r .start + length (printedOf b (now (text .entry))) ≡ 128) ⌝ }
+    ensures { λ _. ⌜ now (tab .exit) ≡ fileOf b (now (text .entry)) ++ drop (length (fileOf b (now (text .entry)))) (now (tab .entry)) ⌝ }
+    ensures { λ _. ⌜ now (printed .exit) ≡ putBefore 128 (printedOf b (now (text .entry))) (now (printed .entry)) ⌝ }
     ensures within { λ r. ⌜ r .bytes ≤ length (now (tab .exit)) ⌝ }
 {
     let mut table = [0u64; 8000];
-    let answer = read(text, &mut table);
+    let answer = read(b, text, &mut table);
     match answer {
         Read::Rows(rows) => put_rows(&table, tab, rows),
+        Read::NoWidth => no_width(printed),
         Read::BadLine(line) => fault(printed, 23, line),
         Read::BadLabel(line) => fault(printed, 24, line),
         Read::TooLong(line) => fault(printed, 25, line),

@@ -8,12 +8,13 @@ use mathlib.Core.Option.{Option, some}
 use borrow.Author.Tests.{eq-eqb, ne-eqb}
 use lib.Dec.{eqb}
 use lib.ListN.{length, take, drop}
+use Rattle.word.specs.Word.{isWidth}
 use Rattle.word.proofs.Tests.{by-test, by-eqb}
 use Rattle.lines.specs.declared.Read.{Read}
-use Rattle.lines.specs.declared.Read.the-variants.{Rows, BadLine, BadLabel, TooLong}
+use Rattle.lines.specs.declared.Read.the-variants.{Rows, NoWidth, BadLine, BadLabel, TooLong}
 use Rattle.lines.specs.Grammar.{Line, Typed}
 use Rattle.lines.specs.Reading.{readLine, cut, readLines}
-use Rattle.lines.specs.Program.{tableOf, rowCount, keptLines, badLabels, tooLong, faultOf, Refusal, noRefusal, lowestFault, refusalOf, program, Left, refused, reading, readNumber, readCount, readFault, Numbered}
+use Rattle.lines.specs.Program.{tableOf, rowCount, keptLines, badLabels, tooLong, faultOf, Refusal, noRefusal, lowestFault, refusalOf, program, Left, refused, reading, readAt, readNumber, readCount, readFault, Numbered}
 use Rattle.lines.proofs.Accepted.{Accepted, accepted}
 use Rattle.faults.specs.Places.{linesIn}
 use Rattle.faults.specs.Names.{Known}
@@ -143,14 +144,25 @@ module _ (r : Refusal) (f : Fair r) (n : ℕ) where
   unfolding readFault
   placed = by-eqb (λ x. readFault (cond x (Rows n) (refused r)) ≡ r .line) (r .number) 0 (λ z. sym (f .no-line z)) (λ _. fault-line r)
 
-pub numbers : (b : ℕ) (text table : List ℕ) {answer : Read} {after : List ℕ} → record { answer = answer; table = after } ≡ reading b text table
-    → Numbered b text table answer
-numbers b text table {answer} e =
-    let its = refusalOf b (length table) text in
-    let fair-its = fair-text b (length table) text in
-    let is : answer ≡ cond (eqb (its .number) 0) (Rows (rowCount (program b text))) (refused its) = ap (λ (l : Left). l .answer) e ∙ answer-is b text table in
-    record {
-      number = ap readNumber is ∙ numbered its fair-its (rowCount (program b text));
-      count = ap readCount is ∙ counted its fair-its (rowCount (program b text));
-      fault = ap readFault is ∙ placed its fair-its (rowCount (program b text));
-    }
+module _ (b : ℕ) (text table : List ℕ) where
+  -- a width that is none
+  pub no-width-reading : isWidth b ≡ false → (record { answer = NoWidth; table = table } ≡ readAt b text table) × Numbered b text table NoWidth
+  unfolding readAt readNumber readCount readFault
+  no-width-reading w = (rw w, record { number = rw w; count = rw w; fault = rw w })
+
+  -- otherwise a reading and its numbers
+  pub numbers : isWidth b ≡ true → {answer : Read} {after : List ℕ} → record { answer = answer; table = after } ≡ reading b text table
+      → (record { answer = answer; table = after } ≡ readAt b text table) × Numbered b text table answer
+  unfolding readAt
+  numbers w {answer} e =
+      let its = refusalOf b (length table) text in
+      let fair-its = fair-text b (length table) text in
+      let is : answer ≡ cond (eqb (its .number) 0) (Rows (rowCount (program b text))) (refused its)
+      = ap (λ (l : Left). l .answer) e ∙ answer-is b text table in (
+        rw w e,
+        record {
+          number = rw w (ap readNumber is ∙ numbered its fair-its (rowCount (program b text)));
+          count = rw w (ap readCount is ∙ counted its fair-its (rowCount (program b text)));
+          fault = rw w (ap readFault is ∙ placed its fair-its (rowCount (program b text)));
+        },
+      )

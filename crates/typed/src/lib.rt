@@ -2,7 +2,7 @@
 ghost use mathlib.Core.Path.{_≡_};
 ghost use Prim.Native.Nat.{_≤_};
 ghost use lib.ListN.{length};
-ghost use Rattle.lines.specs.Program.{reading, refused, Numbered};
+ghost use Rattle.lines.specs.Program.{reading, refused, readAt, Numbered};
 ghost use Rattle.faults.specs.Names.{Known};
 
 pub mod pairs;
@@ -12,6 +12,7 @@ pub mod writing;
 use faults::judging::judge;
 use faults::seeking::learn;
 use lines::Read;
+use word::is_width;
 use writing::put_text;
 
 // Tests or operations of a line: where they begin, how many they are, and the row of the first.
@@ -63,7 +64,7 @@ fn read_with(b: u64, text: &[u8], keys: &mut [u64], rows: &mut [u64], table: &mu
     read_known(b, text, &keys[0..n], &rows[0..n], table)
 }
 
-// Reads a text at a width.
+// Reads a text whose words have b bits.
 pub fn read_at(b: u64, text: &[u8], table: &mut [u64]) -> Read
     requires { ⌜ b ≤ 48 ⌝ }
     ensures { λ r. ⌜ record { answer = r; table = now (table .exit) } ≡ reading b (now (text .entry)) (now (table .entry)) ⌝ }
@@ -73,10 +74,13 @@ pub fn read_at(b: u64, text: &[u8], table: &mut [u64]) -> Read
     read_with(b, text, &mut keys, &mut rows, table)
 }
 
-// Reads a text into the lent table.
-pub fn read(text: &[u8], table: &mut [u64]) -> Read
-    ensures { λ r. ⌜ record { answer = r; table = now (table .exit) } ≡ reading 36 (now (text .entry)) (now (table .entry)) ⌝ }
-    ensures numbered { λ r. ⌜ Numbered 36 (now (text .entry)) (now (table .entry)) r ⌝ }
+// Reads a text into the lent table, for words of b bits: 31, 23, 24, 25.
+pub fn read(b: u64, text: &[u8], table: &mut [u64]) -> Read
+    ensures { λ r. ⌜ record { answer = r; table = now (table .exit) } ≡ readAt b (now (text .entry)) (now (table .entry)) ⌝ }
+    ensures numbered { λ r. ⌜ Numbered b (now (text .entry)) (now (table .entry)) r ⌝ }
 {
-    read_at(36, text, table)
+    if !is_width(b) {
+        return Read::NoWidth;
+    }
+    read_at(b, text, table)
 }

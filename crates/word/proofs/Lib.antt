@@ -6,3 +6,4 @@ pub mod Modulo
 pub mod Bitwise
 pub mod Places
 pub mod Nearest
+pub mod Width

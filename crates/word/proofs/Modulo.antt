@@ -9,6 +9,12 @@ use lib.Pow.{pow-mono, pow-add, shl-lt, mod-mod-pow}
 pub mod-mod-le : (n : ℕ) {b m : ℕ} → b ≤ m → n % 2 ^ m % 2 ^ b ≡ n % 2 ^ b
 mod-mod-le n {b} {m} h = ap (λ (k : ℕ). n % 2 ^ k % 2 ^ b) (sym (sub-add-cancel h)) ∙ mod-mod-pow n (m - b) b
 
+-- a difference that wrapped at 64 bits and is not negative is itself
+pub unwrapped : (x y r : ℕ) → y ≤ x → r < 2 ^ 64 → (r + y) % 2 ^ 64 ≡ x → r ≡ x - y
+unwrapped x y r less small is =
+    let whole = div-add-mod' (r + y) (2 ^ 64) in
+    omega (arith, is, whole)
+
 -- half a word shifted by the width of the other half, and the product of two halves: h is at most 31
 module _ (h : ℕ) {a : ℕ} (g : h ≤ 31) (k : a < 2 ^ h) where
   pub shifted-lt : a * 2 ^ h < 2 ^ 62

@@ -1,8 +1,12 @@
--- Words of b bits as numbers below 2 ^ b, and what the operations 8 to 23 make of them. The engine's b is 36.
--- Document 01: "Words and set-up" and "Operations". Assumes nothing.
+-- Words of b bits as numbers below 2 ^ b, and what the operations 8 to 23 make of them. An engine's b is 36 or 48.
+-- Document 01: "Words and set-up" and "Operations"; document 02, ticket 9. Assumes nothing.
 use Prim.Native.Nat.{ℕ, zero, suc, _+_, _-_, _*_, _/_, _%_, _^_, min, max}
-use mathlib.Core.Bool.{_&&_, _||_, cond}
+use mathlib.Core.Bool.{Bool, _&&_, _||_, cond}
 use lib.Dec.{eqb, leb, ltb}
+
+-- the widths of an engine's words; with any other a call answers 31 (ticket 9)
+unfoldable pub isWidth : ℕ → Bool
+isWidth b = eqb b 36 || eqb b 48
 
 -- bit p of a word of b bits; bit 0 is leftmost
 unfoldable pub bit : ℕ → ℕ → ℕ → ℕ

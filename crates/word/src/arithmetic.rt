@@ -28,12 +28,12 @@ pub fn add(b: u64, x: u64, y: u64) -> u64
     low_bits(b, num::wrapping_add_u64(x, y))
 }
 
-// 9 subtract: x - y, where y is not greater.
-pub fn subtract(x: u64, y: u64) -> u64
-    requires { ⌜ y ≤ x ⌝ }
+// 9 subtract: x - y modulo 2^b. Where y is not greater, the difference is its own remainder.
+pub fn subtract(b: u64, x: u64, y: u64) -> u64
+    requires { ⌜ (b < 64) × (y ≤ x) × (x < 2 ^ b) ⌝ }
     ensures { λ r. ⌜ r ≡ x - y ⌝ }
 {
-    x - y
+    low_bits(b, num::wrapping_sub_u64(x, y))
 }
 
 // 10 multiply: x * y modulo 2^b, on halves; the product of the two high halves lies above the b bits.

@@ -7,7 +7,8 @@ use borrow.Author.Tests.{not-true, not-false, eqb-true}
 use lib.ListN.{length}
 use Rattle.columns.specs.Columns.{groupsOf}
 use Rattle.columns.proofs.Back.{room}
-use Rattle.columns.proofs.Calls.{width-range, loading-no-width, loading-uneven, loading-filled, loading-short, loading-done}
+use Rattle.columns.proofs.Calls.{loading-no-width, loading-uneven, loading-filled, loading-short, loading-done}
+use Rattle.word.proofs.Width.{width-range}
 use borrow.Author.Needs.{needs}
 use Rattle.columns.proofs.load.Statement.{statement}
 use Rattle.columns.proofs.load.Tie as tie

@@ -3,7 +3,8 @@ use Prim.Native.Nat.{ℕ, _*_}
 use mathlib.Core.Path.{sym, ap, _∙_}
 use native.Mathlib.Omega.{arith}
 use borrow.Author.Tests.{not-true, not-false}
-use Rattle.columns.proofs.Calls.{width-range, groups-short, groups-fit, saving-no-width, saving-wide, saving-short, saving-done}
+use Rattle.columns.proofs.Calls.{groups-short, groups-fit, saving-no-width, saving-wide, saving-short, saving-done}
+use Rattle.word.proofs.Width.{width-range}
 use borrow.Author.Needs.{needs}
 use Rattle.columns.proofs.save.Statement.{statement}
 use Rattle.columns.proofs.save.Tie as tie

@@ -5,10 +5,10 @@ use Rattle.comparison.proofs.play_all.Statement.{statement}
 use Rattle.comparison.proofs.play_all.Tie as tie
 
 abbrev Inv-loop : tie.InvT-loop
-Inv-loop file counts₀ cases at₀ which₀ counts at which = which ≤ cases
+Inv-loop file narrow₀ wide₀ cases at₀ which₀ narrow wide at which = which ≤ cases
 
 abbrev μ-loop : tie.MeasureT-loop
-μ-loop file counts₀ cases at₀ which₀ counts at which = cases - which
+μ-loop file narrow₀ wide₀ cases at₀ which₀ narrow wide at which = cases - which
 
 number-at-requires : tie.Need-number-at-requires Inv-loop μ-loop
 number-at-requires c κs = search needs
@@ -31,6 +31,9 @@ loop-again c = search needs
 write-requires : tie.Need-write-requires Inv-loop μ-loop
 write-requires c κs = search needs
 
+write-requires-2 : tie.Need-write-requires-2 Inv-loop μ-loop
+write-requires-2 c κs = search needs
+
 returns : tie.Need-returns Inv-loop μ-loop
 returns c = search needs
 
@@ -47,4 +50,5 @@ play-all-spec =
     loop-less
     loop-again
     write-requires
+    write-requires-2
     returns)

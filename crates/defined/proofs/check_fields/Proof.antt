@@ -1,108 +1,92 @@
--- `defined::check_fields` meets its contract. Assumes nothing.
-use Rattle.defined.proofs.Answering.{bad-length, ill-formed, has-long, wrong-kind, accepted, answers-no, answers-yes, promised}
+-- `defined::check_fields` meets its contract: check by check. Assumes nothing.
 use mathlib.Core.Path.{sym, _∙_}
-use native.Mathlib.Omega.{arith}
+use borrow.Author.Tests.{not-true, not-false}
+use Rattle.defined.proofs.Answering.{no-width, bad-length, ill-formed, wrong-kind, accepted, answers-no, answers-yes, promised}
 use borrow.Author.Needs.{needs}
 use Rattle.defined.proofs.check_fields.Statement.{statement}
 use Rattle.defined.proofs.check_fields.Tie as tie
 
-check-requires : tie.Need-check-requires
-check-requires c κs = search needs
-
-enum-known-row : tie.Need-enum-known-row
-enum-known-row c = search needs
-
-enum-told : tie.Need-enum-told
-enum-told c = search needs
+is-width-requires : tie.Need-is-width-requires
+is-width-requires c κs = search needs
 
 returns : tie.Need-returns
-returns c =
-    let at-enum-told = c .enum-told in
-    let at-check = c .before .before .check in
-    promised _ _ (bad-length _ _ (rw (at-enum-told .given .1) at (at-check .ensures .0)))
+returns c = promised _ _ (no-width _ _ (sym (c .before .is-width .ensures) ∙ not-true _ (c .if1 .taken)))
+
+has-length-requires : tie.Need-has-length-requires
+has-length-requires c κs = search needs
 
 returns-2 : tie.Need-returns-2
 returns-2 c =
-    let at-args = c .before .before .before .before .before .before .args in
-    let at-row = c .before .before .row in
-    let at-check = c .before .before .before .before .check in
-    let at-if1 = c .if1 in
-    promised _ _ (ill-formed (at-args .b) (at-args .table .now) (at-row .given .0 .0) (rw (at-row .given .1) at (at-check .ensures .0)) (at-if1 .taken))
+    let at-if1 = c .before .before in
+    let wide = sym (at-if1 .before .is-width .ensures) ∙ not-false _ (at-if1 .if1 .left) in
+    promised _ _ (bad-length _ _ wide (sym (c .before .has-length .ensures) ∙ not-true _ (c .if2 .taken)))
 
-wrong-row-requires : tie.Need-wrong-row-requires
-wrong-row-requires c κs =
-    let at-args = c .before .before .before .before .before .before .args in
-    let at-row = c .before .before .row in
-    let at-check = c .before .before .before .before .check in
-    has-long (at-args .b) (at-args .table .now) (at-row .given .0 .0) (rw (at-row .given .1) at (at-check .ensures .0))
+lowest-ill-formed-requires : tie.Need-lowest-ill-formed-requires
+lowest-ill-formed-requires c κs = search needs
 
 returns-3 : tie.Need-returns-3
 returns-3 c =
-    let at-args = c .before .before .before .before .before .before .before .before .args in
-    let at-row = c .before .before .before .before .row in
-    let at-check = c .before .before .before .before .before .before .check in
-    let at-if1 = c .before .before .if1 in
-    let at-wrong-row = c .before .wrong-row in
-    let at-if2 = c .if2 in
-    promised _ _ (wrong-kind (at-args .b) (at-args .table .now) (at-row .given .0 .0) (rw (at-row .given .1) at (at-check .ensures .0))
-    (at-if1 .left) (at-wrong-row .ensures) (at-if2 .taken))
+    let at-if2 = c .before .before in
+    let at-if1 = at-if2 .before .before in
+    let wide = sym (at-if1 .before .is-width .ensures) ∙ not-false _ (at-if1 .if1 .left) in
+    let long = sym (at-if2 .before .has-length .ensures) ∙ not-false _ (at-if2 .if2 .left) in
+    promised _ _ (ill-formed _ _ wide long (c .before .lowest-ill-formed .ensures) (c .if3 .taken))
+
+wrong-row-requires : tie.Need-wrong-row-requires
+wrong-row-requires c κs = let at-if2 = c .before .before in sym (at-if2 .before .has-length .ensures) ∙ not-false _ (at-if2 .if2 .left)
+
+returns-4 : tie.Need-returns-4
+returns-4 c =
+    let at-if3 = c .before .before in
+    let at-if2 = at-if3 .before .before in
+    let at-if1 = at-if2 .before .before in
+    let wide = sym (at-if1 .before .is-width .ensures) ∙ not-false _ (at-if1 .if1 .left) in
+    let long = sym (at-if2 .before .has-length .ensures) ∙ not-false _ (at-if2 .if2 .left) in
+    promised _ _ (wrong-kind _ _ wide long (at-if3 .before .lowest-ill-formed .ensures) (at-if3 .if3 .left) (c .before .wrong-row .ensures) (c .if4 .taken))
 
 first-use-requires : tie.Need-first-use-requires
 first-use-requires c κs =
-    let at-args = c .before .before .before .before .before .before .before .before .args in
-    let at-row = c .before .before .before .before .row in
-    let at-check = c .before .before .before .before .before .before .check in
-    let at-if1 = c .before .before .if1 in
-    let at-wrong-row = c .before .wrong-row in
-    let at-if2 = c .if2 in
-    accepted (at-args .b) (at-args .table .now) (at-row .given .0 .0) (rw (at-row .given .1) at (at-check .ensures .0)) (at-if1 .left)
-    (sym (at-wrong-row .ensures) ∙ at-if2 .left)
+    let at-if3 = c .before .before in
+    let at-if2 = at-if3 .before .before in
+    let at-if1 = at-if2 .before .before in
+    let wide = sym (at-if1 .before .is-width .ensures) ∙ not-false _ (at-if1 .if1 .left) in
+    let long = sym (at-if2 .before .has-length .ensures) ∙ not-false _ (at-if2 .if2 .left) in
+    accepted _ _ wide long (at-if3 .before .lowest-ill-formed .ensures) (at-if3 .if3 .left) (sym (c .before .wrong-row .ensures) ∙ c .if4 .left)
 
 enum-known-first : tie.Need-enum-known-first
 enum-known-first c = search needs
 
-enum-told-2 : tie.Need-enum-told-2
-enum-told-2 c = search needs
-
-returns-4 : tie.Need-returns-4
-returns-4 c =
-    let at-args = c .before .before .before .before .before .before .before .before .before .before .before .args in
-    let at-row = c .before .before .before .before .before .before .before .row in
-    let at-check = c .before .before .before .before .before .before .before .before .before .check in
-    let at-if1 = c .before .before .before .before .before .if1 in
-    let at-wrong-row = c .before .before .before .before .wrong-row in
-    let at-if2 = c .before .before .before .if2 in
-    let at-enum-told2 = c .enum-told2 in
-    let at-first-use = c .before .before .first-use in
-    promised _ _ (answers-yes (at-args .b) (at-args .table .now) (at-row .given .0 .0) (rw (at-row .given .1) at (at-check .ensures .0))
-    (at-if1 .left) (sym (at-wrong-row .ensures) ∙ at-if2 .left) (rw (at-enum-told2 .given .1) at (at-first-use .ensures)))
+enum-told : tie.Need-enum-told
+enum-told c = search needs
 
 returns-5 : tie.Need-returns-5
 returns-5 c =
-    let at-args = c .before .before .before .before .before .before .before .before .before .before .before .before .args in
-    let at-row = c .before .before .before .before .before .before .before .before .row in
-    let at-check = c .before .before .before .before .before .before .before .before .before .before .check in
-    let at-if1 = c .before .before .before .before .before .before .if1 in
-    let at-wrong-row = c .before .before .before .before .before .wrong-row in
-    let at-if2 = c .before .before .before .before .if2 in
-    let at-first = c .before .first in
-    let at-first-use = c .before .before .before .first-use in
-    promised _ _ (answers-no (at-args .b) (at-args .table .now) (at-row .given .0 .0) (rw (at-row .given .1) at (at-check .ensures .0))
-    (at-if1 .left) (sym (at-wrong-row .ensures) ∙ at-if2 .left) _ _ (rw (at-first .given .1) at (at-first-use .ensures)))
+    let at-first-use = c .before .before in
+    let at-if4 = at-first-use .before in
+    let at-if3 = at-if4 .before .before in
+    let at-if2 = at-if3 .before .before in
+    let at-if1 = at-if2 .before .before in
+    let wide = sym (at-if1 .before .is-width .ensures) ∙ not-false _ (at-if1 .if1 .left) in
+    let long = sym (at-if2 .before .has-length .ensures) ∙ not-false _ (at-if2 .if2 .left) in
+    promised _ _ (answers-yes _ _ wide long (at-if3 .before .lowest-ill-formed .ensures) (at-if3 .if3 .left)
+    (sym (at-if4 .before .wrong-row .ensures) ∙ at-if4 .if4 .left) (rw (c .enum-told .given .1) at (at-first-use .first-use .ensures)))
+
+returns-6 : tie.Need-returns-6
+returns-6 c =
+    let at-first = c .before in
+    let at-first-use = at-first .before .before in
+    let at-if4 = at-first-use .before in
+    let at-if3 = at-if4 .before .before in
+    let at-if2 = at-if3 .before .before in
+    let at-if1 = at-if2 .before .before in
+    let wide = sym (at-if1 .before .is-width .ensures) ∙ not-false _ (at-if1 .if1 .left) in
+    let long = sym (at-if2 .before .has-length .ensures) ∙ not-false _ (at-if2 .if2 .left) in
+    promised _ _ (answers-no _ _ wide long (at-if3 .before .lowest-ill-formed .ensures) (at-if3 .if3 .left)
+    (sym (at-if4 .before .wrong-row .ensures) ∙ at-if4 .if4 .left) _ _
+    (rw (at-first .first .given .1) at (at-first-use .first-use .ensures)))
 
 pub check-fields-spec : {M : Type 1} → statement M
 check-fields-spec =
     tie.close
-    (tie.spec
-    check-requires
-    enum-known-row
-    enum-told
-    returns
-    returns-2
-    wrong-row-requires
-    returns-3
-    first-use-requires
-    enum-known-first
-    enum-told-2
-    returns-4
-    returns-5)
+    (tie.spec is-width-requires returns has-length-requires returns-2 lowest-ill-formed-requires returns-3 wrong-row-requires
+    returns-4 first-use-requires enum-known-first enum-told returns-5 returns-6)

@@ -48,7 +48,7 @@ returns c =
     let at-put-finding = c .put-finding in
     let is : take (at-read-table .result) (at-read-table .last .1 .0) ≡ tableOf (at-args .tab .now) = table-read (at-args .tab .now)
     (replicate 8000 0) (at-read-table .ensures .0) (at-read-table .ensures .1) in
-    let found = at-check-fields .ensures .0 ∙ ap (fieldsChecked 36) is in
+    let found = at-check-fields .ensures .0 ∙ ap (fieldsChecked (at-args .b)) is in
     rw found at (at-put-finding .ensures)
 
 pub diagnose-spec : {M : Type 1} → statement M

@@ -28,6 +28,15 @@ slice-aggregate-put-word-2 c = search needs
 put-word-requires-2 : tie.Need-put-word-requires-2
 put-word-requires-2 c κs = search needs
 
+enum-told-3 : tie.Need-enum-told-3
+enum-told-3 c = search needs
+
+slice-aggregate-put-word-3 : tie.Need-slice-aggregate-put-word-3
+slice-aggregate-put-word-3 c = search needs
+
+put-word-requires-3 : tie.Need-put-word-requires-3
+put-word-requires-3 c κs = search needs
+
 enum-known-found-2 : tie.Need-enum-known-found-2
 enum-known-found-2 c = search needs
 
@@ -66,11 +75,15 @@ returns-3 c = rw (c .before .before .before .enum-told2 .given .1) (c .put-word2
 
 returns-4 : tie.Need-returns-4
 unfolding findingLine spelled
-returns-4 c = rw (c .before .before .before .before .before .found2 .given .1) (c .put-row .ensures)
+returns-4 c = rw (c .before .before .before .enum-told3 .given .1) (c .put-word3 .ensures)
 
 returns-5 : tie.Need-returns-5
 unfolding findingLine spelled
-returns-5 c = rw (c .before .before .before .before .before .found3 .given .1) (c .put-row2 .ensures)
+returns-5 c = rw (c .before .before .before .before .before .found2 .given .1) (c .put-row .ensures)
+
+returns-6 : tie.Need-returns-6
+unfolding findingLine spelled
+returns-6 c = rw (c .before .before .before .before .before .found3 .given .1) (c .put-row2 .ensures)
 
 pub put-finding-spec : {M : Type 1} → statement M
 put-finding-spec =
@@ -84,6 +97,9 @@ put-finding-spec =
     enum-told-2
     slice-aggregate-put-word-2
     put-word-requires-2
+    enum-told-3
+    slice-aggregate-put-word-3
+    put-word-requires-3
     enum-known-found-2
     slice-aggregate-put-row
     slice-aggregate-put-row-2
@@ -96,4 +112,5 @@ put-finding-spec =
     returns-2
     returns-3
     returns-4
-    returns-5)
+    returns-5
+    returns-6)

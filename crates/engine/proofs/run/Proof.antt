@@ -10,11 +10,11 @@ use Rattle.engine.proofs.run.Tie as tie
 
 returns : tie.Need-returns
 returns c =
-    let is = runs-none _ _ _ _ (c .if1 .taken) in
+    let is = runs-none _ _ _ (c .if1 .taken) in
     (is, ap (λ (o : RunOutcome). answerNumber (o .ran .answer)) is)
 
 walk-from-requires : tie.Need-walk-from-requires
-walk-from-requires c κs = (omega arith, omega arith)
+walk-from-requires c κs = omega arith
 
 same-length : tie.Need-same-length
 same-length c = search needs
@@ -24,7 +24,7 @@ same-length-2 c = search needs
 
 returns-2 : tie.Need-returns-2
 returns-2 c =
-    let is = runs-some _ _ _ _ (c .before .before .before .before .before .before .before .before .if1 .left) (c .before .before .before .before .before .walk-from .ensures) in
+    let is = runs-some _ _ _ (c .before .before .before .before .before .before .before .before .if1 .left) (c .before .before .before .before .before .walk-from .ensures) in
     (is, ap (λ (o : RunOutcome). answerNumber (o .ran .answer)) is)
 
 pub run-spec : {M : Type 1} → statement M

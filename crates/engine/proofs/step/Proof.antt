@@ -9,7 +9,7 @@ use Rattle.engine.proofs.step.Statement.{statement}
 use Rattle.engine.proofs.step.Tie as tie
 
 walk-from-requires : tie.Need-walk-from-requires
-walk-from-requires c κs = (omega arith, omega arith)
+walk-from-requires c κs = omega arith
 
 same-length : tie.Need-same-length
 same-length c = search needs
@@ -19,7 +19,7 @@ same-length-2 c = search needs
 
 returns : tie.Need-returns
 returns c =
-    let is = steps-once _ _ _ _ _ (c .before .before .before .before .before .before .walk-from .ensures) in
+    let is = steps-once _ _ _ _ (c .before .before .before .before .before .before .walk-from .ensures) in
     (is, ap (λ (o : Outcome). answerNumber (o .stepped .answer)) is)
 
 pub step-spec : {M : Type 1} → statement M

@@ -33,7 +33,7 @@ same-length c = search needs
 
 returns : tie.Need-returns
 unfolding withSetUp extendedTo
-returns c = engine-made (c .before .before .before .before .before .before .before .before .before .before .before .args .last) (c .before .before .before .before .before .before .before .before .before .before .before .args .core) (c .before .before .before .before .before .before .before .before .before .before .before .args .first) _ (c .before .before .before .before .before .before .before .before .before .before .before .args .storage .now) _ (c .before .before .before .before .before .before .before .extend-map .ensures) (c .before .before .zero-words .ensures ∙ rw (c .before .before .before .before .words-of .ensures) refl)
+returns c = engine-made (c .before .before .before .before .before .before .before .before .before .before .before .args .last) (c .before .before .before .before .before .before .before .before .before .before .before .args .width) (c .before .before .before .before .before .before .before .before .before .before .before .args .core) (c .before .before .before .before .before .before .before .before .before .before .before .args .first) _ (c .before .before .before .before .before .before .before .before .before .before .before .args .storage .now) _ (c .before .before .before .before .before .before .before .extend-map .ensures) (c .before .before .zero-words .ensures ∙ rw (c .before .before .before .before .words-of .ensures) refl)
 
 pub grown-spec : {M : Type 1} → statement M
 grown-spec =

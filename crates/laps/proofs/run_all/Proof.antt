@@ -6,13 +6,13 @@ use Rattle.laps.proofs.run_all.Statement.{statement}
 use Rattle.laps.proofs.run_all.Tie as tie
 
 abbrev Inv-loop : tie.InvT-loop
-Inv-loop table storage₀ input output₀ limit calls state₀ answer₀ count₀ left₀ storage output state answer count left = (length storage ≡ length storage₀) × (length output ≡ length output₀)
+Inv-loop table storage₀ input output₀ asked state₀ answer₀ count₀ left₀ storage output state answer count left = (length storage ≡ length storage₀) × (length output ≡ length output₀)
 
 abbrev μ-loop : tie.MeasureT-loop
-μ-loop table storage₀ input output₀ limit calls state₀ answer₀ count₀ left₀ storage output state answer count left = left
+μ-loop table storage₀ input output₀ asked state₀ answer₀ count₀ left₀ storage output state answer count left = left
 
-fresh-requires : tie.Need-fresh-requires Inv-loop μ-loop
-fresh-requires c κs = search needs
+fresh-state-requires : tie.Need-fresh-state-requires Inv-loop μ-loop
+fresh-state-requires c κs = search needs
 
 loop-holds : tie.Need-loop-holds Inv-loop μ-loop
 loop-holds c = search needs
@@ -53,7 +53,7 @@ run-all-spec =
     (tie.spec
     Inv-loop
     μ-loop
-    fresh-requires
+    fresh-state-requires
     loop-holds
     run-requires
     answer-number-requires

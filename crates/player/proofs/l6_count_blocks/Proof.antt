@@ -3,19 +3,22 @@ use native.Mathlib.Omega.{arith}
 use mathlib.Core.Path.{sym, _∙_}
 use borrow.Author.Tests.{not-true, not-false}
 use lib.ListN.{length-set}
-use Rattle.player.proofs.Blocks.{can-list, counts-short, counts-unlisted, counts-unsound, counts-leave}
+use Rattle.player.proofs.Blocks.{can-list, fault-length, counts-faulty, counts-unlisted, counts-unsound, counts-leave}
 use borrow.Author.Needs.{needs}
 use Rattle.player.proofs.l6_count_blocks.Statement.{statement}
 use Rattle.player.proofs.l6_count_blocks.Tie as tie
 
+state-fault-requires : tie.Need-state-fault-requires
+state-fault-requires c κs = search needs
+
 returns : tie.Need-returns
-returns c = counts-short (c .before .before .before .args .state .now) (c .before .before .before .args .counts .now) (c .if1 .taken)
+returns c = counts-faulty _ _ (c .before .state-fault .ensures) (c .if1 .taken)
 
 returns-2 : tie.Need-returns-2
-returns-2 c = counts-unlisted (c .before .before .before .before .args .state .now) (c .before .before .before .before .args .counts .now) (c .before .if1 .left) (c .if2 .taken)
+returns-2 c = counts-unlisted _ _ (sym (c .before .before .state-fault .ensures) ∙ c .before .if1 .left) (c .if2 .taken)
 
 setup-at-requires : tie.Need-setup-at-requires
-setup-at-requires c κs = search needs
+setup-at-requires c κs = fault-length _ (sym (c .before .before .state-fault .ensures) ∙ c .before .if1 .left)
 
 sub-map : tie.Need-sub-map
 sub-map c = search needs
@@ -24,7 +27,7 @@ part-map-start : tie.Need-part-map-start
 part-map-start c = search needs
 
 part-map-end : tie.Need-part-map-end
-part-map-end c = search needs
+part-map-end c = omega (arith, fault-length _ (sym (c .before .before .before .state-fault .ensures) ∙ c .before .before .if1 .left))
 
 are-blocks-requires : tie.Need-are-blocks-requires
 are-blocks-requires c κs = search needs
@@ -35,8 +38,8 @@ returns-3 c =
     let at-setup-at = at-are-blocks .before .before in
     let at-if2 = at-setup-at .before in
     let at-if1 = at-if2 .before in
-    let entry = at-if1 .before .before .before in
-    counts-unsound (entry .args .state .now) (entry .args .counts .now) (at-if1 .if1 .left) (at-setup-at .setup-at .ensures) (at-if2 .if2 .left) (sym (at-are-blocks .are-blocks .ensures) ∙ not-true _ (c .if3 .taken))
+    let entry = at-if1 .before .before .before .before in
+    counts-unsound (entry .args .state .now) (entry .args .counts .now) (sym (at-if1 .before .state-fault .ensures) ∙ at-if1 .if1 .left) (at-setup-at .setup-at .ensures) (at-if2 .if2 .left) (sym (at-are-blocks .are-blocks .ensures) ∙ not-true _ (c .if3 .taken))
 
 count-blocks-requires : tie.Need-count-blocks-requires
 count-blocks-requires c κs = can-list _ _ (sym (c .before .are-blocks .ensures) ∙ not-false _ (c .if3 .left))
@@ -61,14 +64,15 @@ returns-4 c =
     let at-setup-at = at-are-blocks .before .before in
     let at-if2 = at-setup-at .before in
     let at-if1 = at-if2 .before in
-    let entry = at-if1 .before .before .before in
-    counts-leave (entry .args .state .now) (entry .args .counts .now) (at-if1 .if1 .left) (at-setup-at .setup-at .ensures) (at-if2 .if2 .left) (sym (at-are-blocks .are-blocks .ensures) ∙ not-false _ (at-if3 .if3 .left))
+    let entry = at-if1 .before .before .before .before in
+    counts-leave (entry .args .state .now) (entry .args .counts .now) (sym (at-if1 .before .state-fault .ensures) ∙ at-if1 .if1 .left) (at-setup-at .setup-at .ensures) (at-if2 .if2 .left) (sym (at-are-blocks .are-blocks .ensures) ∙ not-false _ (at-if3 .if3 .left))
     (at-count-blocks .count-blocks .ensures .0) (c .count-blocks2 .ensures .0)
 
 pub l6-count-blocks-spec : {M : Type 1} → statement M
 l6-count-blocks-spec =
     tie.close
     (tie.spec
+    state-fault-requires
     returns
     returns-2
     setup-at-requires

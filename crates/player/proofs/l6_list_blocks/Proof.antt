@@ -2,16 +2,19 @@
 use native.Mathlib.Omega.{arith}
 use mathlib.Core.Path.{sym, _∙_, refl}
 use borrow.Author.Tests.{not-true, not-false}
-use Rattle.player.proofs.Blocks.{can-list, room-for, blocks-short, blocks-unsound, blocks-unlisted, blocks-leave}
+use Rattle.player.proofs.Blocks.{can-list, fault-length, room-for, blocks-faulty, blocks-unsound, blocks-unlisted, blocks-leave}
 use borrow.Author.Needs.{needs}
 use Rattle.player.proofs.l6_list_blocks.Statement.{statement}
 use Rattle.player.proofs.l6_list_blocks.Tie as tie
 
+state-fault-requires : tie.Need-state-fault-requires
+state-fault-requires c κs = search needs
+
 returns : tie.Need-returns
-returns c = blocks-short (c .before .before .before .args .state .now) (c .before .before .before .args .list .now) (c .before .before .before .args .live) (c .if1 .taken)
+returns c = blocks-faulty _ _ _ (c .before .state-fault .ensures) (c .if1 .taken)
 
 setup-at-requires : tie.Need-setup-at-requires
-setup-at-requires c κs = search needs
+setup-at-requires c κs = fault-length _ (sym (c .before .state-fault .ensures) ∙ c .if1 .left)
 
 sub-map : tie.Need-sub-map
 sub-map c = search needs
@@ -20,7 +23,7 @@ part-map-start : tie.Need-part-map-start
 part-map-start c = search needs
 
 part-map-end : tie.Need-part-map-end
-part-map-end c = search needs
+part-map-end c = omega (arith, fault-length _ (sym (c .before .before .state-fault .ensures) ∙ c .before .if1 .left))
 
 are-blocks-requires : tie.Need-are-blocks-requires
 are-blocks-requires c κs = search needs
@@ -30,8 +33,8 @@ returns-2 c =
     let at-are-blocks = c .before in
     let at-setup-at = at-are-blocks .before .before in
     let at-if1 = at-setup-at .before in
-    let entry = at-if1 .before .before .before in
-    blocks-unsound (entry .args .state .now) (entry .args .list .now) (at-if1 .if1 .left) (at-setup-at .setup-at .ensures) (entry .args .live) (sym (at-are-blocks .are-blocks .ensures) ∙ not-true _ (c .if2 .taken))
+    let entry = at-if1 .before .before .before .before in
+    blocks-unsound (entry .args .state .now) (entry .args .list .now) (sym (at-if1 .before .state-fault .ensures) ∙ at-if1 .if1 .left) (at-setup-at .setup-at .ensures) (entry .args .live) (sym (at-are-blocks .are-blocks .ensures) ∙ not-true _ (c .if2 .taken))
 
 count-blocks-requires : tie.Need-count-blocks-requires
 count-blocks-requires c κs = can-list _ _ (sym (c .before .are-blocks .ensures) ∙ not-false _ (c .if2 .left))
@@ -46,8 +49,8 @@ returns-3 c =
     let at-are-blocks = at-if2 .before in
     let at-setup-at = at-are-blocks .before .before in
     let at-if1 = at-setup-at .before in
-    let entry = at-if1 .before .before .before in
-    blocks-unlisted (entry .args .state .now) (entry .args .list .now) (at-if1 .if1 .left) (at-setup-at .setup-at .ensures) (entry .args .live) refl (at-count-blocks .count-blocks .ensures .0)
+    let entry = at-if1 .before .before .before .before in
+    blocks-unlisted (entry .args .state .now) (entry .args .list .now) (sym (at-if1 .before .state-fault .ensures) ∙ at-if1 .if1 .left) (at-setup-at .setup-at .ensures) (entry .args .live) refl (at-count-blocks .count-blocks .ensures .0)
     (sym (at-are-blocks .are-blocks .ensures) ∙ not-false _ (at-if2 .if2 .left)) (c .if3 .taken)
 
 list-blocks-requires : tie.Need-list-blocks-requires
@@ -70,14 +73,15 @@ returns-4 c =
     let at-are-blocks = at-if2 .before in
     let at-setup-at = at-are-blocks .before .before in
     let at-if1 = at-setup-at .before in
-    let entry = at-if1 .before .before .before in
-    blocks-leave (entry .args .state .now) (entry .args .list .now) (at-if1 .if1 .left) (at-setup-at .setup-at .ensures) (entry .args .live) refl (at-count-blocks .count-blocks .ensures .0)
+    let entry = at-if1 .before .before .before .before in
+    blocks-leave (entry .args .state .now) (entry .args .list .now) (sym (at-if1 .before .state-fault .ensures) ∙ at-if1 .if1 .left) (at-setup-at .setup-at .ensures) (entry .args .live) refl (at-count-blocks .count-blocks .ensures .0)
     (sym (at-are-blocks .are-blocks .ensures) ∙ not-false _ (at-if2 .if2 .left)) (at-if3 .if3 .left) (at-list-blocks .list-blocks .ensures)
 
 pub l6-list-blocks-spec : {M : Type 1} → statement M
 l6-list-blocks-spec =
     tie.close
     (tie.spec
+    state-fault-requires
     returns
     setup-at-requires
     sub-map

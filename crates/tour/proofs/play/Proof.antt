@@ -39,8 +39,8 @@ slice-aggregate-run-3 c = sym (length-take-le _ _ (omega (arith, c .before .befo
 slice-aggregate-run-4 : tie.Need-slice-aggregate-run-4
 slice-aggregate-run-4 c = search needs
 
-fresh-requires : tie.Need-fresh-requires
-fresh-requires c κs = search needs
+fresh-state-requires : tie.Need-fresh-state-requires
+fresh-state-requires c κs = search needs
 
 run-requires : tie.Need-run-requires
 run-requires c κs = search needs
@@ -53,7 +53,7 @@ array-share-prefix-output c =
     let at-read-table = at-least .before .before in
     let entry = at-read-table .before .before .before .before in
     let ran = run-played (entry .args .tab .now) (entry .args .stops .now) (replicate 8000 0)
-    (at-read-table .read-table .ensures .0) (at-read-table .read-table .ensures .1) (at-least .least .ensures) (at-fresh .fresh .ensures) (at-run .run .ensures .0) in
+    (at-read-table .read-table .ensures .0) (at-read-table .read-table .ensures .1) (at-least .least .ensures) (at-fresh .fresh-state .ensures) (at-run .run .ensures .0) in
     written-fits (entry .args .tab .now) (entry .args .stops .now) ran
 
 slice-aggregate-put-lines : tie.Need-slice-aggregate-put-lines
@@ -64,7 +64,7 @@ slice-aggregate-put-lines c =
     let at-read-table = at-least .before .before in
     let entry = at-read-table .before .before .before .before in
     let ran = run-played (entry .args .tab .now) (entry .args .stops .now) (replicate 8000 0)
-    (at-read-table .read-table .ensures .0) (at-read-table .read-table .ensures .1) (at-least .least .ensures) (at-fresh .fresh .ensures) (at-run .run .ensures .0) in
+    (at-read-table .read-table .ensures .0) (at-read-table .read-table .ensures .1) (at-least .least .ensures) (at-fresh .fresh-state .ensures) (at-run .run .ensures .0) in
     sym (length-take-le _ _ (written-fits (entry .args .tab .now) (entry .args .stops .now) ran))
 
 put-lines-requires : tie.Need-put-lines-requires
@@ -83,7 +83,7 @@ returns c =
     let at-read-table = at-least .before .before in
     let entry = at-read-table .before .before .before .before in
     let ran = run-played (entry .args .tab .now) (entry .args .stops .now) (replicate 8000 0)
-    (at-read-table .read-table .ensures .0) (at-read-table .read-table .ensures .1) (at-least .least .ensures) (at-fresh .fresh .ensures) (at-run .run .ensures .0) in
+    (at-read-table .read-table .ensures .0) (at-read-table .read-table .ensures .1) (at-least .least .ensures) (at-fresh .fresh-state .ensures) (at-run .run .ensures .0) in
     let is = printed-is (entry .args .tab .now) (entry .args .stops .now) ran in
     (rw (is, room) at (c .put-lines .ensures .0), rw (is, room) at (c .put-lines .ensures .1))
 
@@ -99,7 +99,7 @@ play-spec =
     slice-aggregate-run-2
     slice-aggregate-run-3
     slice-aggregate-run-4
-    fresh-requires
+    fresh-state-requires
     run-requires
     array-share-prefix-output
     slice-aggregate-put-lines

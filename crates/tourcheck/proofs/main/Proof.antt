@@ -46,14 +46,30 @@ write-all-requires c κs = search needs
 returns : tie.Need-returns
 returns c = search needs
 
+first-word-requires : tie.Need-first-word-requires
+first-word-requires c κs = search needs
+
+array-share-prefix-word : tie.Need-array-share-prefix-word
+array-share-prefix-word c = search needs
+
+slice-aggregate-width-of : tie.Need-slice-aggregate-width-of
+slice-aggregate-width-of c = search needs
+
+width-of-requires : tie.Need-width-of-requires
+width-of-requires c κs = search needs
+
 pub main-spec : {M : Type 1} → statement M
 main-spec =
     tie.close
     (tie.spec
     large-buffer-requires
+    first-word-requires
     slice-aggregate-read-file
     slice-aggregate-read-file-2
     read-file-requires
+    array-share-prefix-word
+    slice-aggregate-width-of
+    width-of-requires
     array-share-prefix-tab
     slice-aggregate-diagnose
     diagnose-requires

@@ -70,6 +70,9 @@ enum-told-21 c = search needs
 enum-told-22 : tie.Need-enum-told-22
 enum-told-22 c = search needs
 
+enum-told-23 : tie.Need-enum-told-23
+enum-told-23 c = search needs
+
 returns : tie.Need-returns
 unfolding refusalNumber
 returns c = rw (c .enum-told .given .1)
@@ -158,6 +161,10 @@ returns-22 : tie.Need-returns-22
 unfolding refusalNumber
 returns-22 c = rw (c .enum-told22 .given .1)
 
+returns-23 : tie.Need-returns-23
+unfolding refusalNumber
+returns-23 c = rw (c .enum-told23 .given .1)
+
 pub refusal-number-spec : {M : Type 1} → statement M
 refusal-number-spec =
     tie.close
@@ -184,6 +191,7 @@ refusal-number-spec =
     enum-told-20
     enum-told-21
     enum-told-22
+    enum-told-23
     returns
     returns-2
     returns-3
@@ -205,4 +213,5 @@ refusal-number-spec =
     returns-19
     returns-20
     returns-21
-    returns-22)
+    returns-22
+    returns-23)

@@ -14,15 +14,15 @@ use Rattle.engine.proofs.walks.walk.Statement.{statement}
 use Rattle.engine.proofs.walks.walk.Tie as tie
 
 abbrev Inv-loop : tie.InvT-loop
-Inv-loop b table storage₀ input output₀ limit judged place₀ bugs₀ entries₀ setup₀ records₀ counts₀ map₀ count₀ storage output place bugs entries setup records counts map count =
+Inv-loop width table storage₀ input output₀ limit judged place₀ bugs₀ entries₀ setup₀ records₀ counts₀ map₀ count₀ storage output place bugs entries setup records counts map count =
     (length storage ≡ length storage₀)
     × (length output ≡ length output₀)
     × (length map ≡ 4096)
-    × Going b table input (walkFrom 0 b (limit - 1) (lends table input output₀) (engineWith place₀ bugs₀ records₀ entries₀ counts₀ setup₀ map₀ storage₀)) limit count output
-    (engineWith place bugs records entries counts setup map storage)
+    × Going width table input (walkFrom 0 (limit - 1) (lends table input output₀) (engineWith width place₀ bugs₀ records₀ entries₀ counts₀ setup₀ map₀ storage₀)) limit count output
+    (engineWith width place bugs records entries counts setup map storage)
 
 abbrev μ-loop : tie.MeasureT-loop
-μ-loop b table storage₀ input output₀ limit judged place₀ bugs₀ entries₀ setup₀ records₀ counts₀ map₀ count₀ storage output place bugs entries setup records counts map count = limit - count
+μ-loop width table storage₀ input output₀ limit judged place₀ bugs₀ entries₀ setup₀ records₀ counts₀ map₀ count₀ storage output place bugs entries setup records counts map count = limit - count
 
 records-of-requires : tie.Need-records-of-requires Inv-loop μ-loop
 records-of-requires c κs = search needs
@@ -45,7 +45,7 @@ plan-step-requires : tie.Need-plan-step-requires Inv-loop μ-loop
 plan-step-requires c κs =
     let turn = c .before .before .before .before .before in
     let start = turn .before .before .before .before .before .before .before .before .before .before .before .before in
-    (ready-now _ _ _ _ _ _ _ _ _ _ _ _ _ _ _ (turn .loop .inv .3) (start .pre .2) (start .pre .0), start .pre .2, start .pre .3)
+    (ready-now _ _ _ _ _ _ _ _ _ _ _ _ _ _ _ (turn .loop .inv .3) (start .pre .0) (start .pre .2), start .pre .2, start .pre .3)
 
 enum-known-planned : tie.Need-enum-known-planned Inv-loop μ-loop
 enum-known-planned c = search needs
@@ -70,7 +70,7 @@ returns c =
     let at-counts-of = turn .before in
     let at-records-of = at-counts-of .before in
     let start = at-records-of .before .before .before .before .before .before .before .before .before .before in
-    refused-now _ _ _ _ _ _ _ _ _ _ _ _ _ _ _ (turn .loop .inv .3) (start .pre .2) (start .pre .0) (at-plan-step .plan-step .ensures) (at-planned .planned .given .1) (c .before .no-report .ensures) (c .ended .ensures)
+    refused-now _ _ _ _ _ _ _ _ _ _ _ _ _ _ _ (turn .loop .inv .3) (start .pre .0) (start .pre .2) (at-plan-step .plan-step .ensures) (at-planned .planned .given .1) (c .before .no-report .ensures) (c .ended .ensures)
     ∙ started _ _ _ _ _ _ _ _ (at-records-of .records-of .ensures) (at-counts-of .counts-of .ensures)
 
 enum-known-planned-2 : tie.Need-enum-known-planned-2 Inv-loop μ-loop
@@ -81,7 +81,7 @@ go-on-requires c κs =
     let at-plan-step = c .before .before .before in
     let turn = at-plan-step .before .before .before .before .before .before in
     let start = turn .before .before .before .before .before .before .before .before .before .before .before .before in
-    counted-now _ _ _ _ _ _ _ _ _ _ _ _ _ _ _ (turn .loop .inv .3) (start .pre .2) (start .pre .0) (at-plan-step .plan-step .ensures) (c .before .planned2 .given .1) (turn .loop .inv .2)
+    counted-now _ _ _ _ _ _ _ _ _ _ _ _ _ _ _ (turn .loop .inv .3) (start .pre .0) (start .pre .2) (at-plan-step .plan-step .ensures) (c .before .planned2 .given .1) (turn .loop .inv .2)
 
 slice-aggregate-carry-out : tie.Need-slice-aggregate-carry-out Inv-loop μ-loop
 slice-aggregate-carry-out c = search needs
@@ -92,8 +92,8 @@ carry-out-requires c κs =
     let at-plan-step = at-planned2 .before .before in
     let turn = at-plan-step .before .before .before .before .before .before in
     let start = turn .before .before .before .before .before .before .before .before .before .before .before .before in
-    let readable = ready-now _ _ _ _ _ _ _ _ _ _ _ _ _ _ _ (turn .loop .inv .3) (start .pre .2) (start .pre .0) .readable in
-    (start .pre .0, readable .whole, readable .kept, (_, feasible-now _ _ _ _ _ _ _ _ _ _ _ _ _ _ _ (turn .loop .inv .3) (start .pre .2) (start .pre .0) (at-plan-step .plan-step .ensures) (at-planned2 .planned2 .given .1) (turn .loop .inv .2)))
+    let readable = ready-now _ _ _ _ _ _ _ _ _ _ _ _ _ _ _ (turn .loop .inv .3) (start .pre .0) (start .pre .2) .readable in
+    (readable .width, readable .whole, readable .kept, (_, feasible-now _ _ _ _ _ _ _ _ _ _ _ _ _ _ _ (turn .loop .inv .3) (start .pre .0) (start .pre .2) (at-plan-step .plan-step .ensures) (at-planned2 .planned2 .given .1) (turn .loop .inv .2)))
 
 turned-requires : tie.Need-turned-requires Inv-loop μ-loop
 turned-requires c κs =
@@ -101,7 +101,7 @@ turned-requires c κs =
     let at-plan-step = at-planned2 .before .before in
     let turn = at-plan-step .before .before .before .before .before .before in
     let start = turn .before .before .before .before .before .before .before .before .before .before .before .before in
-    countable-now _ _ _ _ _ _ _ _ _ _ _ _ _ _ _ (turn .loop .inv .3) (start .pre .2) (start .pre .0) (at-plan-step .plan-step .ensures) (at-planned2 .planned2 .given .1) (turn .loop .inv .2)
+    countable-now _ _ _ _ _ _ _ _ _ _ _ _ _ _ _ (turn .loop .inv .3) (start .pre .0) (start .pre .2) (at-plan-step .plan-step .ensures) (at-planned2 .planned2 .given .1) (turn .loop .inv .2)
 
 answer-at-requires : tie.Need-answer-at-requires Inv-loop μ-loop
 answer-at-requires c κs = search needs
@@ -112,7 +112,7 @@ report-of-requires c κs =
     let at-plan-step = at-planned2 .before .before in
     let turn = at-plan-step .before .before .before .before .before .before in
     let start = turn .before .before .before .before .before .before .before .before .before .before .before .before in
-    reportable-now _ _ _ _ _ _ _ _ _ _ _ _ _ _ _ (turn .loop .inv .3) (start .pre .2) (start .pre .0) (at-plan-step .plan-step .ensures) (at-planned2 .planned2 .given .1) (turn .loop .inv .2)
+    reportable-now _ _ _ _ _ _ _ _ _ _ _ _ _ _ _ (turn .loop .inv .3) (start .pre .0) (start .pre .2) (at-plan-step .plan-step .ensures) (at-planned2 .planned2 .given .1) (turn .loop .inv .2)
 
 ended-requires-2 : tie.Need-ended-requires-2 Inv-loop μ-loop
 ended-requires-2 c κs = search needs
@@ -141,7 +141,7 @@ returns-2 c =
     let at-counts-of = turn .before in
     let at-records-of = at-counts-of .before in
     let start = at-records-of .before .before .before .before .before .before .before .before .before .before in
-    ended-now _ _ _ _ _ _ _ _ _ _ _ _ _ _ _ (turn .loop .inv .3) (start .pre .2) (start .pre .0) (at-plan-step .plan-step .ensures) (at-planned2 .planned2 .given .1) (turn .loop .inv .2)
+    ended-now _ _ _ _ _ _ _ _ _ _ _ _ _ _ _ (turn .loop .inv .3) (start .pre .0) (start .pre .2) (at-plan-step .plan-step .ensures) (at-planned2 .planned2 .given .1) (turn .loop .inv .2)
     (⊎-elim (λ w. (w .4 ∙ w .1 .ensures .0, w .5 ∙ w .1 .ensures .1)) (λ w. kept-turn _ _ _ _ _ (at-go-on .go-on .ensures) (w .0 .left) (w .1) (w .2)) (at-if1 .if1 .came))
     (at-carry-out .carry-out .ensures) (at-go-on .go-on .ensures) (at-if2 .if2 .taken) (c .before .before .answer-at .ensures) (c .before .report-of .ensures) (c .ended2 .ensures)
     ∙ started _ _ _ _ _ _ _ _ (at-records-of .records-of .ensures) (at-counts-of .counts-of .ensures)
@@ -166,7 +166,7 @@ loop-again c =
       at-storage .storage .given ∙ turn .loop .inv .0,
       at-output .output .given ∙ turn .loop .inv .1,
       search needs,
-      next-now _ _ _ _ _ _ _ _ _ _ _ _ _ _ _ (turn .loop .inv .3) (start .pre .2) (start .pre .0) (at-plan-step .plan-step .ensures) (at-planned2 .planned2 .given .1) (turn .loop .inv .2)
+      next-now _ _ _ _ _ _ _ _ _ _ _ _ _ _ _ (turn .loop .inv .3) (start .pre .0) (start .pre .2) (at-plan-step .plan-step .ensures) (at-planned2 .planned2 .given .1) (turn .loop .inv .2)
           (⊎-elim (λ w. (w .4 ∙ w .1 .ensures .0, w .5 ∙ w .1 .ensures .1)) (λ w. kept-turn _ _ _ _ _ (at-go-on .go-on .ensures) (w .0 .left) (w .1) (w .2)) (at-if1 .if1 .came))
           (at-carry-out .carry-out .ensures) (at-go-on .go-on .ensures) (c .if2 .left),
     )

@@ -13,8 +13,14 @@ slice-aggregate-read-bytes c = search needs
 read-bytes-requires : tie.Need-read-bytes-requires
 read-bytes-requires c κs = search needs
 
+width-at-requires : tie.Need-width-at-requires
+width-at-requires c κs = search needs
+
 returns : tie.Need-returns
-returns c = state-read (c .before .before .before .before .before .args .bytes .now) (c .before .before .before .core-at .ensures) (c .before .read-bytes .ensures)
+returns c =
+    let at-read-bytes = c .before .before in
+    let at-core = at-read-bytes .before .before in
+    state-read (at-core .before .before .args .bytes .now) (c .width-at .ensures) (at-core .core-at .ensures) (at-read-bytes .read-bytes .ensures)
 
 pub read-state-spec : {M : Type 1} → statement M
 read-state-spec =
@@ -23,4 +29,5 @@ read-state-spec =
     core-at-requires
     slice-aggregate-read-bytes
     read-bytes-requires
+    width-at-requires
     returns)

@@ -23,20 +23,24 @@ put-bytes-requires c κs =
     let entry = c .before .before .before .before .before .before .before .before .before .before .before .before .before in
     let long : length (entry .args .state .map) ≡ 4096 = search needs in omega (arith, entry .pre)
 
+put-width-requires : tie.Need-put-width-requires
+put-width-requires c κs = search needs
+
 same-length : tie.Need-same-length
 same-length c = search needs
 
 returns : tie.Need-returns
 returns c =
-    let at-put-bytes = c .before .before in
+    let at-put-width = c .before .before in
+    let at-put-bytes = at-put-width .before .before .before .before in
     let at-map2 = at-put-bytes .before in
     let at-put-arrays = at-map2 .before .before .before .before in
     let at-put-numbers = at-put-arrays .before .before .before .before in
     let entry = at-put-numbers .before .before .before .before .before in
     let long : length (entry .args .state .map) ≡ 4096 = sym (slice-aggregate-put-bytes at-map2) in
-    let ok : Ranged (entry .args .state) = record { numbers = at-put-numbers .put-numbers .ensures .1; arrays = at-put-arrays .put-arrays .ensures .1; map = rw long at (at-put-bytes .put-bytes .ensures .1) } in (
+    let ok : Ranged (entry .args .state) = record { width = at-put-width .put-width .ensures .1; numbers = at-put-numbers .put-numbers .ensures .1; arrays = at-put-arrays .put-arrays .ensures .1; map = rw long at (at-put-bytes .put-bytes .ensures .1) } in (
       state-put (entry .args .state) ok (entry .args .bytes .now) (entry .pre) (at-put-numbers .put-numbers .ensures .0) (at-put-arrays .put-arrays .ensures .0)
-          (at-put-bytes .put-bytes .ensures .0),
+          (at-put-bytes .put-bytes .ensures .0) (at-put-width .put-width .ensures .0),
       state-back (entry .args .state) ok,
     )
 
@@ -48,5 +52,6 @@ write-state-spec =
     put-arrays-requires
     slice-aggregate-put-bytes
     put-bytes-requires
+    put-width-requires
     same-length
     returns)

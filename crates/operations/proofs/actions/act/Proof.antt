@@ -1,7 +1,7 @@
 -- `operations::actions::act` meets its contract: by the code. Assumes nothing.
 use native.Mathlib.Omega.{arith}
 use mathlib.Core.Path.{_∙_}
-use Rattle.operands.proofs.Operands.{reached-narrow, width-small}
+use Rattle.operands.proofs.Operands.{contents-small, reached-narrow, width-small}
 use Rattle.operations.proofs.Answers.{follows}
 use Rattle.operations.proofs.Doing.{act-get, act-free, act-copy, act-take, act-make, no-wider, makes}
 use borrow.Author.Needs.{needs}
@@ -33,7 +33,7 @@ make-requires : tie.Need-make-requires
 make-requires c κs =
     let start = c .before .before .before .before .before .before in
     let r = c .before .before .match .rest in
-    (start .pre .0 .width, start .pre .3, no-wider (c .width-of .ensures) (width-small _ _ (start .pre .0) _ (start .pre .2)), start .pre .4, makes (start .pre .5) (r .0 .0 .0 .1) (r .0 .0 .1) (r .0 .1) (r .1))
+    (start .pre .0 .width, rw (c .before .contents2 .ensures) (contents-small _ _ (start .pre .0) _ (start .pre .2)), start .pre .3, no-wider (c .width-of .ensures) (width-small _ _ (start .pre .0) _ (start .pre .2)), start .pre .4, makes (start .pre .5) (r .0 .0 .0 .1) (r .0 .0 .1) (r .0 .1) (r .1))
 
 returns : tie.Need-returns
 returns c = follows _ (act-get _ _ _ _ _ _ _ _ (c .before .match .keys1)) (c .get .ensures)

@@ -12,7 +12,7 @@ add-requires : tie.Need-add-requires
 add-requires c κs = search needs
 
 subtracted-requires : tie.Need-subtracted-requires
-subtracted-requires c κs = search needs
+subtracted-requires c κs = (c .before .pre .0, c .before .pre .4)
 
 multiply-requires : tie.Need-multiply-requires
 multiply-requires c κs = search needs

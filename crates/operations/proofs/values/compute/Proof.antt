@@ -5,34 +5,34 @@ use Rattle.operations.proofs.values.compute.Statement.{statement}
 use Rattle.operations.proofs.values.compute.Tie as tie
 
 arithmetic-requires : tie.Need-arithmetic-requires
-arithmetic-requires c κs = (c .before .pre .0, c .before .pre .4 .low, omega arith, c .before .pre .4 .noInterchange, c .before .pre .1)
+arithmetic-requires c κs = (c .before .pre .0, c .before .pre .5 .low, omega arith, c .before .pre .5 .noInterchange, c .before .pre .1, c .before .pre .2)
 
 returns : tie.Need-returns
 returns c = c .arithmetic .ensures
 
 logic-requires : tie.Need-logic-requires
-logic-requires c κs = (c .before .before .pre .0, omega arith, omega arith, c .before .before .pre .1)
+logic-requires c κs = (c .before .before .pre .0, omega arith, omega arith, c .before .before .pre .2)
 
 returns-2 : tie.Need-returns-2
 returns-2 c = c .logic .ensures
 
 bits-requires : tie.Need-bits-requires
-bits-requires c κs = (omega arith, omega arith, omega (arith, c .before .before .before .pre .0, c .before .before .before .pre .3))
+bits-requires c κs = (omega arith, omega arith, omega (arith, c .before .before .before .pre .0, c .before .before .before .pre .4))
 
 returns-3 : tie.Need-returns-3
 returns-3 c = c .bits .ensures
 
 shifts-requires : tie.Need-shifts-requires
-shifts-requires c κs = (omega arith, omega arith, omega (arith, c .before .before .before .before .pre .0, c .before .before .before .before .pre .2))
+shifts-requires c κs = (omega arith, omega arith, omega (arith, c .before .before .before .before .pre .0, c .before .before .before .before .pre .3))
 
 returns-4 : tie.Need-returns-4
 returns-4 c = c .shifts .ensures
 
 conversions-requires : tie.Need-conversions-requires
 conversions-requires c κs =
-    let h = c .before .before .before .before .pre .4 in
+    let h = c .before .before .before .before .pre .5 in
     let least = c .if4 .left in
-    (c .before .before .before .before .pre .0, omega (arith, h .noInput, h .noPrint, least), h .high, c .before .before .before .before .pre .1, c .before .before .before .before .pre .3)
+    (c .before .before .before .before .pre .0, omega (arith, h .noInput, h .noPrint, least), h .high, c .before .before .before .before .pre .2, c .before .before .before .before .pre .4)
 
 returns-5 : tie.Need-returns-5
 returns-5 c = c .conversions .ensures

@@ -18,6 +18,9 @@ enum-known-found c = search needs
 enum-told-2 : tie.Need-enum-told-2
 enum-told-2 c = search needs
 
+enum-told-3 : tie.Need-enum-told-3
+enum-told-3 c = search needs
+
 enum-known-found-2 : tie.Need-enum-known-found-2
 enum-known-found-2 c = search needs
 
@@ -38,11 +41,15 @@ returns-3 c = rw (sym (c .before .before .check-fields .ensures .0) ∙ c .enum-
 
 returns-4 : tie.Need-returns-4
 unfolding definedLeft afterDefined refusalOf
-returns-4 c = rw (sym (c .before .before .before .check-fields .ensures .0) ∙ c .before .found2 .given .1)
+returns-4 c = rw (sym (c .before .before .check-fields .ensures .0) ∙ c .enum-told3 .given .1)
 
 returns-5 : tie.Need-returns-5
 unfolding definedLeft afterDefined refusalOf
-returns-5 c = rw (sym (c .before .before .before .check-fields .ensures .0) ∙ c .before .found3 .given .1)
+returns-5 c = rw (sym (c .before .before .before .check-fields .ensures .0) ∙ c .before .found2 .given .1)
+
+returns-6 : tie.Need-returns-6
+unfolding definedLeft afterDefined refusalOf
+returns-6 c = rw (sym (c .before .before .before .check-fields .ensures .0) ∙ c .before .found3 .given .1)
 
 pub l6-defined-spec : {M : Type 1} → statement M
 l6-defined-spec =
@@ -52,10 +59,12 @@ l6-defined-spec =
     enum-told
     enum-known-found
     enum-told-2
+    enum-told-3
     enum-known-found-2
     enum-known-found-3
     returns
     returns-2
     returns-3
     returns-4
-    returns-5)
+    returns-5
+    returns-6)

@@ -11,6 +11,9 @@ read-requires c κs = search needs
 enum-known-answer : tie.Need-enum-known-answer
 enum-known-answer c = search needs
 
+enum-told : tie.Need-enum-told
+enum-told c = search needs
+
 enum-known-answer-2 : tie.Need-enum-known-answer-2
 enum-known-answer-2 c = search needs
 
@@ -32,21 +35,28 @@ same-length-2 c = search needs
 
 returns-2 : tie.Need-returns-2
 unfolding readLeft afterReading rowsAfter lineAfter readNumber
-returns-2 c = rw (← c .before .before .before .before .before .read .ensures .0, c .before .answer2 .given .1)
+returns-2 c = rw (← c .before .before .before .before .read .ensures .0, c .enum-told .given .1)
 
 same-length-3 : tie.Need-same-length-3
 same-length-3 c = search needs
 
 returns-3 : tie.Need-returns-3
 unfolding readLeft afterReading rowsAfter lineAfter readNumber
-returns-3 c = rw (← c .before .before .before .before .before .read .ensures .0, c .before .answer3 .given .1)
+returns-3 c = rw (← c .before .before .before .before .before .read .ensures .0, c .before .answer2 .given .1)
 
 same-length-4 : tie.Need-same-length-4
 same-length-4 c = search needs
 
 returns-4 : tie.Need-returns-4
 unfolding readLeft afterReading rowsAfter lineAfter readNumber
-returns-4 c = rw (← c .before .before .before .before .before .read .ensures .0, c .before .answer4 .given .1)
+returns-4 c = rw (← c .before .before .before .before .before .read .ensures .0, c .before .answer3 .given .1)
+
+same-length-5 : tie.Need-same-length-5
+same-length-5 c = search needs
+
+returns-5 : tie.Need-returns-5
+unfolding readLeft afterReading rowsAfter lineAfter readNumber
+returns-5 c = rw (← c .before .before .before .before .before .read .ensures .0, c .before .answer4 .given .1)
 
 pub l6-read-spec : {M : Type 1} → statement M
 l6-read-spec =
@@ -54,6 +64,7 @@ l6-read-spec =
     (tie.spec
     read-requires
     enum-known-answer
+    enum-told
     enum-known-answer-2
     enum-known-answer-3
     enum-known-answer-4
@@ -64,4 +75,6 @@ l6-read-spec =
     same-length-3
     returns-3
     same-length-4
-    returns-4)
+    returns-4
+    same-length-5
+    returns-5)

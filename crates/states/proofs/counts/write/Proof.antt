@@ -5,10 +5,10 @@ use Rattle.states.proofs.counts.write.Statement.{statement}
 use Rattle.states.proofs.counts.write.Tie as tie
 
 abbrev Inv-loop : tie.InvT-loop
-Inv-loop counts file from at₀ i₀ t7 t8 at i = i ≤ 95
+Inv-loop counts file from at₀ i₀ t7 t8 at i = i ≤ 96
 
 abbrev μ-loop : tie.MeasureT-loop
-μ-loop counts file from at₀ i₀ t7 t8 at i = 95 - i
+μ-loop counts file from at₀ i₀ t7 t8 at i = 96 - i
 
 loop-holds : tie.Need-loop-holds Inv-loop μ-loop
 loop-holds c = search needs

@@ -16,7 +16,7 @@ use Rattle.machine.proofs.Every.{below, every-none, every-replicate}
 use Rattle.machine.proofs.Facts.{CoreFacts, StorageFacts, Facts, facts-sound}
 use Rattle.machine.proofs.Located.{undefined-fits}
 
-fresh-core : (b : ℕ) → CoreFacts b (fresh .core)
+fresh-core : (b : ℕ) → CoreFacts b (fresh b .core)
 unfolding fresh testsOf soundPlace isPlace isRow
 fresh-core b =
     record {
@@ -32,7 +32,7 @@ pub no-words : words noSetUp ≡ 0
 unfolding words noSetUp
 no-words = refl
 
-fresh-storage : (b : ℕ) (ws : List ℕ) → StorageFacts b fresh ws
+fresh-storage : (b : ℕ) (ws : List ℕ) → StorageFacts b (fresh b) ws
 unfolding fresh absent noSetUp
 fresh-storage b ws =
     record {
@@ -41,9 +41,9 @@ fresh-storage b ws =
       values = subst (λ n. Rattle.machine.specs.Sound.every (below (2 ^ b)) (take n ws) ≡ true) (sym no-words) (every-none (below (2 ^ b)));
     }
 
-pub fresh-facts : (b : ℕ) (ws : List ℕ) → Facts b (record { state = fresh; storage = ws })
+pub fresh-facts : (b : ℕ) (ws : List ℕ) → Facts b (record { state = fresh b; storage = ws })
 fresh-facts b ws = record { core = fresh-core b; storage = fresh-storage b ws }
 
-pub fresh-sound : (b : ℕ) (l : Lent) (ws : List ℕ) → sound b l (record { state = fresh; storage = ws }) ≡ true
+pub fresh-sound : (b : ℕ) (l : Lent) (ws : List ℕ) → sound b l (record { state = fresh b; storage = ws }) ≡ true
 unfolding sound fresh
-fresh-sound b l ws = and-true (and-true (facts-sound b (record { state = fresh; storage = ws }) (fresh-facts b ws)) (le-leb 0 (length (l .input)) (omega arith))) (le-leb 0 (length (l .output)) (omega arith))
+fresh-sound b l ws = and-true (and-true (facts-sound b (record { state = fresh b; storage = ws }) (fresh-facts b ws)) (le-leb 0 (length (l .input)) (omega arith))) (le-leb 0 (length (l .output)) (omega arith))
