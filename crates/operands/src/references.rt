@@ -19,6 +19,7 @@ use buddy::section::live_size;
 use machine::Definition;
 use machine::Location;
 use machine::Refusal;
+use table::BugLetter;
 use table::FieldName;
 use table::Pair;
 use table::references::names_in;
@@ -245,7 +246,7 @@ pub fn locate_through(
     Linked::At(at)
 }
 
-// Where a reference leads.
+// Where a reference leads: that of a bug alone is found at once.
 pub fn locate(
     b: u64,
     bugs: &[u64; 26],
@@ -258,6 +259,9 @@ pub fn locate(
     requires { ⌜ Readable b (seen (now bugs) definitions setup (now map) (now storage)) × (isReference (operand .value) ≡ true) ⌝ }
     ensures { λ r. ⌜ r ≡ linked (locationOf b (seen (now (bugs .entry)) definitions setup (now (map .entry)) (now (storage .entry))) operand) ⌝ }
 {
+    if operand.value < 64 {
+        return Linked::At(Location::Bug(BugLetter((operand.value - 11) as u8)));
+    }
     locate_through(
         b,
         bugs,
