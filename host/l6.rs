@@ -17,11 +17,19 @@
 
 use std::fmt;
 
+/// The version of the library that this file goes with.
+pub const VERSION: u64 = 1;
+/// That of the library that is linked.
+pub fn version() -> u64 {
+    unsafe { raw::l6_version() }
+}
+
 /// How many bytes a state has.
 pub const STATE_LENGTH: usize = 6676;
 const REPORT_LENGTH: usize = 12;
 
-/// Why a step is refused: the refusals of document 01 and of the later tickets, with their numbers. As text it is explained in words.
+/// Why a call is refused, by its number: 1 to 21 are document 01's, those from 22 on of the later tickets, and 23 to 32 are answers of other calls
+/// than a step. What refuses [`save`] and [`load`] is a [`NotKept`]. As text it is explained in words.
 #[derive(Clone, Copy, Debug, PartialEq, Eq)]
 pub enum Refusal {
     TableLength = 1,
@@ -59,7 +67,7 @@ pub enum Refusal {
 }
 use Refusal::*;
 
-/// Every refusal, and what it means.
+/// Every [`Refusal`] in the order of its number, and what it means in words.
 pub const REFUSALS: [(Refusal, &str); 32] = [
     (TableLength, "the table has fewer than 20 numbers, more than 8,000, or no multiple of ten"),
     (BadRow, "the row, or a test of it, is missing, ill-formed or of another kind than is needed here"),
@@ -241,6 +249,12 @@ impl State {
     /// The set-up's largest block size, first and last address; zeros before it.
     pub fn setup(&self) -> [usize; 3] {
         [21, 23, 25].map(|at| self.number(at, 2))
+    }
+    /// How many words are set up; 0 before a set-up. The first word of the storage is that of the first address. In an unsound state this is
+    /// any number.
+    pub fn words(&self) -> usize {
+        let [d, s1, s2] = self.setup();
+        if d == 0 { 0 } else { s2.wrapping_sub(s1).wrapping_add(1) }
     }
     /// Where the tour stands.
     pub fn place(&self) -> Place {
@@ -478,6 +492,7 @@ fn done(answer: u64) -> Result<(), Refusal> {
 pub mod raw {
     #[link(name = "player", kind = "static")]
     unsafe extern "C" {
+        pub fn l6_version() -> u64;
         pub fn l6_fresh(width: u64, state: *mut u8, state_length: usize) -> u64;
         pub fn l6_step(
             table: *const u64, table_length: usize, storage: *mut u64, storage_length: usize, input: *const u8, input_length: usize,

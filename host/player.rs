@@ -1,18 +1,21 @@
-//! An example host: plays the tour of a folder.   player FOLDER [--width 36|48] [--stop-after STEPS]
+//! An example host: plays the tour of a folder.   player FOLDER [--width 36|48] [--stop-after STEPS] [--at SECONDS]
 //! It reads the table tour.tab, or where there is none the typed lines tour.l6, and the stop list stops.in, and prints what the guide says;
 //! progress goes to standard error. Where there are opening hours, windows.tab and exceptions.tab, the tour starts at the entry line for the
-//! time (of UTC), or not at all. Where there are corrections, corrections.tab, the recordings that stand are put into the stop list (that of
-//! tours/museum.l6). With --stop-after it stops after so many steps and saves the tour as tour.saved; the next call goes on from there.
-//! Where a tour has no room for a block, its storage is extended once to all the words there are, and it goes on. Words have 36 bits where no
-//! width is given; a saved tour goes on at its own.
+//! time of UTC, or not at all; --at gives another time, in seconds since 1970. Where there are corrections, corrections.tab, the recordings
+//! that stand are put into the stop list (that of tours/museum.l6). With --stop-after it stops after so many steps and saves the tour as
+//! tour.saved; the next call goes on from there. It is saved too where a refused tour can go on with more than was lent to it, and stays as it
+//! was after any other refusal. Where a tour has no room for a block, its storage is extended once to all the words there are, and it goes
+//! on. Words have 36 bits where no width is given; a saved tour goes on at its own.
 mod l6;
 
-use l6::{numbers, Answer, Lent, Refusal, State, STATE_LENGTH};
+use l6::{numbers, Answer, Lent, Refusal, State, STATE_LENGTH, VERSION};
 use std::process::ExitCode;
 
 const ENTRY: usize = 16; // the go-to of row 1, where a tour starts
+const DAY: u64 = 86400; // in seconds
+const DAYS_TO_2000: u64 = 10957; // since 1970
 
-/// What a tour goes on with, state, storage and output: these are saved together, with the entry.
+/// What a tour goes on with, state, storage and output: these are saved together, after the version of the library and with the entry.
 struct Tour(State, Vec<u64>, Vec<u8>, u64);
 
 impl Tour {
@@ -22,17 +25,45 @@ impl Tour {
         let (output, entry) = rest.split_at_checked(4096)?;
         Some(Tour(State::from_bytes(state)?, numbers(storage), output.to_vec(), numbers(entry.get(..8)?)[0]))
     }
-    fn bytes(Tour(state, storage, output, entry): Tour) -> Vec<u8> {
-        let storage = storage.iter().flat_map(|word| word.to_le_bytes()).collect();
-        [state.bytes().to_vec(), storage, output, entry.to_le_bytes().to_vec()].concat()
+    /// Takes up a saved tour.
+    fn resume(bytes: &[u8]) -> Result<Tour, &str> {
+        match bytes.split_at_checked(8) {
+            Some((version, _)) if version != VERSION.to_le_bytes() => Err("tour.saved is of another version of the library"),
+            Some((_, rest)) => Tour::of_bytes(rest).ok_or("tour.saved is no saved tour"),
+            None => Err("tour.saved is no saved tour"),
+        }
+    }
+    fn bytes(&self) -> Vec<u8> {
+        let Tour(state, storage, output, entry) = self;
+        let storage: Vec<u8> = storage.iter().flat_map(|word| word.to_le_bytes()).collect();
+        [&VERSION.to_le_bytes(), &state.bytes()[..], &storage, output, &entry.to_le_bytes()].concat()
+    }
+    /// Saves it: a new file takes the place of the old one only when all of it is there.
+    fn save(&self) -> std::io::Result<()> {
+        std::fs::write("tour.saving", self.bytes())?;
+        std::fs::rename("tour.saving", "tour.saved")
     }
 }
 
-/// Where a tour starts: the entry line for the time, or the table's own where no hours are kept.
-fn enter(windows: &[u64], exceptions: &[u64], own: u64) -> Result<u64, String> {
+/// What a tour can go on with after a refusal.
+fn wanted(refusal: Refusal) -> Option<&'static str> {
+    match refusal {
+        Refusal::InputShort => Some("a longer stop list"),
+        Refusal::NoRun => Some("more storage"),
+        Refusal::OutputFull => Some("a longer output"),
+        _ => None,
+    }
+}
+
+/// Where a tour starts: the entry line for the time, or the table's own where no hours are kept. A clock that stands before 2000 shows no
+/// time, and the museum is closed.
+fn enter(windows: &[u64], exceptions: &[u64], now: u64, own: u64) -> Result<u64, String> {
     if windows.len() + exceptions.len() == 0 { return Ok(own) }
-    let now = std::time::UNIX_EPOCH.elapsed().unwrap_or_default().as_secs();
-    l6::hours(windows, exceptions, (now / 86400).wrapping_sub(10957), now % 86400 / 60).row()
+    let Some(day) = (now / DAY).checked_sub(DAYS_TO_2000) else {
+        eprintln!("the clock stands before 2000");
+        return l6::Opening::Closed.row();
+    };
+    l6::hours(windows, exceptions, day, now % DAY / 60).row()
 }
 
 /// Gives a tour all the words there are, in whole blocks.
@@ -79,11 +110,14 @@ fn table(width: u64) -> Result<Vec<u64>, String> {
 }
 
 /// Plays the tour of a folder: how it ended, or why it did not.
-fn play(folder: &str, asked: u64, mut left: u64) -> Result<&str, String> {
+fn play(folder: &str, [asked, mut left, now]: [u64; 3]) -> Result<&str, String> {
+    if l6::version() != VERSION {
+        return Err("libplayer.a and l6.rs are of two versions".into());
+    }
     std::env::set_current_dir(folder).map_err(|_| "there is no such folder")?;
     let load = |name| std::fs::read(name).unwrap_or_default(); // a missing file counts as empty
     let saved = match std::fs::read("tour.saved") {
-        Ok(bytes) => Some(Tour::of_bytes(&bytes).ok_or("tour.saved is no saved tour")?),
+        Ok(bytes) => Some(Tour::resume(&bytes)?),
         Err(_) => None,
     };
     let width = saved.as_ref().map_or(asked, |tour| tour.0.width());
@@ -95,7 +129,7 @@ fn play(folder: &str, asked: u64, mut left: u64) -> Result<&str, String> {
         Some(tour) => tour,
         None => {
             let state = State::fresh(width).map_err(|refusal| refusal.to_string())?;
-            Tour(state, vec![0; 4096], vec![0; 4096], enter(&windows, &exceptions, own)?)
+            Tour(state, vec![0; 4096], vec![0; 4096], enter(&windows, &exceptions, now, own)?)
         }
     };
     table.iter_mut().skip(ENTRY).take(1).for_each(|go_to| *go_to = entry);
@@ -114,31 +148,42 @@ fn play(folder: &str, asked: u64, mut left: u64) -> Result<&str, String> {
         }
     }
 
-    if answer == Answer::Running {
-        let saved = Tour::bytes(Tour(state, storage, output, entry));
-        return std::fs::write("tour.saved", saved).map(|()| "saved").map_err(|_| "can't save".into());
+    let (row, tour) = (state.row(), Tour(state, storage, output, entry));
+    match answer {
+        Answer::Running => tour.save().map(|()| "saved").map_err(|_| "can't save".into()),
+        Answer::Finished => {
+            let _ = std::fs::remove_file("tour.saved");
+            Ok("the tour has come to its end")
+        }
+        Answer::Refused(refusal) => {
+            let why = format!("refused at row {row} by {}: {refusal}", refusal.number());
+            match wanted(refusal) {
+                Some(more) if tour.save().is_ok() => Err(format!("{why}\nsaved: it can go on with {more}")),
+                _ => Err(why),
+            }
+        }
     }
-    let _ = std::fs::remove_file("tour.saved");
-    let Answer::Refused(refusal) = answer else { return Ok("the tour has come to its end") };
-    Err(format!("refused at row {} by {}: {refusal}", state.row(), refusal.number()))
+}
+
+/// The width, the number of steps and the time that the arguments after the folder ask for.
+fn asked(options: &[String]) -> Option<[u64; 3]> {
+    let now = std::time::UNIX_EPOCH.elapsed().unwrap_or_default().as_secs();
+    let mut numbers = [36, u64::MAX, now];
+    for pair in options.chunks(2) {
+        let option = ["--width", "--stop-after", "--at"].iter().position(|name| *name == pair[0])?;
+        let digits = pair.get(1).filter(|text| text.starts_with(|first: char| first.is_ascii_digit()))?;
+        numbers[option] = digits.parse().ok()?;
+    }
+    Some(numbers)
 }
 
 fn main() -> ExitCode {
     let arguments: Vec<String> = std::env::args().skip(1).collect();
-    let (mut width, mut left) = (36, u64::MAX);
-    let mut good = arguments.len() % 2 == 1;
-    for pair in arguments.get(1..).unwrap_or_default().chunks(2) {
-        match pair {
-            [name, number] if name == "--width" => width = number.parse().unwrap_or(0),
-            [name, number] if name == "--stop-after" => left = number.parse().unwrap_or(0),
-            _ => good = false,
-        }
-    }
-    if !good {
-        eprintln!("usage: player FOLDER [--width 36|48] [--stop-after STEPS]");
+    let Some((folder, Some(numbers))) = arguments.split_first().map(|(folder, options)| (folder, asked(options))) else {
+        eprintln!("usage: player FOLDER [--width 36|48] [--stop-after STEPS] [--at SECONDS]");
         return ExitCode::from(2);
-    }
-    let ended = play(&arguments[0], width, left);
+    };
+    let ended = play(folder, numbers);
     eprintln!("{}", ended.as_deref().unwrap_or_else(|why| why));
     ExitCode::from(ended.is_err() as u8)
 }

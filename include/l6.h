@@ -11,8 +11,9 @@
  * loaded in another process.
  *
  * Any bytes may stand in these buffers, and any lengths may be given: a call then answers with a refusal. What a host owes is what
- * C asks of every call: each pointer leads to so many numbers or bytes as the length beside it says (any pointer where that is 0),
- * 64-bit numbers lie on addresses that 8 divides, and no buffer that a call writes overlaps another one of the call.
+ * C asks of every call: each pointer leads to so many numbers or bytes as the length beside it says (any pointer, NULL too, where that is
+ * 0), one without a length, as row, count, line and field, to one number and is not NULL, 64-bit numbers lie on addresses that 8 divides,
+ * and no buffer that a call writes overlaps another one of the call.
  *
  * Calls keep nothing of their own between them and share nothing, so threads may make them at once, each with its own state, storage
  * and output. No call allocates memory, and every call returns. */
@@ -25,6 +26,11 @@
 #ifdef __cplusplus
 extern "C" {
 #endif
+
+/* The version of the library that this header goes with; l6_version answers that of the library that is linked. A saved tour goes on with
+ * the version that saved it, so a host keeps the number beside it. */
+#define L6_VERSION 1
+uint64_t l6_version(void);
 
 /* ---------------------------------------------------------------- answers */
 
@@ -132,6 +138,9 @@ static inline uint64_t l6_d(const uint8_t *state) { return l6_number(state + L6_
 static inline uint64_t l6_s1(const uint8_t *state) { return l6_number(state + L6_AT_SET_UP + 2, 2); }
 static inline uint64_t l6_s2(const uint8_t *state) { return l6_number(state + L6_AT_SET_UP + 4, 2); }
 
+/* How many words are set up; 0 before a set-up. */
+static inline uint64_t l6_words_set_up(const uint8_t *state) { return l6_d(state) == 0 ? 0 : l6_s2(state) - l6_s1(state) + 1; }
+
 /* The row that the next step takes: that of the operation or of the line; 0 where the tour is finished. After a refusal it is the row
  * that was refused. */
 static inline uint64_t l6_row(const uint8_t *state) {
@@ -219,6 +228,7 @@ uint64_t l6_extend(uint64_t *storage, size_t storage_length, uint8_t *state, siz
  * open, the closing minute, which is closed, and a row from 1 to 799; 0 <= opening < closing <= 1,440. An exception is five: a day, the
  * same three, and 0; or a day, three zeros, and 1 where that day is closed. If an exception names the day, only those that do count,
  * otherwise the windows of its weekday; the first that holds the minute gives the row.
+ * Two empty lists are always closed.
  * Reads both lists, any numbers of any lengths. Answers 0 and writes into row; or answers L6_CLOSED or L6_HOURS, and row is unchanged.
  * docs/EMBEDDING.md says how a tour is started at a row. */
 uint64_t l6_hours(const uint64_t *windows, size_t windows_length, const uint64_t *exceptions, size_t exceptions_length, uint64_t day,
@@ -230,7 +240,7 @@ uint64_t l6_hours(const uint64_t *windows, size_t windows_length, const uint64_t
  * of several such the last. Rows that the chain does not reach have no bearing.
  * Reads list, any numbers of any length. Writes stop and recording of each row that stands at the start of output, in the order in which
  * the stops first occur in the chain, and into count how many rows they are; numbers past them stay. An output of two numbers for each
- * row has room in any case.
+ * row has room in any case. The list is no output: one buffer must not be given as both.
  * It costs a look at each row and at those of the stops met so far that have its stop's remainder by 8,191: at 100,000 stops with evenly
  * spread remainders some six. An output that has fewer than two numbers for each row of the chain costs the same again if it has room for
  * fewer than 1,024 stops, otherwise a pass over the chain for each stop. A call takes some 37 kB of stack.

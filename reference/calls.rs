@@ -56,6 +56,7 @@ extern "C" {
     fn header_extend(storage: *mut u64, words: usize, state: *mut u8, length: usize, last: u64) -> u64;
     // what else the header has
     pub fn header_reads(state: *const u8, numbers: *mut u64);
+    pub fn header_version(numbers: *mut u64);
     pub fn header_words(answer: u64) -> *const c_char;
     pub fn header_character(code: u8) -> u8;
     pub fn header_field(field: u64) -> u8;

@@ -325,22 +325,28 @@ impl Compared {
             };
             self.same("a safe check", l6::check(width, &given.table), expected);
         }
-        let mut reads = [0; 9];
+        let mut reads = [0; 10];
         unsafe { header_reads(tour.state.as_ptr(), reads.as_mut_ptr()) };
         let two = |i: usize| tour.state[i] as u64 + 256 * tour.state[i + 1] as u64;
         let row = if tour.state[0] == 1 { two(1) } else { two(3) };
         let eight = |i: usize| u64::from_le_bytes(tour.state[i..i + 8].try_into().unwrap());
-        self.same("what the header reads", reads, [tour.state[0] as u64, row, two(3), eight(5), eight(13), two(21), two(23), two(25), tour.state[STATE - 1] as u64]);
+        let words = if two(21) == 0 { 0 } else { two(25).wrapping_sub(two(23)).wrapping_add(1) };
+        let wanted = [tour.state[0] as u64, row, two(3), eight(5), eight(13), two(21), two(23), two(25), tour.state[STATE - 1] as u64, words];
+        self.same("what the header reads", reads, wanted);
         let safe = [state.place() as usize, state.row(), state.taken(), state.written()].map(|n| n as u64);
         self.same("what the module reads", safe, [tour.state[0].min(4) as u64, row, eight(5), eight(13)]);
         self.same("the width that the module reads", state.width(), tour.state[STATE - 1] as u64);
         self.same("the set-up that the module reads", state.setup().map(|n| n as u64), [two(21), two(23), two(25)]);
+        self.same("the words that the module reads", state.words() as u64, words);
     }
     /// Numbers and words of the header against the Rust module's.
     fn constants(&mut self) {
         let numbers: Vec<u64> = [6676, 12].into_iter().chain(0..=22).chain(26..=29).chain([31, 32]).chain(100..=104).collect();
         self.same("the header's numbers", unsafe { header_constants }, numbers[..].try_into().unwrap());
         self.same("the module's length", l6::STATE_LENGTH, STATE);
+        let mut versions = [0; 2];
+        unsafe { header_version(versions.as_mut_ptr()) };
+        self.same("the versions", [versions[0], versions[1], l6::VERSION, l6::version()], [1; 4]);
         let words = |answer| unsafe { CStr::from_ptr(header_words(answer)) }.to_str().unwrap();
         self.same("words of closed", words(104), &l6::Opening::Closed.row().unwrap_err());
         for (refusal, _) in l6::REFUSALS { self.same("words", words(refusal.number()), &refusal.to_string()); }

@@ -47,10 +47,15 @@ uint64_t header_load(uint64_t width, const uint8_t *bytes, size_t bytes_length, 
 uint64_t header_extend(uint64_t *storage, size_t storage_length, uint8_t *state, size_t state_length, uint64_t last) {
     return l6_extend(LENT(storage), LENT(state), last);
 }
+/* The version of the header, and of the library. */
+void header_version(uint64_t numbers[2]) {
+    numbers[0] = L6_VERSION;
+    numbers[1] = l6_version();
+}
 size_t header_saved_length(uint64_t width, size_t words) { return l6_saved_length(width, words); }
 
 /* What the header reads of a state. */
-void header_reads(const uint8_t *state, uint64_t numbers[9]) {
+void header_reads(const uint8_t *state, uint64_t numbers[10]) {
     numbers[0] = l6_kind(state);
     numbers[1] = l6_row(state);
     numbers[2] = l6_line(state);
@@ -60,6 +65,7 @@ void header_reads(const uint8_t *state, uint64_t numbers[9]) {
     numbers[6] = l6_s1(state);
     numbers[7] = l6_s2(state);
     numbers[8] = l6_width(state);
+    numbers[9] = l6_words_set_up(state);
 }
 const char *header_words(uint64_t answer) { return l6_words(answer); }
 char header_character(uint8_t code) { return l6_character(code); }

@@ -26,6 +26,10 @@ use Rattle.block.specs.Blocks.{Block}
 use Rattle.layout.specs.Layout.{stateLength, bytesOfState, stateOf}
 use Rattle.listing.specs.Listing.{areBlocks, blocks, numbersOf}
 
+-- the version of the library
+abbrev pub version : ℕ
+version = 1
+
 -- the number of an answer: 0 running, 100 finished, document 01's number of a refusal
 unfoldable pub code : Answer → ℕ
 code Running = 0

@@ -17,7 +17,7 @@ ghost use Rattle.machine.specs.State.{fresh as freshState};
 ghost use Rattle.machine.specs.Step.{step as stepOf, run as runOf};
 ghost use Rattle.machine.specs.Storage.{placed};
 ghost use Rattle.layout.specs.Layout.{stateLength, bytesOfState, stateOf};
-ghost use Rattle.player.specs.Calls.{code, moved, numbersOfStore, numbersOfReport, engineAt, freshLeft, stepLeft, runLeft, checkLeft, stateFault, countsLeft, blocksLeft};
+ghost use Rattle.player.specs.Calls.{version, code, moved, numbersOfStore, numbersOfReport, engineAt, freshLeft, stepLeft, runLeft, checkLeft, stateFault, countsLeft, blocksLeft};
 use engine::answers::refusal_number;
 use engine::fresh;
 use engine::run;
@@ -119,6 +119,16 @@ const STATE: usize = 6676;
 const MAP: usize = 2579;
 
 const MAP_END: usize = 6675;
+
+// The version of the library, which its header and module have too.
+const VERSION: u64 = 1;
+
+#[no_mangle]
+pub extern "C" fn l6_version() -> u64
+    ensures { λ r. ⌜ r ≡ version ⌝ }
+{
+    VERSION
+}
 
 // A fresh state of words of width bits.
 #[no_mangle]
