@@ -253,8 +253,8 @@ uint64_t l6_recordings(const uint64_t *list, size_t list_length, uint64_t *outpu
  * numbers past them stay, and line. Every table that is read passes l6_check at its width.
  * Answers 0; L6_NO_WIDTH, and nothing is written; or L6_TYPED_LINE, L6_TYPED_LABEL or L6_TYPED_TOO_LONG: then line is the line of the
  * fault, counted from 1, and nothing else is written. The lowest line with a fault decides, and on it the lower number.
- * Takes three passes over the text; one more where it has more than 800 labels, and one for each 800 DOs of a line that is refused. A call
- * takes some 39 kB of stack. */
+ * Takes three passes over the text; one more where it has more than 800 labels, and one for each 800 DOs of a line that is refused, each of
+ * which compares the label of every line with up to 800: the time can grow with the square of the text. A call takes some 39 kB of stack. */
 uint64_t l6_read(uint64_t width, const uint8_t *text, size_t text_length, uint64_t *table, size_t table_length, uint64_t *count,
                  uint64_t *line);
 
