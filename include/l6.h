@@ -76,7 +76,7 @@ enum {
 
     L6_KINDS = 30,            /* l6_defined: row 1 is no line, or a row names one of the wrong kind */
 
-    L6_NO_WIDTH = 31,         /* the width, given or in the state, is neither 36 nor 48; it is judged before anything else */
+    L6_NO_WIDTH = 31,         /* the width, given or in the state, is neither 36 nor 48; judged first, but for L6_BAD_STATE_LENGTH, L6_BAD_REPORT_LENGTH */
     L6_LAST_ADDRESS = 32,     /* l6_extend: a new last address that is none, or asks for more words than there are */
 
     /* l6_save and l6_load */
