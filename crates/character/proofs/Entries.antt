@@ -1,14 +1,19 @@
--- Laws of the three-character list: its length, and its entries by the decimal definition. Assumes nothing.
-use mathlib.Core.Path.{_≡_, refl}
+-- Laws of the three-character list: its entries by the decimal definition, and that the constant is the list so worked out. The constant's
+-- rule is one test over its entries, which antt computes. Assumes nothing.
+use mathlib.Core.Path.{_≡_, refl, sym, _∙_}
 use mathlib.Core.Logic.{⊎-elim}
-use mathlib.Core.List.{[], _∷_, _++_}
+use mathlib.Core.Bool.{Bool}
+use mathlib.Core.List.{List, [], _∷_, _++_}
 use Prim.Native.Nat.{ℕ, zero, suc, _+_, _<_}
 use native.Mathlib.Nat.{eq-or-lt-of-le, le-of-suc-le-suc}
 use native.Mathlib.Omega.{arith}
+use lib.Dec.{T, eqb, eqb→eq}
 use lib.ListN.{length, getD, length-append, List·getD-append}
-use lib.Seq.{getD-append-add}
-use Rattle.character.specs.Character.{fromBinary}
+use lib.Seq.{getD-append-add, ext-getD}
+use Rattle.character.specs.Character.{digits, number, packed, fromBinary}
+use Rattle.character.specs.Thousand.{thousand}
 use Rattle.character.specs.Triples.{triples}
+use Rattle.character.proofs.Table.{every, at}
 
 -- as many entries as asked for
 pub length-triples : (n : ℕ) → length (triples n) ≡ n
@@ -31,3 +36,26 @@ triples-at (suc n) k h = ⊎-elim last (λ l. earlier l (triples-at n k l)) (eq-
     earlier l same =
         let inside : k < length (triples n) = rw length-triples l in
         rw List·getD-append same
+
+-- the test over the whole constant, and carried to each entry
+right : ℕ → ℕ → Bool
+right k x = eqb x (fromBinary 10 3 k)
+
+every-right : T (every right 0 thousand)
+unfolding right thousand digits number packed fromBinary
+every-right = tt
+
+pub thousand-length : length thousand ≡ 1000
+unfolding thousand
+thousand-length = refl
+
+-- entry k of the constant is the three decimal digits of k
+pub thousand-at : (k : ℕ) → k < 1000 → getD thousand k 0 ≡ fromBinary 10 3 k
+unfolding right
+thousand-at k h = eqb→eq (getD thousand k 0) (fromBinary 10 3 k) (at right thousand every-right k (rw thousand-length h))
+
+-- the constant is the list worked out
+pub thousand-made : thousand ≡ triples 1000
+thousand-made =
+    ext-getD 0 thousand (triples 1000) (thousand-length ∙ sym (length-triples 1000))
+    (λ k h. let small : k < 1000 = rw thousand-length at h in thousand-at k small ∙ sym (triples-at 1000 k small))

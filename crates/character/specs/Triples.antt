@@ -5,15 +5,17 @@ use mathlib.Core.List.{List, [], _∷_, _++_}
 use lib.Dec.{eqb}
 use lib.ListN.{length}
 use Rattle.character.specs.Character.{fromBinary}
+use Rattle.character.specs.Thousand.{thousand}
 
--- the list's first n entries: entry k is the three decimal digits of k
+-- the list's first n entries, worked out: entry k is the three decimal digits of k (that the 1,000 of them are the constant's is proved in
+-- proofs/Entries.antt)
 unfoldable pub triples : ℕ → List ℕ
 triples zero = []
 triples (suc n) = triples n ++ (fromBinary 10 3 n ∷ [])
 
--- what a buffer holds after the call: the list, if it is 1,000 long, otherwise what it held
+-- what a buffer holds after the call: the constant, entry for entry, if it is 1,000 long, otherwise what it held
 unfoldable pub filled : List ℕ → List ℕ
-filled buffer = cond (eqb (length buffer) 1000) (triples 1000) buffer
+filled buffer = cond (eqb (length buffer) 1000) thousand buffer
 
 -- what the call answers: how many entries it filled
 unfoldable pub answered : List ℕ → ℕ

@@ -1,7 +1,8 @@
 // The three characters of each number below 1,000.
 ghost use mathlib.Core.Path.{_≡_};
 ghost use Prim.Native.Nat.{_<_};
-ghost use Rattle.character.specs.Character.{fromBinary};
+ghost use lib.ListN.{getD};
+ghost use Rattle.character.specs.Thousand.{thousand};
 
 // Entry k: the decimal digits of k, each in six bits.
 const THOUSAND: [u16; 1000] = [
@@ -1008,16 +1009,16 @@ const THOUSAND: [u16; 1000] = [
 ];
 
 // An entry as a word.
-pub(crate) fn wide(entry: u16) -> u64
+fn wide(entry: u16) -> u64
     ensures { λ r. ⌜ r ≡ entry ⌝ }
 {
     entry as u64
 }
 
-// The three decimal digits of a number.
+// The three decimal digits of a number, looked up: nothing else reads the constant.
 pub(crate) fn three(k: u64) -> u64
     requires { ⌜ k < 1000 ⌝ }
-    ensures { λ r. ⌜ r ≡ fromBinary 10 3 k ⌝ }
+    ensures { λ r. ⌜ r ≡ getD thousand k 0 ⌝ }
 {
     wide(THOUSAND[k as usize])
 }

@@ -8,6 +8,7 @@ use lib.Seq.{take-suc-set, take-all}
 use borrow.Author.Needs.{needs}
 use borrow.Author.Tests.{eq-eqb, ne-eqb}
 use Rattle.character.specs.Triples.{triples, filled, answered}
+use Rattle.character.proofs.Entries.{thousand-made}
 use Rattle.character.proofs.triples.fill.Statement.{statement}
 use Rattle.character.proofs.triples.fill.Tie as tie
 
@@ -63,7 +64,7 @@ returns-2 c =
     let long : length before ≡ 1000 = omega arith in
     let test = eq-eqb (length before) 1000 long in
     let done : l .made ≡ 1000 = omega arith in
-    (rw test done, rw test (sym (take-all (l .made) (l .buffer) (omega arith)) ∙ l .inv .2 ∙ ap triples done))
+    (rw test done, rw test (sym (take-all (l .made) (l .buffer) (omega arith)) ∙ l .inv .2 ∙ ap triples done ∙ sym thousand-made))
 
 pub fill-spec : {M : Type 1} → statement M
 fill-spec =
