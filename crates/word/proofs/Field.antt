@@ -1,9 +1,9 @@
 -- Laws of a field of a word: how large what it reads and what a store leaves are, that a read after a store gives the bits kept,
 -- and that a store changes no bit outside the field. The null field (left > right) is included. Assumes nothing.
 use mathlib.Core.Bool.{_&&_, cond}
-use mathlib.Core.Path.{_≡_, sym, ap, _∙_, subst⁻¹}
+use mathlib.Core.Path.{_≡_, refl, sym, ap, _∙_, subst⁻¹}
 use Prim.Native.Nat.{ℕ, zero, suc, _+_, _-_, _*_, _/_, _%_, _^_, _≤_, _<_}
-use native.Mathlib.Nat.{le-of-eq, lt-of-lt-of-le, add-assoc, zero-add, add-zero, zero-mul, sub-self, sub-add-cancel, div-one, mod-one, mod-lt, mod-mod, div-add-mod'}
+use native.Mathlib.Nat.{le-of-eq, lt-of-lt-of-le, add-assoc, zero-add, add-zero, zero-mul, sub-self, sub-add-cancel, div-one, mod-one, mod-lt, mod-eq-of-lt, mod-mod, div-add-mod'}
 use native.Mathlib.Omega.{arith}
 use lib.Arith.{digits-lt}
 use lib.Dec.{leb}
@@ -34,15 +34,18 @@ bits-same (suc b) x y h l e =
     let rest = bits-same b (x / 2) (y / 2) (omega arith) (omega arith) (λ p u. sym (bit-half b x p u) ∙ e p (omega arith) ∙ bit-half b y p u) in
     omega arith
 
--- the bits kept fit the field
-pub kept-lt : (left right v : ℕ) → kept left right v < 2 ^ width left right
+-- the bits kept are the remainder by the weight 2 ^ width; a null field has the weight 1 and keeps nothing
+pub kept-is : (left right v : ℕ) → kept left right v ≡ v % 2 ^ width left right
 unfolding kept
-kept-lt left right v = mod-lt v (pow-pos (width left right))
+kept-is left right v = refl
+
+-- they fit the field
+pub kept-lt : (left right v : ℕ) → kept left right v < 2 ^ width left right
+kept-lt left right v = rw kept-is (mod-lt v (pow-pos (width left right)))
 
 -- what is kept of the bits kept is all of them
 pub kept-kept : (left right v : ℕ) → kept left right (kept left right v) ≡ kept left right v
-unfolding kept
-kept-kept left right v = mod-mod v (2 ^ width left right)
+kept-kept left right v = kept-is left right (kept left right v) ∙ mod-eq-of-lt (kept-lt left right v)
 
 -- a word x that has k in the n places left of the s last, and every other bit of w: what stands left of those places, in them and right
 -- of them, and that it is no longer than w and those places are
