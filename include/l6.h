@@ -76,7 +76,7 @@ enum {
 
     L6_KINDS = 30,            /* l6_defined: row 1 is no line, or a row names one of the wrong kind */
 
-    L6_NO_WIDTH = 31,         /* the width, given or in the state, is neither 36 nor 48; judged first, but for L6_BAD_STATE_LENGTH, L6_BAD_REPORT_LENGTH */
+    L6_NO_WIDTH = 31,         /* the width, given or in the state, is neither 36 nor 48; judged first, but for L6_BAD_STATE_LENGTH */
     L6_LAST_ADDRESS = 32,     /* l6_extend: a new last address that is none, or asks for more words than there are */
 
     /* l6_save and l6_load */
@@ -170,8 +170,8 @@ enum {
 /* One step: the tests of a line, an operation, or the exit of a line.
  * Reads all buffers. Writes the report, and where the step is carried out state, storage and output; of a refused step, and of one at
  * the end of the tour, the report is zeros and nothing else is written.
- * Answers L6_RUNNING, L6_FINISHED, a refusal, L6_BAD_STATE_LENGTH, or else L6_BAD_REPORT_LENGTH, and after these two nothing is
- * written. */
+ * Answers L6_BAD_STATE_LENGTH, L6_NO_WIDTH, L6_BAD_REPORT_LENGTH, another refusal, L6_RUNNING or L6_FINISHED. Where a length is wrong
+ * nothing is written. */
 uint64_t l6_step(const uint64_t *table, size_t table_length, uint64_t *storage, size_t storage_length, const uint8_t *input,
                  size_t input_length, uint8_t *output, size_t output_length, uint8_t *state, size_t state_length, uint64_t *report,
                  size_t report_length);

@@ -273,7 +273,7 @@ impl Compared {
         let bad = |otherwise| if state == STATE { otherwise } else { 101 };
         let answer = calls.step(given, &mut wrong, &mut list);
         self.answered(answer, 0);
-        self.same("an answer on lengths of a step", answer, bad(102));
+        self.same("an answer on lengths of a step", answer, bad(if blocks == Err(31) { 31 } else { 102 }));
         if state != STATE {
             let answers = [calls.run(given, &mut wrong, 9, &mut count), calls.fresh(48, &mut wrong.state), calls.extend(&mut wrong, 15)];
             for answer in answers { self.answered(answer, 0) }

@@ -1,4 +1,5 @@
 -- The laws that the proofs of the functions cite.
+pub mod Answers
 pub mod Level
 pub mod Halves
 pub mod Sums

@@ -4,6 +4,7 @@ use lib.ListN.{getD}
 use mathlib.Core.Bool.{cond}
 use mathlib.Core.List.{List, [], _∷_}
 use lib.Dec.{leb}
+use Rattle.word.specs.Told.{Told, gives, refuses}
 use Rattle.buddy.specs.declared.Found.{Found}
 use Rattle.buddy.specs.declared.Found.the-variants.{At, Nothing}
 use Rattle.block.specs.Blocks.{size, Tree, Free, Live, Halves}
@@ -12,6 +13,16 @@ use Rattle.block.specs.Blocks.{size, Tree, Free, Live, Halves}
 unfoldable pub firstOf : List ℕ → Found
 firstOf [] = Nothing
 firstOf (x ∷ xs) = At x
+
+-- what is found in numbers: the address, or 17
+unfoldable pub toldFound : Found → Told ℕ
+toldFound (At a) = gives a
+toldFound Nothing = refuses 17
+
+-- the first of a list of runs, 17 where there is none
+unfoldable pub firstTold : List ℕ → Told ℕ
+firstTold [] = refuses 17
+firstTold (r ∷ rs) = gives r
 
 -- what is found, or else what is found elsewhere
 unfoldable pub orElse : Found → Found → Found

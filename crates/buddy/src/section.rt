@@ -8,7 +8,7 @@ ghost use Rattle.block.specs.Blocks.{size, sizeAt};
 ghost use Rattle.block.specs.SetUp.{top, words, runs};
 ghost use Rattle.block.specs.Map.{keeps, live, freedMap, deliveredMap};
 ghost use Rattle.buddy.specs.Sum.{total, allTags};
-ghost use Rattle.buddy.specs.Lowest.{firstOf, Passed};
+ghost use Rattle.buddy.specs.Lowest.{firstOf, toldFound, firstTold, Passed};
 ghost use Rattle.buddy.specs.Tag.{tagSize};
 use super::Found;
 use super::sizes::size_of;
@@ -168,7 +168,7 @@ fn skip(map: &[u8], from: usize, end: usize, least: u8, n: usize) -> usize
 // words as are wanted, a free block of that size or a larger starts one, and a live block has none in its words.
 pub fn lowest_run(setup: SetUp, map: &[u8], j: u8) -> Found
     requires { ⌜ (words setup % size (top (setup .d)) ≡ 0) × (keeps setup (now map) ≡ true) × (j ≤ top (setup .d)) ⌝ }
-    ensures { λ r. ⌜ r ≡ firstOf (runs (size j) setup (live setup (now (map .entry)))) ⌝ }
+    ensures { λ r. ⌜ toldFound r ≡ firstTold (runs (size j) setup (live setup (now (map .entry)))) ⌝ }
 {
     let n = size_of(j);
     let least = free_tag(j);

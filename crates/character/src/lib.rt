@@ -7,7 +7,7 @@ ghost use mathlib.Core.List.{_++_};
 ghost use Prim.Native.Nat.{_+_, _*_, _/_, _%_, _^_, _≤_, _<_, min};
 ghost use lib.ListN.{length, take, drop, getD, replicate};
 ghost use Rattle.character.specs.Character.{holds, leading, characters, packed, printed, blanksToZeros, toBinary, fromBinary, zerosToBlanks};
-ghost use Rattle.character.specs.Converted.{converted, packing};
+ghost use Rattle.character.specs.Converted.{toldConverted, toldPacked, converting, packing};
 
 // The blank.
 const BLANK: u64 = 0o60;
@@ -85,7 +85,7 @@ pub fn from_binary_decimal(n: usize, v: u64) -> u64
 // Operations 27 and 28: the number that n characters are in base 10 or 8, if each is a digit of the base.
 pub fn to_binary(base: u64, n: usize, v: u64) -> Converted
     requires { ⌜ (base ≤ 64) × (n ≤ 10) ⌝ }
-    ensures { λ r. ⌜ r ≡ converted (toBinary base n v) ⌝ }
+    ensures { λ r. ⌜ toldConverted r ≡ converting (toBinary base n v) ⌝ }
 {
     let mut left = n;
     let mut made = 0;
@@ -170,7 +170,7 @@ pub fn line_ends(n: usize) -> u64
 // Operation 24: the value of `count` input bytes from a place on, if each is a character.
 pub fn pack_input(input: &[u8], at: usize, count: usize) -> Packed
     requires { ⌜ (count ≤ 10) × (at + count ≤ length (now input)) ⌝ }
-    ensures { λ r. ⌜ r ≡ packing (take count (drop at (now (input .entry)))) ⌝ }
+    ensures { λ r. ⌜ toldPacked r ≡ packing (take count (drop at (now (input .entry)))) ⌝ }
 {
     let mut left = count;
     let mut made = 0;

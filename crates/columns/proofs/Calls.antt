@@ -13,7 +13,7 @@ use Rattle.word.specs.Word.{isWidth}
 use Rattle.word.proofs.Width.{width-range}
 use Rattle.columns.specs.declared.Kept.{Kept}
 use Rattle.columns.specs.declared.Kept.the-variants.{Count, NoWidth, WordTooWide, NotSaved, OutputShort}
-use Rattle.columns.specs.Columns.{Left, groupsOf, saved, allLoaded, loaded, fitsWidth, eachBelow, isSaved, written, saving, loading, turnedGroups}
+use Rattle.columns.specs.Columns.{Left, groupsOf, saved, allLoaded, loaded, fitsWidth, eachBelow, isSaved, written, saving, loading, turnedGroups, toldKept, writtenTold, savingTold, loadingTold}
 use Rattle.columns.proofs.Back.{room, length-saved}
 use Rattle.columns.proofs.Turning.{length-groups}
 
@@ -41,40 +41,50 @@ abbrev left : Kept → List ℕ → Left
 left answer output = record { answer = answer; output = output }
 
 module _ (b : ℕ) (ws output : List ℕ) where
-  pub saving-no-width : isWidth b ≡ false → left NoWidth output ≡ saving b ws output
-  unfolding saving
-  saving-no-width w = rw w
+  -- an answer and what it leaves, also in numbers
+  abbrev pub Saves : Kept → List ℕ → Type 0
+  Saves answer after = (left answer after ≡ saving b ws output) × (toldKept answer ≡ savingTold b ws output)
+
+  pub saving-no-width : isWidth b ≡ false → Saves NoWidth output
+  unfolding saving toldKept savingTold
+  saving-no-width w = (rw w, rw w)
 
   module _ (w : isWidth b ≡ true) where
-    pub saving-wide : fitsWidth b ws ≡ false → left WordTooWide output ≡ saving b ws output
-    unfolding saving
-    saving-wide f = rw (w, f)
+    pub saving-wide : fitsWidth b ws ≡ false → Saves WordTooWide output
+    unfolding saving toldKept savingTold
+    saving-wide f = (rw (w, f), rw (w, f))
 
     module _ (f : fitsWidth b ws ≡ true) {count : ℕ} (is : count ≡ b * groupsOf (length ws)) where
-      pub saving-short : length output < count → left OutputShort output ≡ saving b ws output
-      unfolding saving written
-      saving-short h = rw (w, f, lt-leb (length (saved b ws)) (length output) (omega (arith, length-saved b ws)))
+      pub saving-short : length output < count → Saves OutputShort output
+      unfolding saving written toldKept savingTold writtenTold
+      saving-short h =
+          let short = lt-leb (length (saved b ws)) (length output) (omega (arith, length-saved b ws)) in
+          (rw (w, f, short), rw (w, f, short))
 
-      pub saving-done : count ≤ length output → {after : List ℕ} → after ≡ saved b ws ++ drop count output → left (Count count) after ≡ saving b ws output
-      unfolding saving written
+      pub saving-done : count ≤ length output → {after : List ℕ} → after ≡ saved b ws ++ drop count output → Saves (Count count) after
+      unfolding saving written toldKept savingTold writtenTold
       saving-done h e =
           let same : count ≡ length (saved b ws) = is ∙ sym (length-saved b ws) in
-          rw (w, f, le-leb (length (saved b ws)) (length output) (omega arith), e, same)
+          let fits = le-leb (length (saved b ws)) (length output) (omega arith) in
+          (rw (w, f, fits, e, same), rw (w, f, fits, same))
 
 module _ (b n : ℕ) (bytes output : List ℕ) where
-  pub loading-no-width : isWidth b ≡ false → left NoWidth output ≡ loading b n bytes output
-  unfolding loading
-  loading-no-width w = rw w
+  abbrev pub Loads : Kept → List ℕ → Type 0
+  Loads answer after = (left answer after ≡ loading b n bytes output) × (toldKept answer ≡ loadingTold b n bytes output)
+
+  pub loading-no-width : isWidth b ≡ false → Loads NoWidth output
+  unfolding loading toldKept loadingTold
+  loading-no-width w = (rw w, rw w)
 
   module _ (w : isWidth b ≡ true) {groups : ℕ} (is : groups ≡ groupsOf n) where
-    pub loading-uneven : eqb (length bytes) (b * groups) ≡ false → left NotSaved output ≡ loading b n bytes output
-    unfolding loading isSaved
-    loading-uneven e = rw (w, ← is, e)
+    pub loading-uneven : eqb (length bytes) (b * groups) ≡ false → Loads NotSaved output
+    unfolding loading isSaved toldKept loadingTold
+    loading-uneven e = (rw (w, ← is, e), rw (w, ← is, e))
 
     module _ (even : eqb (length bytes) (b * groups) ≡ true) where
-      pub loading-filled : eachBelow 1 (drop n (turnedGroups 8 b groups bytes)) ≡ false → left NotSaved output ≡ loading b n bytes output
-      unfolding loading isSaved allLoaded
-      loading-filled e = rw (w, ← is, even, e)
+      pub loading-filled : eachBelow 1 (drop n (turnedGroups 8 b groups bytes)) ≡ false → Loads NotSaved output
+      unfolding loading isSaved allLoaded toldKept loadingTold
+      loading-filled e = (rw (w, ← is, even, e), rw (w, ← is, even, e))
 
       module _ (zeros : eachBelow 1 (drop n (turnedGroups 8 b groups bytes)) ≡ true) where
         accepted : isSaved b n bytes ≡ true
@@ -85,15 +95,19 @@ module _ (b n : ℕ) (bytes output : List ℕ) where
         unfolding loaded allLoaded
         long = simp length-take (omega (arith, length-groups 8 b (groupsOf n) bytes, room n))
 
-        pub loading-short : length output < n → left OutputShort output ≡ loading b n bytes output
-        unfolding loading written
-        loading-short h = rw (w, accepted, lt-leb (length (loaded b n bytes)) (length output) (omega (arith, long)))
+        pub loading-short : length output < n → Loads OutputShort output
+        unfolding loading written toldKept loadingTold writtenTold
+        loading-short h =
+            let short = lt-leb (length (loaded b n bytes)) (length output) (omega (arith, long)) in
+            (rw (w, accepted, short), rw (w, accepted, short))
 
         same-words : take n (turnedGroups 8 b groups bytes) ≡ loaded b n bytes
         unfolding loaded allLoaded
         same-words = ap (λ (k : ℕ). take n (turnedGroups 8 b k bytes)) is
 
         pub loading-done : n ≤ length output → {after : List ℕ} → after ≡ take n (turnedGroups 8 b groups bytes) ++ drop n output
-            → left (Count n) after ≡ loading b n bytes output
-        unfolding loading written
-        loading-done h e = rw (w, accepted, le-leb (length (loaded b n bytes)) (length output) (omega (arith, long)), long, e, same-words)
+            → Loads (Count n) after
+        unfolding loading written toldKept loadingTold writtenTold
+        loading-done h e =
+            let fits = le-leb (length (loaded b n bytes)) (length output) (omega (arith, long)) in
+            (rw (w, accepted, fits, long, e, same-words), rw (w, accepted, fits, long))

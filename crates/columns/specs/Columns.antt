@@ -5,6 +5,7 @@ use mathlib.Core.List.{List, [], _∷_, _++_, map}
 use lib.Dec.{eqb, leb, ltb}
 use lib.ListN.{length, getD, take, drop, replicate}
 use Rattle.word.specs.Word.{isWidth}
+use Rattle.word.specs.Told.{Told, gives, refuses}
 use Rattle.character.specs.Character.{digits, number}
 use Rattle.columns.specs.declared.Kept.{Kept}
 use Rattle.columns.specs.declared.Kept.the-variants.{Count, NoWidth, WordTooWide, NotSaved, OutputShort}
@@ -103,10 +104,21 @@ loading b n bytes output =
     (cond (isSaved b n bytes) (written (loaded b n bytes) output) (record { answer = NotSaved; output = output }))
     (record { answer = NoWidth; output = output })
 
--- the number of a refusal, 0 where it has none
-unfoldable pub keptNumber : Kept → ℕ
-keptNumber (Count n) = 0
-keptNumber NoWidth = 31
-keptNumber WordTooWide = 33
-keptNumber NotSaved = 34
-keptNumber OutputShort = 35
+-- answers in numbers: the count, or the refusal
+unfoldable pub toldKept : Kept → Told ℕ
+toldKept (Count n) = gives n
+toldKept NoWidth = refuses 31
+toldKept WordTooWide = refuses 33
+toldKept NotSaved = refuses 34
+toldKept OutputShort = refuses 35
+
+-- what saving and loading tell: 31, 33, 35 and 31, 34, 35
+unfoldable pub writtenTold : List ℕ → List ℕ → Told ℕ
+writtenTold xs output = cond (leb (length xs) (length output)) (gives (length xs)) (refuses 35)
+
+unfoldable pub savingTold : ℕ → List ℕ → List ℕ → Told ℕ
+savingTold b ws output = cond (isWidth b) (cond (fitsWidth b ws) (writtenTold (saved b ws) output) (refuses 33)) (refuses 31)
+
+unfoldable pub loadingTold : ℕ → ℕ → List ℕ → List ℕ → Told ℕ
+loadingTold b n bytes output =
+    cond (isWidth b) (cond (isSaved b n bytes) (writtenTold (loaded b n bytes) output) (refuses 34)) (refuses 31)

@@ -7,7 +7,7 @@ ghost use lib.Dec.{eqb};
 ghost use lib.ListN.{length, getD, take, drop};
 ghost use lib.Seq.{sets};
 ghost use Rattle.character.specs.Character.{number};
-ghost use Rattle.columns.specs.Columns.{groupsOf, filledUp, turnedGroups, saved, fitsWidth, eachBelow, isSaved, saving, loading, bitsAt, turned};
+ghost use Rattle.columns.specs.Columns.{groupsOf, filledUp, turnedGroups, saved, fitsWidth, eachBelow, isSaved, saving, loading, toldKept, savingTold, loadingTold, bitsAt, turned};
 ghost use Rattle.columns.specs.Packing.{unpacked, spreadOf, packedTurned, octets, longer};
 use word::is_width;
 
@@ -275,6 +275,7 @@ fn is_whole(b: u64, groups: usize, length: usize) -> bool
 // Saves words of b bits: 31, 33, 35. Bytes past those written stay.
 pub fn save(b: u64, words: &[u64], bytes: &mut [u8]) -> Kept
     ensures { λ r. ⌜ record { answer = r; output = now (bytes .exit) } ≡ saving b (now (words .entry)) (now (bytes .entry)) ⌝ }
+    ensures numbered { λ r. ⌜ toldKept r ≡ savingTold b (now (words .entry)) (now (bytes .entry)) ⌝ }
 {
     if !is_width(b) {
         return Kept::NoWidth;
@@ -295,6 +296,7 @@ pub fn save(b: u64, words: &[u64], bytes: &mut [u8]) -> Kept
 // Loads n words of b bits: 31, 34, 35. Words past those written stay.
 pub fn load(b: u64, bytes: &[u8], n: usize, words: &mut [u64]) -> Kept
     ensures { λ r. ⌜ record { answer = r; output = now (words .exit) } ≡ loading b n (now (bytes .entry)) (now (words .entry)) ⌝ }
+    ensures numbered { λ r. ⌜ toldKept r ≡ loadingTold b n (now (bytes .entry)) (now (words .entry)) ⌝ }
 {
     if !is_width(b) {
         return Kept::NoWidth;

@@ -2,7 +2,7 @@
 -- Assumes nothing.
 use Prim.Native.Nat.{ℕ}
 use mathlib.Core.Bool.{Bool, true, false, _&&_, cond}
-use mathlib.Core.List.{List}
+use mathlib.Core.List.{List, [], _∷_}
 use mathlib.Core.Path.{_≡_, refl, ap, sym, _∙_}
 use lib.Dec.{eqb}
 use borrow.Author.Tests.{eq-eqb, ne-eqb}
@@ -14,7 +14,8 @@ use Rattle.defined.specs.declared.FirstUse.{FirstUse}
 use Rattle.defined.specs.declared.FirstUse.the-variants.{At, Nowhere}
 use Rattle.defined.specs.Kinds.{wrongRow}
 use Rattle.defined.specs.Search.{firstUse}
-use Rattle.defined.specs.Answer.{Accepted, illFormedRow, saying, fieldsChecked, Meant, refusalOf, rowOf, fieldOf, Numbered}
+use Rattle.word.specs.Told.{tells, gives, refuses}
+use Rattle.defined.specs.Answer.{Accepted, illFormedRow, saying, fieldsChecked, Meant, toldFields, useTold, fieldsTold}
 use Rattle.defined.proofs.Decides.{meant}
 
 -- no width
@@ -54,42 +55,19 @@ module _ (b : ℕ) (table : List ℕ) (wide : isWidth b ≡ true) where
 
 -- the promises: equality with what is computed, what it means, and the papers' numbers
 pub promised : (b : ℕ) (table : List ℕ) {x : FieldsCheck} → x ≡ fieldsChecked b table
-    → (x ≡ fieldsChecked b table) × (Meant b table x × Numbered b table x)
-unfolding fieldsChecked refusalOf rowOf fieldOf saying
+    → (x ≡ fieldsChecked b table) × (Meant b table x × (toldFields x ≡ fieldsTold b table))
+unfolding fieldsChecked toldFields useTold fieldsTold saying
 promised b table {x} is =
     let ill = illFormedRow b table in
     let wrong = wrongRow table in
-    let numbered : Numbered b table x = record {
-      refusal = ap refusalOf is ∙ refusal (isWidth b) (lengthFits table) (eqb ill 0) (eqb wrong 0) (firstUse table) ill wrong;
-      row = ap rowOf is ∙ row (isWidth b) (lengthFits table) (eqb ill 0) (eqb wrong 0) (firstUse table) ill wrong;
-      field = ap fieldOf is ∙ field (isWidth b) (lengthFits table) (eqb ill 0) (eqb wrong 0) (firstUse table) ill wrong;
-    } in
-    (is, (meant b table x is, numbered))
+    (is, (meant b table x is, ap toldFields is ∙ tell (isWidth b) (lengthFits table) (eqb ill 0) (eqb wrong 0) (firstUse table) ill wrong))
   where
-    computed : Bool → Bool → Bool → Bool → FirstUse → ℕ → ℕ → FieldsCheck
-    computed w x y z u ill wrong = cond w (cond x (cond y (cond z (saying u) (WrongKind wrong)) (IllFormed ill)) BadLength) NoWidth
-
-    refusal : (w x y z : Bool) (u : FirstUse) (ill wrong : ℕ)
-        → refusalOf (computed w x y z u ill wrong) ≡ cond w (cond x (cond y (cond z 0 30) 0) 1) 31
-    refusal true true true true (At r n) ill wrong = refl
-    refusal true true true true Nowhere ill wrong = refl
-    refusal true true true false u ill wrong = refl
-    refusal true true false z u ill wrong = refl
-    refusal true false y z u ill wrong = refl
-    refusal false x y z u ill wrong = refl
-
-    row : (w x y z : Bool) (u : FirstUse) (ill wrong : ℕ)
-        → rowOf (computed w x y z u ill wrong) ≡ cond (w && x) (cond y (cond z (rowOf (saying u)) wrong) ill) 0
-    row true true true true u ill wrong = refl
-    row true true true false u ill wrong = refl
-    row true true false z u ill wrong = refl
-    row true false y z u ill wrong = refl
-    row false x y z u ill wrong = refl
-
-    field : (w x y z : Bool) (u : FirstUse) (ill wrong : ℕ)
-        → fieldOf (computed w x y z u ill wrong) ≡ cond (w && x) (cond y (cond z (fieldOf (saying u)) 0) 0) 0
-    field true true true true u ill wrong = refl
-    field true true true false u ill wrong = refl
-    field true true false z u ill wrong = refl
-    field true false y z u ill wrong = refl
-    field false x y z u ill wrong = refl
+    tell : (w x y z : Bool) (u : FirstUse) (ill wrong : ℕ)
+        → toldFields (cond w (cond x (cond y (cond z (saying u) (WrongKind wrong)) (IllFormed ill)) BadLength) NoWidth)
+        ≡ cond w (cond x (cond y (cond z (useTold u) (tells 30 (wrong ∷ []))) (gives ill)) (refuses 1)) (refuses 31)
+    tell true true true true (At r n) ill wrong = refl
+    tell true true true true Nowhere ill wrong = refl
+    tell true true true false u ill wrong = refl
+    tell true true false z u ill wrong = refl
+    tell true false y z u ill wrong = refl
+    tell false x y z u ill wrong = refl

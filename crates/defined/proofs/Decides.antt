@@ -20,7 +20,7 @@ use Rattle.defined.specs.declared.FirstUse.the-variants.{At, Nowhere}
 use Rattle.defined.specs.declared.Used.{Used}
 use Rattle.defined.specs.declared.Used.the-variants.{Field, Nothing}
 use Rattle.defined.specs.Kinds.{isKind, wrongRow}
-use Rattle.defined.specs.Paths.{StandsAt, Path, names, fieldsOf, UsesUndefined, SomeUse, FirstSuch, here, later, Told}
+use Rattle.defined.specs.Paths.{StandsAt, Path, names, fieldsOf, UsesUndefined, SomeUse, FirstSuch, here, later, ToldUse}
 use Rattle.defined.specs.Search.{has, Sets, setAt, Rounds, finalSets, linesMarked, finalMarks, firstIn, useAt, orLater, lowestUsing, lowestUse, firstUse}
 use Rattle.defined.specs.Answer.{Passes, illFormedRow, saying, fieldsChecked, Meant, IsRow}
 use Rattle.defined.proofs.Refers.{or-right}
@@ -122,7 +122,7 @@ module _ (b : ℕ) (table : List ℕ) (h : Passes b table) where
 
   -- what is found from row r on, where nothing is found before
   Right : FirstUse → Type 0
-  Right u = ((p n : ℕ) → u ≡ At p n → Told table p n) × (u ≡ Nowhere → (q m : ℕ) → q < rows table → UsesUndefined table q m → ⊥)
+  Right u = ((p n : ℕ) → u ≡ At p n → ToldUse table p n) × (u ≡ Nowhere → (q m : ℕ) → q < rows table → UsesUndefined table q m → ⊥)
 
   Clear : ℕ → Type 0
   Clear r = (q m : ℕ) → q < r → UsesUndefined table q m → ⊥
@@ -142,7 +142,7 @@ module _ (b : ℕ) (table : List ℕ) (h : Passes b table) where
     λ p m k.
         let same : r ≡ p = at-row k in
         let same′ : n ≡ m = at-field k in
-        subst (λ j. Told table j m) same (subst (Told table r) same′ (record { lowest = none; isFirst = row-told r low high .0 n e })),
+        subst (λ j. ToldUse table j m) same (subst (ToldUse table r) same′ (record { lowest = none; isFirst = row-told r low high .0 n e })),
     λ k. let never : _≡_ {A = ℕ} 0 1 = cc in absurd (omega arith),
   )
     where
@@ -169,7 +169,7 @@ module _ (b : ℕ) (table : List ℕ) (h : Passes b table) where
       rows-right (rows table - 1) 1 (omega arith) (omega arith) (λ q m less u. let low = used-inside q m u .0 in omega arith)
 
   -- the search tells what is to be told, and finds nothing exactly where there is nothing
-  pub finds : (r n : ℕ) → firstUse table ≡ At r n → Told table r n
+  pub finds : (r n : ℕ) → firstUse table ≡ At r n → ToldUse table r n
   unfolding Right
   finds = use-right .0
 
@@ -200,7 +200,7 @@ first-holds : (P : ℕ → Type 0) (fs : List FieldName) (n : ℕ) → FirstSuch
 first-holds P fs n (here p) = p
 first-holds P fs n (later o f) = first-holds P _ n f
 
-told-some : (table : List ℕ) (r n : ℕ) → Told table r n → SomeUse table
+told-some : (table : List ℕ) (r n : ℕ) → ToldUse table r n → SomeUse table
 told-some table r n t = record { row = r; name = n; uses = first-holds (UsesUndefined table r) _ n (t .isFirst) }
 
 module _ (b : ℕ) (table : List ℕ) where
@@ -226,7 +226,7 @@ module _ (b : ℕ) (table : List ℕ) where
   saying-yes (At q m) e = let never : _≡_ {A = ℕ} 0 1 = cc in absurd (omega arith)
   saying-yes Nowhere e = refl
 
-  no-tells : (r n : ℕ) → fieldsChecked b table ≡ No r n → Passes b table × Told table r n
+  no-tells : (r n : ℕ) → fieldsChecked b table ≡ No r n → Passes b table × ToldUse table r n
   unfolding verdict
   no-tells r n e = let (h, is) = says (No r n) e refl in (h, finds b table h r n (saying-no _ r n is))
 

@@ -2,11 +2,12 @@
 -- Document 02: tickets 8 and 9. Assumes nothing.
 use Prim.Native.Nat.{ℕ, _-_, _<_}
 use mathlib.Core.Bool.{true, _&&_, cond}
-use mathlib.Core.List.{List}
+use mathlib.Core.List.{List, [], _∷_}
 use mathlib.Core.Logic.{_↔_}
 use mathlib.Core.Path.{_≡_}
 use lib.Dec.{eqb}
 use Rattle.word.specs.Word.{isWidth}
+use Rattle.word.specs.Told.{Told, tells, gives, refuses}
 use Rattle.table.specs.Row.{lengthFits, rows, rowAt}
 use Rattle.table.specs.Table.{lowestFrom}
 use Rattle.defined.specs.declared.FieldsCheck.{FieldsCheck}
@@ -14,7 +15,7 @@ use Rattle.defined.specs.declared.FieldsCheck.the-variants.{Yes, No, NoW
 use Rattle.defined.specs.declared.FirstUse.{FirstUse}
 use Rattle.defined.specs.declared.FirstUse.the-variants.{At, Nowhere}
 use Rattle.defined.specs.Kinds.{wrongRow}
-use Rattle.defined.specs.Paths.{SomeUse, Told}
+use Rattle.defined.specs.Paths.{SomeUse, ToldUse}
 use Rattle.defined.specs.Search.{firstUse}
 
 -- the table check's own answer for a table whose length fits: the lowest ill-formed row, 0 if there is none
@@ -33,7 +34,7 @@ pub record Passes (b : ℕ) (table : List ℕ) : Type 0 where
 pub record Meant (b : ℕ) (table : List ℕ) (answer : FieldsCheck) : Type 0 where
   pub isNo : ((r : ℕ) × ((n : ℕ) × (answer ≡ No r n))) ↔ (Passes b table × SomeUse table)
   pub isYes : (answer ≡ Yes) ↔ (Passes b table × (SomeUse table → ⊥))
-  pub tells : (r n : ℕ) → answer ≡ No r n → Told table r n
+  pub tells : (r n : ℕ) → answer ≡ No r n → ToldUse table r n
 
 -- no, with the row and the field, or yes
 unfoldable pub saying : FirstUse → FieldsCheck
@@ -51,46 +52,30 @@ fieldsChecked b table =
     BadLength)
     NoWidth
 
--- the answer in the papers' numbers: the refusal, 0 where it is none
-unfoldable pub refusalOf : FieldsCheck → ℕ
-refusalOf Yes = 0
-refusalOf (No r n) = 0
-refusalOf NoWidth = 31
-refusalOf BadLength = 1
-refusalOf (IllFormed r) = 0
-refusalOf (WrongKind r) = 30
+-- the answer in numbers: of a yes no value, of a no the row and the field, the row that the table check gives, or the refusal, with its row
+-- where it tells one
+unfoldable pub toldFields : FieldsCheck → Told ℕ
+toldFields Yes = tells 0 []
+toldFields (No r n) = tells 0 (r ∷ n ∷ [])
+toldFields NoWidth = refuses 31
+toldFields BadLength = refuses 1
+toldFields (IllFormed r) = gives r
+toldFields (WrongKind r) = tells 30 (r ∷ [])
 
--- the row that it tells: of a no, of the table check, of 30; 0 where it tells none
-unfoldable pub rowOf : FieldsCheck → ℕ
-rowOf Yes = 0
-rowOf (No r n) = r
-rowOf NoWidth = 0
-rowOf BadLength = 0
-rowOf (IllFormed r) = r
-rowOf (WrongKind r) = r
+unfoldable pub useTold : FirstUse → Told ℕ
+useTold (At r n) = tells 0 (r ∷ n ∷ [])
+useTold Nowhere = tells 0 []
 
--- the field that a no tells, by its name number; 0 where none is told
-unfoldable pub fieldOf : FieldsCheck → ℕ
-fieldOf Yes = 0
-fieldOf (No r n) = n
-fieldOf NoWidth = 0
-fieldOf BadLength = 0
-fieldOf (IllFormed r) = 0
-fieldOf (WrongKind r) = 0
-
--- 31, 1, 30 or no refusal, and the row of what comes before yes or no
-pub record Numbered (b : ℕ) (table : List ℕ) (answer : FieldsCheck) : Type 0 where
-  pub refusal : refusalOf answer
-      ≡ cond (isWidth b) (cond (lengthFits table) (cond (eqb (illFormedRow b table) 0) (cond (eqb (wrongRow table) 0) 0 30) 0) 1) 31
-  pub row : rowOf answer
-      ≡ cond (isWidth b && lengthFits table)
-      (cond (eqb (illFormedRow b table) 0) (cond (eqb (wrongRow table) 0) (rowOf (saying (firstUse table))) (wrongRow table))
-      (illFormedRow b table))
-      0
-  pub field : fieldOf answer
-      ≡ cond (isWidth b && lengthFits table)
-      (cond (eqb (illFormedRow b table) 0) (cond (eqb (wrongRow table) 0) (fieldOf (saying (firstUse table))) 0) 0)
-      0
+-- what the check tells, in the order 31, 1, the table check's own row, 30, no or yes
+unfoldable pub fieldsTold : ℕ → List ℕ → Told ℕ
+fieldsTold b table =
+    cond (isWidth b)
+    (cond (lengthFits table)
+    (cond (eqb (illFormedRow b table) 0)
+    (cond (eqb (wrongRow table) 0) (useTold (firstUse table)) (tells 30 (wrongRow table ∷ [])))
+    (gives (illFormedRow b table)))
+    (refuses 1))
+    (refuses 31)
 
 -- a table that passes by some width
 pub record Accepted (table : List ℕ) : Type 0 where

@@ -113,6 +113,6 @@ pub data FirstSuch (P : ℕ → Type 0) : List FieldName → ℕ → Type 0 wher
   later : {f : FieldName} {fs : List FieldName} {n : ℕ} → (P (f .0) → ⊥) → FirstSuch P fs n → FirstSuch P (f ∷ fs) n
 
 -- what a no tells: the lowest row that some path reaches so, and the first of its fields that is not defined there on some path
-pub record Told (table : List ℕ) (r n : ℕ) : Type 0 where
+pub record ToldUse (table : List ℕ) (r n : ℕ) : Type 0 where
   pub lowest : (q m : ℕ) → q < r → UsesUndefined table q m → ⊥
   pub isFirst : FirstSuch (UsesUndefined table r) (fieldsOf (rowAt table r)) n

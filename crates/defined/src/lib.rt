@@ -1,6 +1,6 @@
 // Fields defined before they are used: ticket 8. What the answers mean stands in specs/.
 ghost use mathlib.Core.Path.{_≡_};
-ghost use Rattle.defined.specs.Answer.{fieldsChecked, Numbered, Meant};
+ghost use Rattle.defined.specs.Answer.{fieldsChecked, toldFields, fieldsTold, Meant};
 
 mod kinds;
 mod marks;
@@ -40,7 +40,7 @@ pub enum FieldsCheck {
 pub fn check_fields(b: u64, table: &[u64]) -> FieldsCheck
     ensures { λ x. ⌜ x ≡ fieldsChecked b (now (table .entry)) ⌝ }
     ensures meant { λ x. ⌜ Meant b (now (table .entry)) x ⌝ }
-    ensures numbered { λ x. ⌜ Numbered b (now (table .entry)) x ⌝ }
+    ensures numbered { λ x. ⌜ toldFields x ≡ fieldsTold b (now (table .entry)) ⌝ }
 {
     if !word::is_width(b) {
         return FieldsCheck::NoWidth;

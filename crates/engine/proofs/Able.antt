@@ -52,7 +52,8 @@ use Rattle.operations.specs.declared.Action.the-variants.{Nothing, Deliver, Del
 use Rattle.operations.specs.Seen.{sight, Ready, countsOf}
 use Rattle.operations.specs.Plans.{setUpPlan, defining, definePlan, sizeOf, afterDelivery, delivering, getting, freeing, duplicating, taking, valueBy, storing, acting, twoPlan, swapPlan, printing, printPlan, contentsPlan, recordPlan, stackPlan, planOf, nameOf}
 use Rattle.plans.specs.Rows.{Two, Three, Operates}
-use Rattle.plans.specs.Steps.{Plan, goingTo, testsPlan, orderedPlan, operationPlan, exitPlan, stepPlan}
+use Rattle.operations.specs.Answers.{Plan}
+use Rattle.plans.specs.Steps.{goingTo, testsPlan, orderedPlan, operationPlan, exitPlan, stepPlan}
 use Rattle.plans.proofs.Ready.{ready-is}
 use Rattle.plans.proofs.Shapes.{operates, called-row}
 use Rattle.plans.proofs.Stores.{not-null}

@@ -20,12 +20,12 @@ use Rattle.machine.specs.declared.Refusal.the-variants.{Unsound, TableLength, N
 use Rattle.machine.specs.Answer.{isRunning, need, _>>_}
 use Rattle.machine.specs.State.{isFinished}
 use Rattle.machine.specs.Storage.{noReport}
-use Rattle.machine.specs.Sound.{Lent, Engine, sound}
+use Rattle.machine.specs.Sound.{Lent, lends, Engine, sound}
 use Rattle.machine.specs.Step.{Outcome, RunOutcome, unchanged, outcome, plan, stepAt, step, ending as ends, runFrom, run}
 use Rattle.machine.proofs.Checks.{need-no}
 use Rattle.engine.specs.declared.Walked.{Walked}
 use Rattle.engine.specs.Walking.{Walk, walks, ending, walkFrom}
-use Rattle.engine.proofs.Turns.{lends, walk-stops}
+use Rattle.engine.proofs.Turns.{walk-stops}
 use Rattle.engine.proofs.Now.{returning}
 use Rattle.engine.proofs.Relations.{ranOf, steppedOf, walk-run, walk-step}
 

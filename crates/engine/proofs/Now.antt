@@ -18,19 +18,19 @@ use Rattle.machine.specs.declared.Report.{Report}
 use Rattle.machine.specs.declared.Refusal.{Refusal}
 use Rattle.machine.specs.declared.Answer.{Answer}
 use Rattle.machine.specs.declared.Answer.the-variants.{Running, Finished, Refused}
-use Rattle.machine.specs.Answer.{Checked, refused, passed}
+use Rattle.machine.specs.Answer.{told}
 use Rattle.machine.specs.State.{isFinished}
 use Rattle.machine.specs.Storage.{noReport}
-use Rattle.machine.specs.Sound.{Engine, sound}
+use Rattle.machine.specs.Sound.{lends, Engine, sound}
 use Rattle.machine.specs.Locate.{world}
 use Rattle.operations.specs.declared.Action.{Action}
 use Rattle.operations.specs.declared.Counts.{Counts}
 use Rattle.operations.specs.declared.Planned.{Planned}
 use Rattle.operations.specs.declared.Planned.the-variants.{Does, Stopped}
 use Rattle.operations.specs.Seen.{sees, countsOf, Ready}
-use Rattle.operations.proofs.Answers.{clash}
-use Rattle.plans.specs.Steps.{Plan, stepPlan}
-use Rattle.plans.specs.Answers.{answered}
+use Rattle.operations.specs.Answers.{toldPlanned}
+use Rattle.plans.specs.Steps.{stepPlan}
+use Rattle.plans.proofs.Answers.{plan-is, no-plan-is}
 use Rattle.plans.proofs.Ready.{ready-is}
 use Rattle.commit.specs.declared.Onward.{Onward}
 use Rattle.commit.specs.declared.Records.{Records}
@@ -43,21 +43,7 @@ use Rattle.commit.proofs.Turning.{feasible-reportable}
 use Rattle.engine.specs.declared.Walked.{Walked}
 use Rattle.engine.specs.Walking.{Walk, walks, walkFrom}
 use Rattle.engine.proofs.Able.{Able, plan-able}
-use Rattle.engine.proofs.Turns.{lends, Going, going-refused, going-ends, going-next, going-first}
-
--- an answer taken apart
-plan-is : (k : Checked Plan) {answer : Planned} {to : Place} {x : Action} → answer ≡ answered k → answer ≡ Does to x → k ≡ passed (record { to = to; action = x })
-unfolding answered
-plan-is (passed y) {to = to} {x = x} is made =
-    let same : to ≡ y .to = cc in
-    let also : x ≡ y .action = cc in
-    rw (same, also)
-plan-is (refused q) is made = clash cc
-
-no-plan-is : (k : Checked Plan) {answer : Planned} {r : Refusal} → answer ≡ answered k → answer ≡ Stopped r → k ≡ refused r
-unfolding answered
-no-plan-is (passed y) is made = clash cc
-no-plan-is (refused q) {r = r} is made = let same : r ≡ q = cc in ap refused (sym same)
+use Rattle.engine.proofs.Turns.{Going, going-refused, going-ends, going-next, going-first}
 
 -- where an action is not recorded, place and records are as they were planned
 pub kept-turn : (x : Action) (to : Place) (u : SetUp) (c : Counts) (r : Records) {next : Onward} → next ≡ onward x u c → next .recorded ≡ false
@@ -69,7 +55,7 @@ kept-turn x to u c r is other same also =
 
 -- of two tests none holds
 neither : (s t : Bool) → (s || t) ≡ false → (s ≡ false) × (t ≡ false)
-neither true t e = clash cc
+neither true t e = (let never : _≡_ {A = ℕ} 0 1 = cc in absurd (omega arith))
 neither false t e = (refl, e)
 
 -- what a walk returns
@@ -90,7 +76,7 @@ module _ (b : ℕ) (table input : List ℕ) (start : Walk) (limit count : ℕ) (
   unfolding world
   ready-now = ready-is b (lends table input output) e (g .fine) narrow
 
-  module _ {answer : Planned} (is : answer ≡ answered (stepPlan b (sees bugs (records .definitions) setup map storage counts entries input (length output)) table place)) where
+  module _ {answer : Planned} (is : toldPlanned answer ≡ told (stepPlan b (sees bugs (records .definitions) setup map storage counts entries input (length output)) table place)) where
     pub refused-now : {q : Refusal} → answer ≡ Stopped q → {report : Report} → report ≡ noReport → {r : Walked}
         → r ≡ record { state = record { width = b; core = coreWith place bugs records entries counts setup; map = map }; answer = Refused q; report = report; count = count + 1 }
         → returning r storage output ≡ start

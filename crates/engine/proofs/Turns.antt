@@ -17,7 +17,7 @@ use Rattle.machine.specs.declared.Answer.the-variants.{Running, Finished, Refus
 use Rattle.machine.specs.Answer.{Checked, refused, passed, isRunning}
 use Rattle.machine.specs.State.{isFinished, movedTo, onCore}
 use Rattle.machine.specs.Storage.{noReport, placed}
-use Rattle.machine.specs.Sound.{Lent, Engine, sound}
+use Rattle.machine.specs.Sound.{Lent, lends, Engine, sound}
 use Rattle.machine.specs.Effects.{Effects, engineAfter}
 use Rattle.machine.specs.Step.{Outcome, unchanged, carriedOut, outcome, stepAt, step, engineOf}
 use Rattle.machine.proofs.Facts.{Facts}
@@ -25,7 +25,8 @@ use Rattle.machine.proofs.Steps.{sound-engine, step-is}
 use Rattle.machine.proofs.Soundness.{next, step-keeps-sound}
 use Rattle.operations.specs.Effects.{effects}
 use Rattle.operations.specs.Seen.{sight}
-use Rattle.plans.specs.Steps.{Plan, stepPlan}
+use Rattle.operations.specs.Answers.{Plan}
+use Rattle.plans.specs.Steps.{stepPlan}
 use Rattle.plans.proofs.Meets.{plan-passed, plan-refused}
 use Rattle.commit.specs.Carried.{outputAfter}
 use Rattle.commit.specs.Reported.{reportOf}
@@ -100,10 +101,6 @@ module _ (count : ℕ) (l : Lent) (e : Engine) {o : Outcome} (is : step l e ≡ 
       turn more
       ∙ picked _ _ _ (ap (λ (o : Outcome). isRunning (o .stepped .answer)) is ∙ h)
       ∙ ap (λ (o : Outcome). walkFrom (suc count) more (lentAfter l o) (engineOf o)) is
-
--- what is lent, by its parts
-abbrev pub lends : List ℕ → List ℕ → List ℕ → Lent
-lends table input output = record { table = table; input = input; output = output }
 
 -- a walk so far: what is left of it leads where the whole walk does
 pub record Going (b : ℕ) (table input : List ℕ) (start : Walk) (limit count : ℕ) (output : List ℕ) (e : Engine) : Type 0 where

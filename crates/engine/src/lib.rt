@@ -5,10 +5,12 @@ ghost use Prim.Native.Nat.{_-_, _≤_};
 ghost use Rattle.word.specs.Word.{isWidth};
 ghost use Rattle.table.specs.declared.TableCheck.the-variants.{Lowest};
 ghost use Rattle.table.specs.Table.{checked};
-ghost use Rattle.machine.specs.Answer.{answerNumber};
-ghost use Rattle.machine.specs.State.{fresh as freshState, freshOf, freshNumber};
+ghost use Rattle.word.specs.Told.{gives, refuses};
+ghost use Rattle.machine.specs.Answer.{toldAnswer};
+ghost use Rattle.machine.specs.State.{fresh as freshState, freshOf, toldFresh};
+ghost use Rattle.machine.specs.Sound.{lends, engineOn};
 ghost use Rattle.machine.specs.Storage.{noReport};
-ghost use Rattle.machine.specs.Step.{step as stepOf, run as runOf};
+ghost use Rattle.machine.specs.Step.{step as stepOf, stepTold, run as runOf, runTold};
 ghost use Rattle.engine.specs.Walking.{walkFrom};
 
 pub mod answers;
@@ -90,10 +92,11 @@ pub fn fresh_state(width: u8) -> State
     }
 }
 
-// A fresh engine of words of b bits: 31. The second promise gives the answer as a number, 0 where it is no refusal.
+// A fresh engine of words of b bits: 31. The second promise, as in the calls below, gives the answer in the papers' numbers, which its
+// definition has beside the enum; the first gives what a caller in Rattle takes apart.
 pub fn fresh(b: u64) -> Fresh
     ensures { λ r. ⌜ r ≡ freshOf b ⌝ }
-    ensures numbered { λ r. ⌜ freshNumber (r .answer) ≡ cond (isWidth b) 0 31 ⌝ }
+    ensures numbered { λ r. ⌜ toldFresh (r .answer) ≡ cond (isWidth b) (gives tt) (refuses 31) ⌝ }
 {
     if b == 36 {
         return Fresh {
@@ -149,7 +152,8 @@ fn walk_from(
     limit: u64,
 ) -> Walked
     requires { ⌜ 1 ≤ limit ⌝ }
-    ensures { λ r. ⌜ record { walked = r; storage = now (storage .exit); output = now (output .exit) } ≡ walkFrom 0 (limit - 1) (record { table = now (table .entry); input = now (input .entry); output = now (output .entry) }) (record { state = state; storage = now (storage .entry) }) ⌝ }
+    ensures { λ r. ⌜ record { walked = r; storage = now (storage .exit); output = now (output .exit) } ≡ walkFrom 0 (limit - 1)
+        (lends (now (table .entry)) (now (input .entry)) (now (output .entry))) (engineOn state (now (storage .entry))) ⌝ }
 {
     let width = state.width;
     let core = state.core;
@@ -182,7 +186,7 @@ fn walk_from(
     )
 }
 
-// One step. The second promise gives the answer as document 01's number, 0 where it is no refusal.
+// One step.
 pub fn step(
     table: &[u64],
     storage: &mut [u64],
@@ -190,8 +194,10 @@ pub fn step(
     output: &mut [u8],
     state: State,
 ) -> Stepped
-    ensures { λ r. ⌜ record { stepped = r; storage = now (storage .exit); output = now (output .exit) } ≡ stepOf (record { table = now (table .entry); input = now (input .entry); output = now (output .entry) }) (record { state = state; storage = now (storage .entry) }) ⌝ }
-    ensures numbered { λ r. ⌜ answerNumber (r .answer) ≡ answerNumber (stepOf (record { table = now (table .entry); input = now (input .entry); output = now (output .entry) }) (record { state = state; storage = now (storage .entry) }) .stepped .answer) ⌝ }
+    ensures { λ r. ⌜ record { stepped = r; storage = now (storage .exit); output = now (output .exit) }
+        ≡ stepOf (lends (now (table .entry)) (now (input .entry)) (now (output .entry))) (engineOn state (now (storage .entry))) ⌝ }
+    ensures numbered { λ r. ⌜ toldAnswer (r .answer)
+        ≡ stepTold (lends (now (table .entry)) (now (input .entry)) (now (output .entry))) (engineOn state (now (storage .entry))) ⌝ }
 {
     let last = walk_from(state, table, storage, input, output, 1);
     let after = last.state;
@@ -213,8 +219,10 @@ pub fn run(
     state: State,
     limit: u64,
 ) -> Ran
-    ensures { λ r. ⌜ record { ran = r; storage = now (storage .exit); output = now (output .exit) } ≡ runOf limit (record { table = now (table .entry); input = now (input .entry); output = now (output .entry) }) (record { state = state; storage = now (storage .entry) }) ⌝ }
-    ensures numbered { λ r. ⌜ answerNumber (r .answer) ≡ answerNumber (runOf limit (record { table = now (table .entry); input = now (input .entry); output = now (output .entry) }) (record { state = state; storage = now (storage .entry) }) .ran .answer) ⌝ }
+    ensures { λ r. ⌜ record { ran = r; storage = now (storage .exit); output = now (output .exit) }
+        ≡ runOf limit (lends (now (table .entry)) (now (input .entry)) (now (output .entry))) (engineOn state (now (storage .entry))) ⌝ }
+    ensures numbered { λ r. ⌜ toldAnswer (r .answer)
+        ≡ runTold limit (lends (now (table .entry)) (now (input .entry)) (now (output .entry))) (engineOn state (now (storage .entry))) ⌝ }
 {
     if limit == 0 {
         return Ran {

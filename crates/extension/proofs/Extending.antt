@@ -19,7 +19,8 @@ use Rattle.machine.specs.declared.ExtensionAnswer.the-variants.{Done, NoWidth, 
 use Rattle.machine.specs.State.{isSetUp, withSetUp, onCore, withMap}
 use Rattle.machine.specs.Storage.{placed}
 use Rattle.machine.specs.Sound.{Engine, soundEngine}
-use Rattle.machine.specs.Extend.{Extension, extensionNumber, notExtended, engineExtended, extendedBy, extendAt, extend}
+use Rattle.machine.proofs.Numbers.{extend-told}
+use Rattle.machine.specs.Extend.{Extension, toldExtension, extendTold, notExtended, engineExtended, extendedBy, extendAt, extend}
 use Rattle.machine.proofs.Facts.{sound-facts}
 use Rattle.machine.proofs.Extend.{set-up-fits}
 
@@ -97,5 +98,5 @@ module _ (last : ℕ) (e : Engine) where
 
 -- and the answer's number is the definition's
 pub numbered : (last : ℕ) (e : Engine) {x : Extension} → x ≡ extend last e
-    → (x ≡ extend last e) × (extensionNumber (x .extended .answer) ≡ extensionNumber (extend last e .extended .answer))
-numbered last e is = (is, ap (λ (y : Extension). extensionNumber (y .extended .answer)) is)
+    → (x ≡ extend last e) × (toldExtension (x .extended .answer) ≡ extendTold last e)
+numbered last e is = (is, ap (λ (y : Extension). toldExtension (y .extended .answer)) is ∙ extend-told last e)

@@ -3,10 +3,12 @@ ghost use mathlib.Core.Bool.{true};
 ghost use mathlib.Core.Path.{_≡_};
 ghost use Prim.Native.Nat.{_<_};
 ghost use lib.ListN.{length};
+ghost use Rattle.word.specs.Told.{number};
 ghost use Rattle.block.specs.SetUp.{fitting};
 ghost use Rattle.block.specs.Map.{keeps};
 ghost use Rattle.block.specs.Extension.{extending};
-ghost use Rattle.machine.specs.Extend.{engineExtended, extend as extendOf, extensionNumber};
+ghost use Rattle.machine.specs.Extend.{engineExtended, extend as extendOf, toldExtension, extendTold};
+ghost use Rattle.machine.specs.Sound.{engineOn};
 use block::SetUp;
 use buddy::extension::extend_map;
 use buddy::extension::extends;
@@ -47,8 +49,7 @@ fn grown(width: u8, core: Core, first: [u8; 4096], storage: &mut [u64], last: u1
 pub fn extend(storage: &mut [u64], state: State, last: u64) -> Extended
     ensures { λ r. ⌜ record { extended = r; storage = now (storage .exit) }
         ≡ extendOf last (record { state = state; storage = now (storage .entry) }) ⌝ }
-    ensures numbered { λ r. ⌜ extensionNumber (r .answer)
-        ≡ extensionNumber (extendOf last (record { state = state; storage = now (storage .entry) }) .extended .answer) ⌝ }
+    ensures numbered { λ r. ⌜ toldExtension (r .answer) ≡ extendTold last (engineOn state (now (storage .entry))) ⌝ }
 {
     let width = state.width;
     let core = state.core;
@@ -88,7 +89,7 @@ pub fn extend(storage: &mut [u64], state: State, last: u64) -> Extended
 
 // The number of an answer: 0 where nothing is refused.
 pub fn number_of(answer: ExtensionAnswer) -> u64
-    ensures { λ r. ⌜ r ≡ extensionNumber answer ⌝ }
+    ensures { λ r. ⌜ r ≡ number (toldExtension answer) ⌝ }
 {
     match answer {
         ExtensionAnswer::Done => 0,

@@ -2,14 +2,15 @@
 use Prim.Native.Nat.{ℕ, _%_, _≤_, _<_}
 use mathlib.Core.Bool.{Bool, true, false, cond}
 use mathlib.Core.List.{List, [], _∷_}
-use mathlib.Core.Path.{_≡_, refl}
+use mathlib.Core.Path.{_≡_, refl, ap, _∙_}
 use borrow.Author.Tests.{eq-eqb, ne-eqb, le-leb, lt-leb}
 use lib.ListN.{length}
+use Rattle.word.specs.Told.{Told, gives}
 use Rattle.hours.specs.declared.Entry.{Entry}
 use Rattle.hours.specs.declared.Opening.{Opening}
 use Rattle.hours.specs.declared.Opening.the-variants.{Row, Refused}
 use Rattle.hours.specs.Hours.{weekday, window, exception, entries, allKeep, holds, anyNames, naming, counting, firstHolding}
-use Rattle.hours.specs.Hours.{listKeeps, accepts, openAt, openingRefusal, openingRow, Numbered}
+use Rattle.hours.specs.Hours.{listKeeps, accepts, openAt, toldOpening, holdingTold, openTold}
 
 -- a list by its length
 module _ (n : ℕ) (xs : List ℕ) where
@@ -21,16 +22,20 @@ module _ (n : ℕ) (xs : List ℕ) where
   unfolding listKeeps
   list-even even = rw (eq-eqb _ _ even)
 
--- a search is no refusal
-number-picked : (t : Bool) (r : ℕ) (o : Opening) → openingRefusal o ≡ 0 → openingRefusal (cond t (Row r) o) ≡ 0
-unfolding openingRefusal
-number-picked true r o h = refl
-number-picked false r o h = h
+-- what a search tells
+row-told : (t : Bool) (r : ℕ) (o : Opening) {told : Told ℕ} → toldOpening o ≡ told → toldOpening (cond t (Row r) o) ≡ cond t (gives r) told
+unfolding toldOpening
+row-told true r o h = refl
+row-told false r o h = h
 
-pub search-number : (minute : ℕ) (es : List Entry) → openingRefusal (firstHolding minute es) ≡ 0
-unfolding openingRefusal firstHolding
-search-number minute [] = refl
-search-number minute (e ∷ es) = number-picked (holds minute e) (e .row) (firstHolding minute es) (search-number minute es)
+search-told : (minute : ℕ) (es : List Entry) → toldOpening (firstHolding minute es) ≡ holdingTold minute es
+unfolding firstHolding holdingTold toldOpening
+search-told minute [] = refl
+search-told minute (e ∷ es) = row-told (holds minute e) (e .row) (firstHolding minute es) (search-told minute es)
+
+pub searched-told : (minute : ℕ) (es : List Entry) {r : Opening} → r ≡ firstHolding minute es
+    → (r ≡ firstHolding minute es) × (toldOpening r ≡ holdingTold minute es)
+searched-told minute es is = (is, ap toldOpening is ∙ search-told minute es)
 
 module _ (windows exceptions : List ℕ) (day minute : ℕ) where
   -- the entries that count
@@ -40,16 +45,16 @@ module _ (windows exceptions : List ℕ) (day minute : ℕ) where
   -- what a call promises: the answer, and its numbers
   abbrev pub Answers : Opening → Type 0
   Answers r =
-      (r ≡ openAt windows exceptions day minute) × Numbered windows exceptions day minute r
+      (r ≡ openAt windows exceptions day minute) × (toldOpening r ≡ openTold windows exceptions day minute)
 
   refused : accepts windows exceptions minute ≡ false → Answers Refused
-  unfolding openAt openingRefusal openingRow
-  refused other = (rw other, record { refusal = rw other; row = rw other })
+  unfolding openAt openTold toldOpening
+  refused other = (rw other, rw other)
 
   searched : accepts windows exceptions minute ≡ true → (es : List Entry) → countingHere ≡ es
       → (r : Opening) → r ≡ firstHolding minute es → Answers r
-  unfolding openAt
-  searched so es is r same = (rw (so, is) same, record { refusal = rw (so, same) (search-number minute es); row = rw (so, is, same) })
+  unfolding openAt openTold
+  searched so es is r same = (rw (so, is) same, rw (so, is, same) (search-told minute es))
 
   pub windows-broken : listKeeps window windows ≡ false → Answers Refused
   unfolding accepts

@@ -5,6 +5,7 @@ use mathlib.Core.List.{List, [], _∷_}
 use mathlib.Core.Path.{_≡_}
 use lib.Dec.{eqb, leb, ltb}
 use lib.ListN.{length, take, drop, getD}
+use Rattle.word.specs.Told.{Told, tells, gives, refuses}
 use Rattle.hours.specs.declared.Entry.{Entry}
 use Rattle.hours.specs.declared.Opening.{Opening}
 use Rattle.hours.specs.declared.Opening.the-variants.{Row, Closed, Refused}
@@ -94,19 +95,19 @@ openAt windows exceptions day minute =
     (firstHolding minute (counting day (entries window windows) (entries exception exceptions)))
     Refused
 
--- the number of the refusal, 0 where it is none, and the row, 0 where there is none
-unfoldable pub openingRefusal : Opening → ℕ
-openingRefusal (Row r) = 0
-openingRefusal Closed = 0
-openingRefusal Refused = 29
+-- its answer in numbers: the row, no value where it is closed, or 29
+unfoldable pub toldOpening : Opening → Told ℕ
+toldOpening (Row r) = gives r
+toldOpening Closed = tells 0 []
+toldOpening Refused = refuses 29
 
-unfoldable pub openingRow : Opening → ℕ
-openingRow (Row r) = r
-openingRow Closed = 0
-openingRow Refused = 0
+-- what the call tells: 29, or the row of the first entry that holds the minute, if there is one
+unfoldable pub holdingTold : ℕ → List Entry → Told ℕ
+holdingTold minute [] = tells 0 []
+holdingTold minute (e ∷ es) = cond (holds minute e) (gives (e .row)) (holdingTold minute es)
 
--- the answer in the ticket's numbers
-pub record Numbered (windows exceptions : List ℕ) (day minute : ℕ) (answer : Opening) : Type 0 where
-  pub refusal : openingRefusal answer ≡ cond (accepts windows exceptions minute) 0 29
-  pub row : openingRow answer
-      ≡ cond (accepts windows exceptions minute) (openingRow (firstHolding minute (counting day (entries window windows) (entries exception exceptions)))) 0
+unfoldable pub openTold : List ℕ → List ℕ → ℕ → ℕ → Told ℕ
+openTold windows exceptions day minute =
+    cond (accepts windows exceptions minute)
+    (holdingTold minute (counting day (entries window windows) (entries exception exceptions)))
+    (refuses 29)

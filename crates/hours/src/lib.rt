@@ -5,7 +5,7 @@ ghost use mathlib.Core.Path.{_≡_};
 ghost use Prim.Native.Nat.{_+_, _≤_};
 ghost use lib.ListN.{length, take, drop};
 ghost use Rattle.hours.specs.Hours.{weekday, entryOf, entries, hasHours, hasZeros, hasName, keeps, allKeep, holds};
-ghost use Rattle.hours.specs.Hours.{anyNames, naming, firstHolding, listKeeps, openAt, Numbered};
+ghost use Rattle.hours.specs.Hours.{anyNames, naming, firstHolding, listKeeps, openAt, toldOpening, holdingTold, openTold};
 
 // What a window or an exception says: its weekday or day, the opening and the closing minute, the row, and 1 if it is closed.
 pub struct Entry {
@@ -134,6 +134,7 @@ fn any_names(list: &[u64], n: usize, name: u64) -> bool
 fn first_holding(list: &[u64], n: usize, name: u64, minute: u64) -> Opening
     requires { ⌜ 4 ≤ n ⌝ }
     ensures { λ r. ⌜ r ≡ firstHolding minute (naming name (entries n (now (list .entry)))) ⌝ }
+    ensures numbered { λ r. ⌜ toldOpening r ≡ holdingTold minute (naming name (entries n (now (list .entry)))) ⌝ }
 {
     let mut at = 0;
     let mut left = list.len() / n;
@@ -159,10 +160,10 @@ fn list_keeps(list: &[u64], n: usize) -> bool
     all_keep(list, n)
 }
 
-// The row of the entry line on a day at a minute, closed, or refused. In the ticket's numbers: refusal and row.
+// The row of the entry line on a day at a minute, closed, or refused; the second promise gives the answer in the ticket's numbers.
 pub fn open_at(windows: &[u64], exceptions: &[u64], day: u64, minute: u64) -> Opening
     ensures { λ r. ⌜ r ≡ openAt (now (windows .entry)) (now (exceptions .entry)) day minute ⌝ }
-    ensures numbered { λ r. ⌜ Numbered (now (windows .entry)) (now (exceptions .entry)) day minute r ⌝ }
+    ensures numbered { λ r. ⌜ toldOpening r ≡ openTold (now (windows .entry)) (now (exceptions .entry)) day minute ⌝ }
 {
     if !list_keeps(windows, 4) {
         return Opening::Refused;

@@ -9,7 +9,7 @@ use mathlib.Core.List.{List, [], _∷_}
 use Rattle.character.specs.Character.{number, packed, period, codeOf}
 use Rattle.lines.specs.Reading.{afterParens, before, behind, closed, cut, ending, front, kept, labelled, lineOf, linesOf, moded, onto, onward, operating, parens, piecesIn, placeOf, readLine, readLines, split, tested, tokenAt, typedOf}
 use Rattle.lines.specs.Words.{all, any, characterCode, givesName, isCharacter, isDecimal, isDefinition, isDigit, isDone, isField, isFieldName, isHollerith, isKind, isLabel, isLetter, isMode, isName, isOctal, isOctalDigit, isSymbol, lastByte, literal, modeWords, nameNumber, pairOf, same, spelled, startsWith}
-use Rattle.lines.specs.Program.{badLabels, calledIn, chainedRows, declares, faultOf, flat, goToRow, keptLines, lineRow, lowestFault, numbersOf, operationRow, program, readCount, readNumber, reading, refusalOf, refused, rowCount, rowOf, rowsFrom, size, tableOf, testRow, tooLong, used}
+use Rattle.lines.specs.Program.{badLabels, calledIn, chainedRows, declares, faultOf, flat, goToRow, keptLines, lineRow, lowestFault, numbersOf, operationRow, program, reading, refusalOf, refused, rowCount, rowOf, rowsFrom, size, tableOf, testRow, tooLong, used}
 use Rattle.lines.specs.Grammar.{indented, isLine, isTyped, joined, optional, pieces, spaced, thenWord, tokens, writtenLine, writtenPieces, writtenText, writtenToken}
 use Rattle.lines.specs.Forms.{areKinds, expanded, fits, formOf, isArgument, isOperation, isTest, nameIn, operandAt, operationForms, pairsOf, rowIn, symbolsIn, testForms}
 
@@ -74,7 +74,7 @@ right : Example → Bool
 right e = eqb (refusalOf 36 (e .lent) (spelled (e .text)) .number) (e .number) && eqb (refusalOf 36 (e .lent) (spelled (e .text)) .line) (e .line)
 
 all-right : all right examples ≡ true
-unfolding examples right number packed period codeOf afterParens before behind closed cut ending front kept labelled lineOf linesOf moded onto onward operating parens piecesIn placeOf readLine readLines split tested tokenAt typedOf all any characterCode givesName isCharacter isDecimal isDefinition isDigit isDone isField isFieldName isHollerith isKind isLabel isLetter isMode isName isOctal isOctalDigit isSymbol lastByte literal modeWords nameNumber pairOf same spelled startsWith badLabels calledIn chainedRows declares faultOf flat goToRow keptLines lineRow lowestFault numbersOf operationRow program readCount readNumber reading refusalOf refused rowCount rowOf rowsFrom size tableOf testRow tooLong used indented isLine isTyped joined optional pieces spaced thenWord tokens writtenLine writtenPieces writtenText writtenToken areKinds expanded fits formOf isArgument isOperation isTest nameIn operandAt operationForms pairsOf rowIn symbolsIn testForms
+unfolding examples right number packed period codeOf afterParens before behind closed cut ending front kept labelled lineOf linesOf moded onto onward operating parens piecesIn placeOf readLine readLines split tested tokenAt typedOf all any characterCode givesName isCharacter isDecimal isDefinition isDigit isDone isField isFieldName isHollerith isKind isLabel isLetter isMode isName isOctal isOctalDigit isSymbol lastByte literal modeWords nameNumber pairOf same spelled startsWith badLabels calledIn chainedRows declares faultOf flat goToRow keptLines lineRow lowestFault numbersOf operationRow program reading refusalOf refused rowCount rowOf rowsFrom size tableOf testRow tooLong used indented isLine isTyped joined optional pieces spaced thenWord tokens writtenLine writtenPieces writtenText writtenToken areKinds expanded fits formOf isArgument isOperation isTest nameIn operandAt operationForms pairsOf rowIn symbolsIn testForms
 all-right = refl
 
 -- 6.4: its table
@@ -88,5 +88,5 @@ returning : tableOf 36 (program 36 (spelled "RTRE IFALL (W,E,0) DONE\n THEN (S,F
     ∷ 3 ∷ 7 ∷ 36 ∷ 0 ∷ 1 ∷ 1 ∷ 0 ∷ 0 ∷ 0 ∷ 0
     ∷ 3 ∷ 0 ∷ 33 ∷ 0 ∷ 2 ∷ 33 ∷ 0 ∷ 0 ∷ 0 ∷ 0
     ∷ []
-unfolding number packed period codeOf afterParens before behind closed cut ending front kept labelled lineOf linesOf moded onto onward operating parens piecesIn placeOf readLine readLines split tested tokenAt typedOf all any characterCode givesName isCharacter isDecimal isDefinition isDigit isDone isField isFieldName isHollerith isKind isLabel isLetter isMode isName isOctal isOctalDigit isSymbol lastByte literal modeWords nameNumber pairOf same spelled startsWith badLabels calledIn chainedRows declares faultOf flat goToRow keptLines lineRow lowestFault numbersOf operationRow program readCount readNumber reading refusalOf refused rowCount rowOf rowsFrom size tableOf testRow tooLong used indented isLine isTyped joined optional pieces spaced thenWord tokens writtenLine writtenPieces writtenText writtenToken areKinds expanded fits formOf isArgument isOperation isTest nameIn operandAt operationForms pairsOf rowIn symbolsIn testForms
+unfolding number packed period codeOf afterParens before behind closed cut ending front kept labelled lineOf linesOf moded onto onward operating parens piecesIn placeOf readLine readLines split tested tokenAt typedOf all any characterCode givesName isCharacter isDecimal isDefinition isDigit isDone isField isFieldName isHollerith isKind isLabel isLetter isMode isName isOctal isOctalDigit isSymbol lastByte literal modeWords nameNumber pairOf same spelled startsWith badLabels calledIn chainedRows declares faultOf flat goToRow keptLines lineRow lowestFault numbersOf operationRow program reading refusalOf refused rowCount rowOf rowsFrom size tableOf testRow tooLong used indented isLine isTyped joined optional pieces spaced thenWord tokens writtenLine writtenPieces writtenText writtenToken areKinds expanded fits formOf isArgument isOperation isTest nameIn operandAt operationForms pairsOf rowIn symbolsIn testForms
 returning = refl

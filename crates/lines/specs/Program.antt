@@ -8,6 +8,7 @@ use mathlib.Core.Option.{Option, none, some}
 use lib.Dec.{eqb, leb}
 use lib.ListN.{length, drop, replicate}
 use Rattle.word.specs.Word.{isWidth}
+use Rattle.word.specs.Told.{Told, tells, gives, refuses}
 use Rattle.table.specs.declared.Row.{Row}
 use Rattle.table.specs.Row.{done}
 use Rattle.lines.specs.declared.Read.{Read}
@@ -161,30 +162,18 @@ reading b text lent =
 unfoldable pub readAt : ℕ → List ℕ → List ℕ → Left
 readAt b text lent = cond (isWidth b) (reading b text lent) (record { answer = NoWidth; table = lent })
 
--- the papers' number of an answer, 0 where it is none; the row count and the line of the fault, 0 where there is none
-unfoldable pub readNumber : Read → ℕ
-readNumber (Rows n) = 0
-readNumber NoWidth = 31
-readNumber (BadLine line) = 23
-readNumber (BadLabel line) = 24
-readNumber (TooLong line) = 25
+-- its answer in numbers: the row count, or the refusal with the line of its fault
+unfoldable pub toldRead : Read → Told ℕ
+toldRead (Rows n) = gives n
+toldRead NoWidth = refuses 31
+toldRead (BadLine line) = tells 23 (line ∷ [])
+toldRead (BadLabel line) = tells 24 (line ∷ [])
+toldRead (TooLong line) = tells 25 (line ∷ [])
 
-unfoldable pub readCount : Read → ℕ
-readCount (Rows n) = n
-readCount NoWidth = 0
-readCount (BadLine line) = 0
-readCount (BadLabel line) = 0
-readCount (TooLong line) = 0
+-- what the call tells: 31, or the refusal of the lowest line with a fault, or the row count
+unfoldable pub refusalTold : Refusal → ℕ → Told ℕ
+refusalTold r rows = cond (eqb (r .number) 0) (gives rows) (tells (r .number) (r .line ∷ []))
 
-unfoldable pub readFault : Read → ℕ
-readFault (Rows n) = 0
-readFault NoWidth = 0
-readFault (BadLine line) = line
-readFault (BadLabel line) = line
-readFault (TooLong line) = line
-
--- the answer in the papers' numbers
-pub record Numbered (b : ℕ) (text lent : List ℕ) (answer : Read) : Type 0 where
-  pub number : readNumber answer ≡ cond (isWidth b) (refusalOf b (length lent) text .number) 31
-  pub count : readCount answer ≡ cond (isWidth b && eqb (refusalOf b (length lent) text .number) 0) (rowCount (program b text)) 0
-  pub fault : readFault answer ≡ cond (isWidth b) (refusalOf b (length lent) text .line) 0
+unfoldable pub readTold : ℕ → List ℕ → List ℕ → Told ℕ
+readTold b text lent =
+    cond (isWidth b) (refusalTold (refusalOf b (length lent) text) (rowCount (program b text))) (refuses 31)

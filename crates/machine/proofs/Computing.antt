@@ -2,6 +2,7 @@
 -- own list here. Assumes nothing.
 use Rattle.word.specs.Field as fields-file
 use Rattle.word.specs.Word as words-file
+use Rattle.word.specs.Told as told-file
 use Rattle.character.specs.Character as characters-file
 use Rattle.block.specs.Blocks as blocks-file
 use Rattle.block.specs.SetUp as setups-file
@@ -62,7 +63,7 @@ unfolding tables-file.fitPairs tables-file.namesRows tables-file.complete tables
 tables = tt
 
 unfoldable answers : Unit {0}
-unfolding answers-file.refusalNumber answers-file.answerNumber answers-file.isRunning answers-file._>>=_ answers-file._>>_ answers-file.need
+unfolding told-file.number answers-file.refusalNumber answers-file.toldAnswer answers-file.isRunning answers-file._>>=_ answers-file._>>_ answers-file.need
 answers = tt
 
 unfoldable states : Unit {0}

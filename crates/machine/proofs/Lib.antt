@@ -2,6 +2,7 @@
 pub mod Computing
 pub mod Bench
 pub mod Checks
+pub mod Numbers
 pub mod Every
 pub mod Facts
 pub mod Located

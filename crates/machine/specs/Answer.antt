@@ -2,6 +2,7 @@
 -- Document 01: "From the input", "From the state" and the order of refusals. Assumes nothing.
 use Prim.Native.Nat.{ℕ}
 use mathlib.Core.Bool.{Bool, true, false}
+use Rattle.word.specs.Told.{Told, gives, refuses}
 use Rattle.machine.specs.declared.Refusal.{Refusal}
 use Rattle.machine.specs.declared.Refusal.the-variants.{TableLength, BadRow, SetUpNumbers, InputByte, InputShort, NotADigit, DefinitionNumber, BlockSize, ZeroDivisor, CharacterCount, Unsound, BeforeSetUp, SecondSetUp, UndefinedField, NotABlock, OutsideBlock, NoRun, FieldFreed, StackFull, StackEmpty, OutputFull, SubtrahendGreater, NoWidth}
 use Rattle.machine.specs.declared.Answer.{Answer}
@@ -33,11 +34,11 @@ refusalNumber OutputFull = 21
 refusalNumber SubtrahendGreater = 22
 refusalNumber NoWidth = 31
 
--- an answer's refusal by its number; 0 for running and finished
-unfoldable pub answerNumber : Answer → ℕ
-answerNumber Running = 0
-answerNumber Finished = 0
-answerNumber (Refused r) = refusalNumber r
+-- an answer: 0 with the value 0 for running and 1 for finished, or the refusal
+unfoldable pub toldAnswer : Answer → Told ℕ
+toldAnswer Running = gives 0
+toldAnswer Finished = gives 1
+toldAnswer (Refused r) = refuses (refusalNumber r)
 
 unfoldable pub isRunning : Answer → Bool
 isRunning Running = true
@@ -48,6 +49,11 @@ isRunning (Refused r) = false
 pub data Checked (A : Type 0) : Type 0 where
   refused : Refusal → Checked A
   passed : A → Checked A
+
+-- what checks come to in numbers
+unfoldable pub told : {A : Type 0} → Checked A → Told A
+told (refused r) = refuses (refusalNumber r)
+told (passed x) = gives x
 
 infixl 20 _>>=_
 infixl 20 _>>_

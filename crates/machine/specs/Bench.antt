@@ -4,9 +4,10 @@ use Prim.Native.Nat.{ℕ, suc, _^_}
 use mathlib.Core.Bool.{Bool}
 use mathlib.Core.List.{List, [], _∷_, _++_, map}
 use lib.ListN.{getD, take, replicate}
+use Rattle.word.specs.Told.{number}
 use Rattle.block.specs.Blocks.{Block}
 use Rattle.block.specs.Map.{same}
-use Rattle.machine.specs.Answer.{answerNumber}
+use Rattle.machine.specs.Answer.{toldAnswer}
 use Rattle.machine.specs.State.{fresh}
 use Rattle.machine.specs.Locate.{liveBlocks}
 use Rattle.machine.specs.Step.{RunOutcome, run}
@@ -45,7 +46,7 @@ benchRun operations =
 
 -- what is looked at: the refusal's number, the bug of a letter, a storage word, the sizes of the live blocks
 unfoldable pub refusalOf : RunOutcome → ℕ
-refusalOf o = answerNumber (o .ran .answer)
+refusalOf o = number (toldAnswer (o .ran .answer))
 
 unfoldable pub bugOf : ℕ → RunOutcome → ℕ
 bugOf letter o = getD (o .ran .state .core .bugs) letter 0

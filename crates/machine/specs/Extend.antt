@@ -6,6 +6,7 @@ use mathlib.Core.Bool.{Bool, true, false, cond}
 use mathlib.Core.List.{List}
 use lib.ListN.{length, replicate}
 use Rattle.word.specs.Word.{isWidth}
+use Rattle.word.specs.Told.{Told, gives, refuses}
 use Rattle.block.specs.SetUp.{words}
 use Rattle.block.specs.Extension.{extendedTo, extending, extendedMap}
 use Rattle.machine.specs.declared.ExtensionAnswer.{ExtensionAnswer}
@@ -15,13 +16,13 @@ use Rattle.machine.specs.State.{isSetUp, withSetUp, onCore, withMap}
 use Rattle.machine.specs.Storage.{placed}
 use Rattle.machine.specs.Sound.{Engine, soundEngine}
 
--- the number of the refusal, 0 where it is none
-unfoldable pub extensionNumber : ExtensionAnswer → ℕ
-extensionNumber Done = 0
-extensionNumber NoWidth = 31
-extensionNumber Unsound = 11
-extensionNumber BeforeSetUp = 12
-extensionNumber LastAddress = 32
+-- an extension's answer in numbers: that it is done, or the refusal
+unfoldable pub toldExtension : ExtensionAnswer → Told (Unit {0})
+toldExtension Done = gives tt
+toldExtension NoWidth = refuses 31
+toldExtension Unsound = refuses 11
+toldExtension BeforeSetUp = refuses 12
+toldExtension LastAddress = refuses 32
 
 unfoldable pub isDone : ExtensionAnswer → Bool
 isDone Done = true
@@ -68,6 +69,16 @@ extendAt b last e =
 -- an extension: it goes by the state's width, and is refused by 31, before anything else, where that is none
 unfoldable pub extend : ℕ → Engine → Extension
 extend last e = cond (isWidth (e .state .width)) (extendAt (e .state .width) last e) (notExtended NoWidth e)
+
+-- what it answers in numbers, in the order 31, 11, 12, 32
+unfoldable pub extendTold : ℕ → Engine → Told (Unit {0})
+extendTold last e =
+    let b = e .state .width in
+    cond (isWidth b)
+    (cond (soundEngine b e)
+    (cond (isSetUp (e .state .core)) (cond (extending (length (e .storage)) last (e .state .core .setup)) (gives tt) (refuses 32)) (refuses 12))
+    (refuses 11))
+    (refuses 31)
 
 -- the engine that an extension leaves
 unfoldable pub engineLeft : Extension → Engine

@@ -20,10 +20,16 @@ pub record Lent : Type 0 where
   pub input : List ℕ
   pub output : List ℕ
 
+abbrev pub lends : List ℕ → List ℕ → List ℕ → Lent
+lends table input output = record { table = table; input = input; output = output }
+
 -- what goes on from one step to the next: the state and the storage
 pub record Engine : Type 0 where
   pub state : State
   pub storage : List ℕ
+
+abbrev pub engineOn : State → List ℕ → Engine
+engineOn state storage = record { state = state; storage = storage }
 
 -- every one of these passes a test
 unfoldable pub every : {A : Type 0} → (A → Bool) → List A → Bool

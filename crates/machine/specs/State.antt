@@ -6,6 +6,7 @@ use mathlib.Core.List.{List}
 use lib.Dec.{eqb}
 use lib.ListN.{set, replicate}
 use Rattle.word.specs.Word.{isWidth}
+use Rattle.word.specs.Told.{Told, gives, refuses}
 use Rattle.block.specs.declared.SetUp.{SetUp}
 use Rattle.table.specs.declared.BugLetter.{BugLetter}
 use Rattle.table.specs.declared.FieldName.{FieldName}
@@ -70,10 +71,10 @@ fresh b =
 unfoldable pub freshOf : ℕ → Fresh
 freshOf b = cond (isWidth b) (record { state = fresh b; answer = Done }) (record { state = fresh 0; answer = NoWidth })
 
--- the number of the refusal, 0 where it is none
-unfoldable pub freshNumber : FreshAnswer → ℕ
-freshNumber Done = 0
-freshNumber NoWidth = 31
+-- its answer in numbers: that it is made, or 31
+unfoldable pub toldFresh : FreshAnswer → Told (Unit {0})
+toldFresh Done = gives tt
+toldFresh NoWidth = refuses 31
 
 -- a core by its parts, in the order of the struct
 abbrev core-of : Place → List ℕ → List Definition → ContentsStack → DefinitionStack → CallStack → SetUp → ℕ → ℕ → Core

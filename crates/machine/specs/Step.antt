@@ -6,6 +6,7 @@ use mathlib.Core.List.{List}
 use lib.Dec.{eqb, ltb}
 use lib.ListN.{getD}
 use Rattle.word.specs.Word.{isWidth}
+use Rattle.word.specs.Told.{Told, gives, refuses}
 use Rattle.block.specs.declared.SetUp.{SetUp}
 use Rattle.table.specs.Row.{lengthFits, rows, rowAt, firstTest, firstOperation, goTo, done}
 use Rattle.table.specs.Table.{usable}
@@ -15,7 +16,7 @@ use Rattle.machine.specs.declared.Answer.the-variants.{Running, Finished
 use Rattle.machine.specs.declared.Place.{Place}
 use Rattle.machine.specs.declared.Stepped.{Stepped}
 use Rattle.machine.specs.declared.Ran.{Ran}
-use Rattle.machine.specs.Answer.{Checked, refused, passed, _>>=_, _>>_, need, isRunning}
+use Rattle.machine.specs.Answer.{Checked, refused, passed, _>>=_, _>>_, need, isRunning, refusalNumber}
 use Rattle.machine.specs.State.{testsOf, operationAt, exitOf, theEnd, noSetUp, isFinished, isSetUp, movedTo, withCalls, onCore, withWidth}
 use Rattle.machine.specs.Storage.{noReport, placed}
 use Rattle.machine.specs.Sound.{Lent, Engine, sound}
@@ -143,6 +144,18 @@ stepAt b l e =
 unfoldable pub step : Lent → Engine → Outcome
 step l e = cond (isWidth (e .state .width)) (stepAt (e .state .width) l e) (unchanged (Refused NoWidth) l e)
 
+-- a step's answer in numbers: the plan's, and before it 31, 11 and finished
+unfoldable pub planTold : Checked Effects → Told ℕ
+planTold (refused r) = refuses (refusalNumber r)
+planTold (passed x) = gives (cond (isFinished (x .state .core .place)) 1 0)
+
+unfoldable pub stepTold : Lent → Engine → Told ℕ
+stepTold l e =
+    let b = e .state .width in
+    cond (isWidth b)
+    (cond (sound b l e) (cond (isFinished (e .state .core .place)) (gives 1) (planTold (plan b l e))) (refuses 11))
+    (refuses 31)
+
 -- the engine that a step leaves
 unfoldable pub engineOf : Outcome → Engine
 engineOf o = record { state = o .stepped .state; storage = o .storage }
@@ -179,6 +192,16 @@ runFrom count (suc limit) l e =
 
 unfoldable pub run : ℕ → Lent → Engine → RunOutcome
 run = runFrom 0
+
+-- a run's answer in numbers: that of its last step, running where it takes none
+unfoldable pub runTold : ℕ → Lent → Engine → Told ℕ
+runTold zero l e = gives 0
+runTold (suc limit) l e =
+    let o : Outcome = step l e in
+    elim (isRunning (o .stepped .answer)) [
+      | true ↦ runTold limit (record { table = l .table; input = l .input; output = o .output }) (engineOf o)
+      | false ↦ stepTold l e
+    ]
 
 -- the engine that a run leaves
 unfoldable pub engineRan : RunOutcome → Engine

@@ -28,10 +28,11 @@ use Rattle.machine.specs.declared.Location.the-variants.{Bug, Field}
 use Rattle.operands.specs.declared.Linked.{Linked}
 use Rattle.operands.specs.declared.Linked.the-variants.{At, Stopped}
 use Rattle.machine.specs.declared.Refusal.{Refusal}
-use Rattle.machine.specs.Answer.{Checked, passed, refused, _>>=_}
+use Rattle.machine.specs.Answer.{Checked, passed, refused, told, _>>=_}
+use Rattle.operands.proofs.Answers.{at-is, stopped-is}
 use Rattle.machine.specs.State.{undefined}
 use Rattle.machine.specs.Locate.{World, definitionOf, contents, linkBy, link, follow, locate}
-use Rattle.operands.specs.Reading.{linked, Readable, Reached}
+use Rattle.operands.specs.Reading.{toldLinked, Readable, Reached}
 use Rattle.machine.proofs.Checks.{need-passed, passed-same}
 use Rattle.machine.proofs.Located.{Located, link-located}
 
@@ -40,17 +41,6 @@ live-words : (u : SetUp) (m : List ℕ) → words u % size (top (u .d)) ≡ 0 �
 unfolding live
 live-words u m whole x k =
     subst (λ (n : ℕ). Within (u .s1) (u .s1 + n) x) (trees-fill u m whole) (each-mem (all-within (top (u .d)) (u .s1) (trees u m)) k)
-
--- an answer taken apart
-pub at-passed : (k : Checked Location) (x : Location) → At x ≡ linked k → k ≡ passed x
-unfolding linked
-at-passed (passed y) x h = let same : x ≡ y = cc in ap passed (sym same)
-at-passed (refused r) x h = let never : _≡_ {A = ℕ} 0 1 = cc in absurd (omega arith)
-
-stopped-refused : (k : Checked Location) (r : Refusal) → Stopped r ≡ linked k → k ≡ refused r
-unfolding linked
-stopped-refused (passed y) r h = let never : _≡_ {A = ℕ} 0 1 = cc in absurd (omega arith)
-stopped-refused (refused q) r h = let same : r ≡ q = cc in ap refused (sym same)
 
 module _ (b : ℕ) (w : World) (h : Readable b w) where
   -- a location in a live block can be read
@@ -79,7 +69,7 @@ module _ (b : ℕ) (w : World) (h : Readable b w) where
 
 -- one link by the definition, the size of the block and the pointer
 pub link-made : (w : World) (f : FieldName) (n p q : ℕ) → n ≡ sizeAt p (live (w .setup) (w .map)) → p ≡ q
-    → linked (linkBy (getD (w .definitions) (f .0) undefined) n p) ≡ linked (link w q f)
+    → told (linkBy (getD (w .definitions) (f .0) undefined) n p) ≡ told (link w q f)
 unfolding link definitionOf
 link-made w f n p q is same = rw (is, same)
 
@@ -96,7 +86,7 @@ pub record Followed (b : ℕ) (w : World) (fields : List FieldName) (at₀ : Loc
 
 module _ (b : ℕ) (w : World) (fields : List FieldName) (at₀ : Location) (i₀ : ℕ) where
   module _ (at : Location) (i : ℕ) (answer : Linked) (so-far : Followed b w fields at₀ i₀ at i) (more : i < length fields)
-      (is : answer ≡ linked (link w (contents b w at) (getD fields i (record { 0 = 0 })))) where
+      (is : toldLinked answer ≡ told (link w (contents b w at) (getD fields i (record { 0 = 0 })))) where
     -- what is left has one link more
     next-link : follow b w at₀ (drop i₀ fields) ≡ (link w (contents b w at) (getD fields i (record { 0 = 0 })) >>= λ next. follow b w next (drop (suc i) fields))
     unfolding follow
@@ -106,7 +96,7 @@ module _ (b : ℕ) (w : World) (fields : List FieldName) (at₀ : Location) (i�
     pub followed-next : Readable b w → (next : Location) → answer ≡ At next → Followed b w fields at₀ i₀ next (i + 1)
     unfolding _>>=_
     followed-next h next to =
-        let k = at-passed _ next (sym to ∙ is) in
+        let k = at-is _ is to in
         record {
           left = rw add-one (next-link ∙ rw k);
           reached = link-reached b w h _ _ next k;
@@ -114,17 +104,17 @@ module _ (b : ℕ) (w : World) (fields : List FieldName) (at₀ : Location) (i�
         }
 
     -- a link that is refused ends it
-    pub followed-stopped : (r : Refusal) → answer ≡ Stopped r → answer ≡ linked (follow b w at₀ (drop i₀ fields))
-    unfolding _>>=_ linked
+    pub followed-stopped : (r : Refusal) → answer ≡ Stopped r → toldLinked answer ≡ told (follow b w at₀ (drop i₀ fields))
+    unfolding _>>=_ toldLinked told
     followed-stopped r to =
-        let k : link w (contents b w at) (getD fields i (record { 0 = 0 })) ≡ refused r = stopped-refused _ r (sym to ∙ is) in
+        let k : link w (contents b w at) (getD fields i (record { 0 = 0 })) ≡ refused r = stopped-is _ is to in
         let ends : follow b w at₀ (drop i₀ fields) ≡ refused r = next-link ∙ rw k in
-        rw ends to
+        rw ends (ap toldLinked to)
 
   -- no link is left
-  pub followed-all : (at : Location) (i : ℕ) → Followed b w fields at₀ i₀ at i → length fields ≤ i → At at ≡ linked (follow b w at₀ (drop i₀ fields))
-  unfolding follow linked
-  followed-all at i so-far end = sym (ap linked (so-far .left ∙ ap (follow b w at) (drop-of-length-le fields end)))
+  pub followed-all : (at : Location) (i : ℕ) → Followed b w fields at₀ i₀ at i → length fields ≤ i → toldLinked (At at) ≡ told (follow b w at₀ (drop i₀ fields))
+  unfolding follow toldLinked told
+  followed-all at i so-far end = sym (ap told (so-far .left ∙ ap (follow b w at) (drop-of-length-le fields end)))
 
 -- names taken apart from a reference
 module _ (x : Names) (v : ℕ) (h : isReference v ≡ true) (is : namesOf x ≡ referenceOf v) where

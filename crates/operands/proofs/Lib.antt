@@ -1,4 +1,5 @@
 -- What code on references and stores rests on.
+pub mod Answers
 pub mod Follows
 pub mod Links
 pub mod Operands

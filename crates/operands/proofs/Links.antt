@@ -13,26 +13,26 @@ use Rattle.machine.specs.declared.Location.{Location}
 use Rattle.machine.specs.declared.Location.the-variants.{Bug, Field}
 use Rattle.operands.specs.declared.Linked.the-variants.{At, Stopped}
 use Rattle.machine.specs.declared.Refusal.the-variants.{UndefinedField, NotABlock, OutsideBlock}
-use Rattle.machine.specs.Answer.{need, _>>_}
+use Rattle.machine.specs.Answer.{told, need, _>>_}
 use Rattle.machine.specs.Storage.{wordAt}
 use Rattle.machine.specs.Locate.{linkBy, contentsOf}
-use Rattle.operands.specs.Reading.{linked, Reached}
+use Rattle.operands.specs.Reading.{toldLinked, Reached}
 
 module _ (x : Definition) (n pointer : ℕ) where
-  pub link-undefined : x .defined ≡ false → Stopped UndefinedField ≡ linked (linkBy x n pointer)
-  unfolding linked linkBy need _>>_
+  pub link-undefined : x .defined ≡ false → toldLinked (Stopped UndefinedField) ≡ told (linkBy x n pointer)
+  unfolding toldLinked told linkBy need _>>_
   link-undefined d = rw d
 
-  pub link-no-block : x .defined ≡ true → n ≡ 0 → Stopped NotABlock ≡ linked (linkBy x n pointer)
-  unfolding linked linkBy need _>>_
+  pub link-no-block : x .defined ≡ true → n ≡ 0 → toldLinked (Stopped NotABlock) ≡ told (linkBy x n pointer)
+  unfolding toldLinked told linkBy need _>>_
   link-no-block d z = rw (d, eq-eqb n 0 z)
 
-  pub link-outside : x .defined ≡ true → (n ≡ 0 → ⊥) → n ≤ x .word → Stopped OutsideBlock ≡ linked (linkBy x n pointer)
-  unfolding linked linkBy need _>>_
+  pub link-outside : x .defined ≡ true → (n ≡ 0 → ⊥) → n ≤ x .word → toldLinked (Stopped OutsideBlock) ≡ told (linkBy x n pointer)
+  unfolding toldLinked told linkBy need _>>_
   link-outside d s o = rw (d, ne-eqb n 0 s, le-ltb (x .word) n o)
 
-  pub link-inside : x .defined ≡ true → (n ≡ 0 → ⊥) → x .word < n → At (Field (pointer + x .word) (x .left) (x .right)) ≡ linked (linkBy x n pointer)
-  unfolding linked linkBy need _>>_
+  pub link-inside : x .defined ≡ true → (n ≡ 0 → ⊥) → x .word < n → toldLinked (At (Field (pointer + x .word) (x .left) (x .right))) ≡ told (linkBy x n pointer)
+  unfolding toldLinked told linkBy need _>>_
   link-inside d s i = rw (d, ne-eqb n 0 s, lt-ltb (x .word) n i)
 
 -- a location that can be reached: a bug's letter is one of the 26, a field lies inside a word of the storage

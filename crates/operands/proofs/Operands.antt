@@ -1,4 +1,4 @@
--- Operands and answers taken apart. Assumes nothing.
+-- Operands taken apart. Assumes nothing.
 use Prim.Native.Nat.{ℕ, _^_, _≤_, _<_}
 use Rattle.word.specs.Field.{width}
 use Rattle.table.specs.declared.BugLetter.{BugLetter}
@@ -16,39 +16,15 @@ use Rattle.machine.specs.declared.Location.the-variants.{Bug, Field}
 use Rattle.operands.specs.declared.Linked.{Linked}
 use Rattle.operands.specs.declared.Linked.the-variants as link
 use Rattle.machine.specs.declared.Refusal.{Refusal}
-use Rattle.machine.specs.Answer.{Checked, refused, passed, _>>=_}
+use Rattle.machine.specs.Answer.{Checked, refused, passed, told, _>>=_}
 use Rattle.machine.specs.Locate.{World, Value, contents, widthOf, contentsOf, read, locate, operand}
 use Rattle.machine.specs.Sound.{every}
 use Rattle.machine.proofs.Checks.{bind-passed, passed-same}
 use Rattle.machine.proofs.Every.{every-getD}
 use Rattle.operands.proofs.Readable.{locate-reached}
-use Rattle.operands.proofs.Follows.{at-passed}
 use Rattle.operands.specs.declared.Got.{Got}
 use Rattle.operands.specs.declared.Got.the-variants as taken
-use Rattle.operands.specs.Reading.{linked, got, Readable, Reached, Narrow, Taken, valued}
-
--- an answer of locate, by its case
-pub at-is : (k : Checked Location) {answer : Linked} {x : Location} → answer ≡ linked k → answer ≡ link.At x → k ≡ passed x
-at-is k {answer} {x} is to = at-passed k x (sym to ∙ is)
-
-pub stopped-is : (k : Checked Location) {answer : Linked} {r : Refusal} → answer ≡ linked k → answer ≡ link.Stopped r → k ≡ refused r
-unfolding linked
-stopped-is (passed y) is to = let never : _≡_ {A = ℕ} 0 1 = cc in absurd (omega arith)
-stopped-is (refused q) {r = r} is to = let same : r ≡ q = cc in ap refused (sym same)
-
--- an answer of operand, by its case
-pub value-is : (k : Checked Value) {answer : Got} {v n : ℕ} → answer ≡ got k → answer ≡ taken.Value v n → k ≡ passed (valued v n)
-unfolding got
-value-is (passed y) {v = v} {n = n} is to =
-    let same : v ≡ y .value = cc in
-    let wide : n ≡ y .width = cc in
-    rw (same, wide)
-value-is (refused q) is to = let never : _≡_ {A = ℕ} 0 1 = cc in absurd (omega arith)
-
-pub no-value-is : (k : Checked Value) {answer : Got} {r : Refusal} → answer ≡ got k → answer ≡ taken.Stopped r → k ≡ refused r
-unfolding got
-no-value-is (passed y) is to = let never : _≡_ {A = ℕ} 0 1 = cc in absurd (omega arith)
-no-value-is (refused q) {r = r} is to = let same : r ≡ q = cc in ap refused (sym same)
+use Rattle.operands.specs.Reading.{toldGot, Readable, Reached, Narrow, Taken, valued}
 
 -- a location that can be read is narrow
 pub reached-narrow : (b s1 : ℕ) (storage : List ℕ) (at : Location) → b ≤ 48 → Reached b s1 storage at → Narrow at
@@ -71,17 +47,17 @@ field-narrow e h = subst Narrow e h
 
 -- an operand by its form
 module _ (b : ℕ) (w : World) (p : Pair) where
-  pub literal : p .form ≡ 1 → taken.Value (p .value) b ≡ got (operand b w p)
-  unfolding operand got
+  pub literal : p .form ≡ 1 → toldGot (taken.Value (p .value) b) ≡ told (operand b w p)
+  unfolding operand toldGot told
   literal f = rw (eq-eqb _ _ f)
 
   pub found : (p .form ≡ 1 → ⊥) → (at : Location) → locate b w p ≡ passed at → {v n : ℕ} → v ≡ contents b w at → n ≡ widthOf b at
-      → taken.Value v n ≡ got (operand b w p)
-  unfolding operand got read _>>=_
+      → toldGot (taken.Value v n) ≡ told (operand b w p)
+  unfolding operand toldGot told read _>>=_
   found f at k {v} {n} same wide = rw (ne-eqb _ _ f, k, same, wide)
 
-  pub not-found : (p .form ≡ 1 → ⊥) → (r : Refusal) → locate b w p ≡ refused r → taken.Stopped r ≡ got (operand b w p)
-  unfolding operand got _>>=_
+  pub not-found : (p .form ≡ 1 → ⊥) → (r : Refusal) → locate b w p ≡ refused r → toldGot (taken.Stopped r) ≡ told (operand b w p)
+  unfolding operand toldGot told _>>=_
   not-found f r k = rw (ne-eqb _ _ f, k)
 
 -- what stands at a location is below 2 ^ b, and no wider than b bits

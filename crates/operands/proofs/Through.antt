@@ -25,12 +25,13 @@ use Rattle.table.specs.declared.FieldName.{FieldName}
 use Rattle.machine.specs.declared.Location.{Location}
 use Rattle.machine.specs.declared.Location.the-variants.{Bug, Field}
 use Rattle.machine.specs.Storage.{placed, wordAt}
+use Rattle.machine.specs.Answer.{told}
 use Rattle.machine.specs.Locate.{World, contentsOf, contents, linkBy, link}
 use Rattle.machine.specs.State.{undefined}
 use Rattle.machine.proofs.Placed.{length-placed, placed-inside, placed-outside}
 use Rattle.operands.specs.declared.Pending.{Pending}
 use Rattle.operands.specs.declared.Pending.the-variants.{Nothing, Delivery}
-use Rattle.operands.specs.Reading.{linked, Readable, Reached}
+use Rattle.operands.specs.Reading.{Readable, Reached}
 use Rattle.operands.specs.Storing.{wordsStored}
 use Rattle.operands.specs.Through.{through, Deliverable, Ahead}
 use Rattle.operands.proofs.Follows.{link-made, pointer-small}
@@ -188,7 +189,7 @@ module _ (b : ℕ) (w : World) (h : Readable b w) where
   -- one link through it, by the definition, the size of the block and the pointer
   module _ (f : FieldName) {n p q : ℕ} (same : p ≡ q) where
     pub through-link : (x : Pending) → n ≡ sizeAt p (live (w .setup) (through b x w .map))
-        → linked (linkBy (getD (w .definitions) (f .0) undefined) n p) ≡ linked (link (through b x w) q f)
+        → told (linkBy (getD (w .definitions) (f .0) undefined) n p) ≡ told (link (through b x w) q f)
     unfolding through
     through-link Nothing is = link-made w f n p q is same
     through-link (Delivery address m at) is = link-made (through b (Delivery address m at) w) f n p q is same

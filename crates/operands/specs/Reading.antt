@@ -5,6 +5,7 @@ use mathlib.Core.Bool.{true, _||_}
 use mathlib.Core.List.{List}
 use lib.Dec.{ltb}
 use lib.ListN.{length}
+use Rattle.word.specs.Told.{Told, gives, refuses}
 use Rattle.block.specs.declared.SetUp.{SetUp}
 use Rattle.block.specs.Blocks.{size}
 use Rattle.block.specs.SetUp.{top, words, fitting, absent}
@@ -14,7 +15,7 @@ use Rattle.table.specs.Reference.{isReference}
 use Rattle.machine.specs.declared.Definition.{Definition}
 use Rattle.machine.specs.declared.Location.{Location}
 use Rattle.machine.specs.declared.Location.the-variants.{Bug, Field}
-use Rattle.machine.specs.Answer.{Checked, refused, passed}
+use Rattle.machine.specs.Answer.{refusalNumber}
 use Rattle.machine.specs.Sound.{every, isDefinition}
 use Rattle.machine.specs.Locate.{World, Value}
 use Rattle.operands.specs.declared.Linked.{Linked}
@@ -64,11 +65,11 @@ pub record Taken (b : ℕ) (p : Pair) : Type 0 where
 abbrev pub valued : ℕ → ℕ → Value
 valued v n = record { value = v; width = n }
 
--- answers as the code gives them
-unfoldable pub linked : Checked Location → Linked
-linked (refused r) = links.Stopped r
-linked (passed at) = links.At at
+-- answers in numbers
+unfoldable pub toldLinked : Linked → Told Location
+toldLinked (links.At at) = gives at
+toldLinked (links.Stopped r) = refuses (refusalNumber r)
 
-unfoldable pub got : Checked Value → Got
-got (refused r) = gets.Stopped r
-got (passed x) = gets.Value (x .value) (x .width)
+unfoldable pub toldGot : Got → Told Value
+toldGot (gets.Value v n) = gives (valued v n)
+toldGot (gets.Stopped r) = refuses (refusalNumber r)

@@ -7,8 +7,9 @@ ghost use Rattle.block.specs.Blocks.{sizeAt};
 ghost use Rattle.block.specs.Map.{live};
 ghost use Rattle.table.specs.Reference.{isReference};
 ghost use Rattle.machine.specs.Storage.{placed, wordAt};
+ghost use Rattle.machine.specs.Answer.{told};
 ghost use Rattle.machine.specs.Locate.{linkBy, contentsOf, contents, widthOf, link as linkOf, locate as locationOf, operand as operandOf};
-ghost use Rattle.operands.specs.Reading.{seen, Readable, Reached, Narrow, Taken, linked, got};
+ghost use Rattle.operands.specs.Reading.{seen, Readable, Reached, Narrow, Taken, toldLinked, toldGot};
 ghost use Rattle.operands.specs.Storing.{wordsStored};
 ghost use Rattle.operands.specs.Through.{through, Ahead};
 use crate::Got;
@@ -30,7 +31,7 @@ use word::fields::width;
 // One link, by the field's definition and the size of the live block at the pointer, 0 if there is none: 14, 15, 16 in this order.
 fn link(x: Definition, size: u64, pointer: u64) -> Linked
     requires { ⌜ ((size ≡ 0 → ⊥) → pointer ≤ 281474976710656) ⌝ }
-    ensures { λ r. ⌜ r ≡ linked (linkBy x size pointer) ⌝ }
+    ensures { λ r. ⌜ toldLinked r ≡ told (linkBy x size pointer) ⌝ }
 {
     let live = size != 0;
     if !x.defined {
@@ -198,7 +199,7 @@ fn link_from(
     field: FieldName,
 ) -> Linked
     requires { ⌜ Readable b (seen (now bugs) definitions setup (now map) (now storage)) × Ahead b (seen (now bugs) definitions setup (now map) (now storage)) pending × Reached b (setup .s1) (now storage) place × (field .0 < 36) ⌝ }
-    ensures { λ r. ⌜ r ≡ linked (linkOf (through b pending (seen (now (bugs .entry)) definitions setup (now (map .entry)) (now (storage .entry)))) (contents b (through b pending (seen (now (bugs .entry)) definitions setup (now (map .entry)) (now (storage .entry)))) place) field) ⌝ }
+    ensures { λ r. ⌜ toldLinked r ≡ told (linkOf (through b pending (seen (now (bugs .entry)) definitions setup (now (map .entry)) (now (storage .entry)))) (contents b (through b pending (seen (now (bugs .entry)) definitions setup (now (map .entry)) (now (storage .entry)))) place) field) ⌝ }
 {
     let pointer = contents_through(b, bugs, definitions, setup, map, storage, pending, place);
     let size = size_through(b, bugs, definitions, setup, map, storage, pending, pointer);
@@ -218,7 +219,7 @@ pub fn locate_through(
     operand: Pair,
 ) -> Linked
     requires { ⌜ Readable b (seen (now bugs) definitions setup (now map) (now storage)) × Ahead b (seen (now bugs) definitions setup (now map) (now storage)) pending × (isReference (operand .value) ≡ true) ⌝ }
-    ensures { λ r. ⌜ r ≡ linked (locationOf b (through b pending (seen (now (bugs .entry)) definitions setup (now (map .entry)) (now (storage .entry)))) operand) ⌝ }
+    ensures { λ r. ⌜ toldLinked r ≡ told (locationOf b (through b pending (seen (now (bugs .entry)) definitions setup (now (map .entry)) (now (storage .entry)))) operand) ⌝ }
 {
     let found = names_in(operand.value);
     let fields = found.fields;
@@ -257,7 +258,7 @@ pub fn locate(
     operand: Pair,
 ) -> Linked
     requires { ⌜ Readable b (seen (now bugs) definitions setup (now map) (now storage)) × (isReference (operand .value) ≡ true) ⌝ }
-    ensures { λ r. ⌜ r ≡ linked (locationOf b (seen (now (bugs .entry)) definitions setup (now (map .entry)) (now (storage .entry))) operand) ⌝ }
+    ensures { λ r. ⌜ toldLinked r ≡ told (locationOf b (seen (now (bugs .entry)) definitions setup (now (map .entry)) (now (storage .entry))) operand) ⌝ }
 {
     if operand.value < 64 {
         return Linked::At(Location::Bug(BugLetter((operand.value - 11) as u8)));
@@ -296,7 +297,7 @@ pub fn operand(
     p: Pair,
 ) -> Got
     requires { ⌜ Readable b (seen (now bugs) definitions setup (now map) (now storage)) × Taken b p ⌝ }
-    ensures { λ r. ⌜ r ≡ got (operandOf b (seen (now (bugs .entry)) definitions setup (now (map .entry)) (now (storage .entry))) p) ⌝ }
+    ensures { λ r. ⌜ toldGot r ≡ told (operandOf b (seen (now (bugs .entry)) definitions setup (now (map .entry)) (now (storage .entry))) p) ⌝ }
 {
     if p.form == 1 {
         return Got::Value(p.value, b);

@@ -1,10 +1,13 @@
--- Answers as the code gives them, made and taken apart. Assumes nothing.
+-- What is told of answers, made and taken apart. Assumes nothing.
 use Prim.Native.Nat.{ℕ}
 use native.Mathlib.Omega.{arith}
-use mathlib.Core.Path.{_≡_, refl, sym, ap}
+use mathlib.Core.Path.{_≡_, refl, sym, ap, _∙_}
+use Rattle.word.specs.Told.{Told}
 use Rattle.machine.specs.declared.Place.{Place}
 use Rattle.machine.specs.declared.Refusal.{Refusal}
-use Rattle.machine.specs.Answer.{Checked, refused, passed}
+use Rattle.machine.specs.Answer.{Checked, refused, passed, told}
+use Rattle.machine.proofs.Checks.{passed-same}
+use Rattle.machine.proofs.Numbers.{told-passed, told-refused}
 use Rattle.operations.specs.declared.Action.{Action}
 use Rattle.operations.specs.declared.Computed.{Computed}
 use Rattle.operations.specs.declared.Computed.the-variants as computing
@@ -12,46 +15,49 @@ use Rattle.operations.specs.declared.Planned.{Planned}
 use Rattle.operations.specs.declared.Planned.the-variants.{Does, Stopped}
 use Rattle.operations.specs.declared.Fetched.{Fetched}
 use Rattle.operations.specs.declared.Fetched.the-variants as fetching
-use Rattle.operations.specs.Answers.{computed, planned, fetched}
+use Rattle.operations.specs.Answers.{Plan, toldPlanned, planned, toldComputed, Run, toldFetched, fetched}
 
 -- a plan of an action, by what its checks come to
 module _ (to : Place) {k : Checked Action} where
-  pub does : {x : Action} → k ≡ passed x → Does to x ≡ planned to k
-  unfolding planned
+  pub does : {x : Action} → k ≡ passed x → toldPlanned (Does to x) ≡ told (planned to k)
+  unfolding toldPlanned planned told
   does e = rw e
 
-  pub stops : {r : Refusal} → k ≡ refused r → Stopped r ≡ planned to k
-  unfolding planned
+  pub stops : {r : Refusal} → k ≡ refused r → toldPlanned (Stopped r) ≡ told (planned to k)
+  unfolding toldPlanned planned told
   stops e = rw e
 
-  pub follows : {j : Checked Action} {r : Planned} → k ≡ j → r ≡ planned to j → r ≡ planned to k
+  pub follows : {j : Checked Action} {t : Told Plan} → k ≡ j → t ≡ told (planned to j) → t ≡ told (planned to k)
   follows e is = rw e is
 
--- two answers that differ
-pub clash : {P : Type 0} → _≡_ {A = ℕ} 0 1 → P
-clash e = absurd (omega arith)
+-- a value that is made, or not
+module _ (k : Checked ℕ) {answer : Computed} (is : toldComputed answer ≡ told k) where
+  pub made-is : {v : ℕ} → answer ≡ computing.Made v → k ≡ passed v
+  unfolding toldComputed
+  made-is to = told-passed k (sym (ap toldComputed to) ∙ is)
 
-module _ {answer : Computed} where
-  pub made-is : (k : Checked ℕ) {v : ℕ} → answer ≡ computed k → answer ≡ computing.Made v → k ≡ passed v
-  unfolding computed
-  made-is (passed y) {v = v} is to = let same : v ≡ y = cc in rw same
-  made-is (refused q) is to = clash cc
+  pub not-made-is : {r : Refusal} → answer ≡ computing.Stopped r → k ≡ refused r
+  unfolding toldComputed
+  not-made-is to = told-refused k (sym (ap toldComputed to) ∙ is)
 
-  pub not-made-is : (k : Checked ℕ) {r : Refusal} → answer ≡ computed k → answer ≡ computing.Stopped r → k ≡ refused r
-  unfolding computed
-  not-made-is (passed y) is to = clash cc
-  not-made-is (refused q) {r = r} is to = let same : r ≡ q = cc in ap refused (sym same)
+-- a run that is fetched, or not
+run-parts : (n : ℕ) (k : Checked ℕ) {a m : ℕ} → fetched n k ≡ passed (record { address = a; words = m }) → (k ≡ passed a) × (m ≡ n)
+unfolding fetched
+run-parts n (passed y) {a} {m} e =
+    let same : _≡_ {A = Run} (record { address = y; words = n }) (record { address = a; words = m }) = passed-same e in
+    (ap passed (ap (λ (x : Run). x .address) same), sym (ap (λ (x : Run). x .words) same))
+run-parts n (refused q) e = let never : _≡_ {A = ℕ} 0 1 = cc in absurd (omega arith)
 
-module _ (n : ℕ) {answer : Fetched} where
-  pub run-is : (k : Checked ℕ) {a m : ℕ} → answer ≡ fetched n k → answer ≡ fetching.Run a m → (k ≡ passed a) × (m ≡ n)
-  unfolding fetched
-  run-is (passed y) {a = a} {m = m} is to =
-      let same : a ≡ y = cc in
-      let size : m ≡ n = cc in
-      (rw same, size)
-  run-is (refused q) is to = clash cc
+no-run : (n : ℕ) (k : Checked ℕ) {r : Refusal} → fetched n k ≡ refused r → k ≡ refused r
+unfolding fetched
+no-run n (passed y) e = let never : _≡_ {A = ℕ} 0 1 = cc in absurd (omega arith)
+no-run n (refused q) {r} e = let same : q ≡ r = cc in ap refused same
 
-  pub no-run-is : (k : Checked ℕ) {r : Refusal} → answer ≡ fetched n k → answer ≡ fetching.Stopped r → k ≡ refused r
-  unfolding fetched
-  no-run-is (passed y) is to = clash cc
-  no-run-is (refused q) {r = r} is to = let same : r ≡ q = cc in ap refused (sym same)
+module _ (n : ℕ) (k : Checked ℕ) {answer : Fetched} (is : toldFetched answer ≡ told (fetched n k)) where
+  pub run-is : {a m : ℕ} → answer ≡ fetching.Run a m → (k ≡ passed a) × (m ≡ n)
+  unfolding toldFetched
+  run-is to = run-parts n k (told-passed (fetched n k) (sym (ap toldFetched to) ∙ is))
+
+  pub no-run-is : {r : Refusal} → answer ≡ fetching.Stopped r → k ≡ refused r
+  unfolding toldFetched
+  no-run-is to = no-run n k (told-refused (fetched n k) (sym (ap toldFetched to) ∙ is))

@@ -11,7 +11,8 @@ use Rattle.word.proofs.Tests.{and-true as and-parts}
 use Rattle.character.specs.Character.{packed, allBelow}
 use Rattle.character.specs.declared.Packed.{Packed}
 use Rattle.character.specs.declared.Packed.the-variants as packs
-use Rattle.character.specs.Converted.{packing}
+use Rattle.word.specs.Told.{Told, gives, refuses}
+use Rattle.character.specs.Converted.{toldPacked, packing}
 use Rattle.character.proofs.LineEnds.{ends-below}
 use Rattle.block.specs.declared.SetUp.{SetUp}
 use Rattle.block.specs.Blocks.{Block, Tree, Free, Live, Halves, size, level, sizeAt, liveIn, gathered}
@@ -22,7 +23,7 @@ use Rattle.block.proofs.Size.{size-pos, size-small, level-le, level-size, top-l
 use Rattle.block.proofs.Tiling.{sizeAt-mem}
 use Rattle.buddy.specs.declared.Found.{Found}
 use Rattle.buddy.specs.declared.Found.the-variants as found
-use Rattle.buddy.specs.Lowest.{firstOf}
+use Rattle.buddy.specs.Lowest.{toldFound, firstTold}
 use Rattle.table.specs.declared.BugLetter.{BugLetter}
 use Rattle.table.specs.declared.Pair.{Pair}
 use Rattle.table.specs.declared.Row.{Row}
@@ -30,7 +31,7 @@ use Rattle.machine.specs.declared.Location.{Location}
 use Rattle.machine.specs.declared.Location.the-variants.{Bug, Field}
 use Rattle.machine.specs.declared.Refusal.{Refusal}
 use Rattle.machine.specs.declared.Refusal.the-variants.{InputByte, InputShort, BlockSize, CharacterCount, NotABlock, NoRun, FieldFreed, StackFull, StackEmpty, OutputFull}
-use Rattle.machine.specs.Answer.{Checked, refused, passed, _>>=_, _>>_, need}
+use Rattle.machine.specs.Answer.{Checked, refused, passed, told, _>>=_, _>>_, need}
 use Rattle.machine.specs.Locate.{World, Value, contents, widthOf, read, locate}
 use Rattle.machine.specs.Operations.{firstRun, lowestRun, liesIn, foundCharacters, bytesTaken}
 use Rattle.machine.proofs.Blocks.{one-of-runs}
@@ -39,11 +40,11 @@ use Rattle.machine.proofs.Keeps.{run-fits}
 use Rattle.operands.specs.declared.Linked.{Linked}
 use Rattle.operands.specs.declared.Linked.the-variants as links
 use Rattle.operands.specs.declared.Pending.the-variants.{Delivery}
-use Rattle.operands.specs.Reading.{valued, linked, Readable, Reached}
+use Rattle.operands.specs.Reading.{valued, toldLinked, Readable, Reached}
 use Rattle.operands.specs.Storing.{bugsStored}
 use Rattle.operands.specs.Through.{through, Deliverable}
 use Rattle.operands.proofs.Storing.{bugs-below}
-use Rattle.operands.proofs.Operands.{at-is, stopped-is}
+use Rattle.operands.proofs.Answers.{at-is, stopped-is}
 use Rattle.operations.specs.declared.Action.{Action}
 use Rattle.operations.specs.declared.Action.the-variants.{Store, StoreTwo, Deliver, DeliverTwo, Free, Input, Print}
 use Rattle.operations.specs.declared.Computed.{Computed}
@@ -51,7 +52,7 @@ use Rattle.operations.specs.declared.Computed.the-variants as computing
 use Rattle.operations.specs.declared.Fetched.{Fetched}
 use Rattle.operations.specs.declared.Fetched.the-variants as fetching
 use Rattle.operations.specs.Plans.{afterDelivery, delivering, getting, freeing, duplicating, taking, storing, printing, swapPlan, acting, valueBy, sizeOf, Computes, Acts}
-use Rattle.operations.specs.Answers.{computed, fetched}
+use Rattle.operations.specs.Answers.{toldComputed, toldFetched, fetched}
 use Rattle.operations.proofs.Answers.{made-is, not-made-is, run-is, no-run-is}
 
 -- 1 set up: numbers that fit are small
@@ -73,13 +74,14 @@ in-range b word left right h =
 
 -- the lowest run, as code finds it
 module _ (n : ℕ) {answer : Found} where
-  pub found-run : (rs : List ℕ) → answer ≡ firstOf rs → {a : ℕ} → answer ≡ found.At a → {m : ℕ} → m ≡ n → fetching.Run a m ≡ fetched n (firstRun rs)
-  unfolding firstOf firstRun fetched
+  pub found-run : (rs : List ℕ) → toldFound answer ≡ firstTold rs → {a : ℕ} → answer ≡ found.At a → {m : ℕ} → m ≡ n
+      → toldFetched (fetching.Run a m) ≡ told (fetched n (firstRun rs))
+  unfolding toldFound firstTold firstRun toldFetched fetched told
   found-run [] is at long = let never : _≡_ {A = ℕ} 0 1 = cc in absurd (omega arith)
   found-run (r ∷ rs) is {a} at long = let same : a ≡ r = cc in rw (same, long)
 
-  pub found-none : (rs : List ℕ) → answer ≡ firstOf rs → answer ≡ found.Nothing → fetching.Stopped NoRun ≡ fetched n (firstRun rs)
-  unfolding firstOf firstRun fetched
+  pub found-none : (rs : List ℕ) → toldFound answer ≡ firstTold rs → answer ≡ found.Nothing → toldFetched (fetching.Stopped NoRun) ≡ told (fetched n (firstRun rs))
+  unfolding toldFound firstTold firstRun toldFetched fetched told
   found-none [] is at = refl
   found-none (r ∷ rs) is at = let never : _≡_ {A = ℕ} 0 1 = cc in absurd (omega arith)
 
@@ -94,7 +96,7 @@ module _ (b : ℕ) (w : World) (third : Pair) (a : Location) (address n : ℕ) w
   delivers-one z = rw (eq-eqb _ _ z)
 
   module _ (some : third .form ≡ 0 → ⊥) {bugs : List ℕ} (after : bugs ≡ bugsStored b a address (w .bugs)) {answer : Linked}
-      (is : answer ≡ linked (locate b (through b (Delivery address n a)
+      (is : toldLinked answer ≡ told (locate b (through b (Delivery address n a)
       (record { bugs = bugs; definitions = w .definitions; setup = w .setup; map = w .map; storage = w .storage })) third)) where
     pub delivers-two : {a2 : Location} → answer ≡ links.At a2 → {old : ℕ} → old ≡ contents b w a
         → delivering b w third a address n ≡ passed (DeliverTwo address n a a2 old)
@@ -115,25 +117,25 @@ module _ (b : ℕ) (w : World) (third : Pair) (a : Location) (n : ℕ) where
   unfolding getting
   get-large z large = need-no _ _ _ (rw (le-leb 1 n (omega arith), lt-leb n (w .setup .d) large))
 
-  module _ (some : n ≡ 0 → ⊥) (fits : n ≤ w .setup .d) {j k : ℕ} (top-is : k ≡ top (w .setup .d)) (level-is : j ≡ level k n) {answer : Fetched}
-      (is : answer ≡ fetched (size j) (lowestRun (w .setup) (w .map) (size j))) where
+  module _ (some : n ≡ 0 → ⊥) (fits : n ≤ w .setup .d) {j k : ℕ} (top-is : k ≡ top (w .setup .d)) (level-is : j ≡ level k n) where
     wanted : getting b w third a n ≡ (lowestRun (w .setup) (w .map) (size j) >>= λ address. delivering b w third a address (size j))
     unfolding getting
     wanted =
         let same : level (top (w .setup .d)) n ≡ j = sym (level-is ∙ rw top-is) in
         rw same (need-yes _ _ _ (rw (le-leb 1 n (omega arith), le-leb n (w .setup .d) fits)))
 
-    pub get-run : {address m : ℕ} → answer ≡ fetching.Run address m → getting b w third a n ≡ delivering b w third a address m
-    get-run {address} {m} to =
-        let (run, same) = run-is (size j) (lowestRun (w .setup) (w .map) (size j)) is to in
-        wanted ∙ bind-yes _ _ run ∙ ap (delivering b w third a address) (sym same)
+    module _ {answer : Fetched} (is : toldFetched answer ≡ told (fetched (size j) (lowestRun (w .setup) (w .map) (size j)))) where
+      pub get-run : {address m : ℕ} → answer ≡ fetching.Run address m → getting b w third a n ≡ delivering b w third a address m
+      get-run {address} {m} to =
+          let (run, same) = run-is (size j) (lowestRun (w .setup) (w .map) (size j)) is to in
+          wanted ∙ bind-yes _ _ run ∙ ap (delivering b w third a address) (sym same)
 
-    pub get-no-run : {r : Refusal} → answer ≡ fetching.Stopped r → getting b w third a n ≡ refused r
-    get-no-run to = wanted ∙ bind-no _ _ (no-run-is (size j) (lowestRun (w .setup) (w .map) (size j)) is to)
+      pub get-no-run : {r : Refusal} → answer ≡ fetching.Stopped r → getting b w third a n ≡ refused r
+      get-no-run to = wanted ∙ bind-no _ _ (no-run-is (size j) (lowestRun (w .setup) (w .map) (size j)) is to)
 
 -- a run that is found can be delivered
 pub run-deliverable : (b : ℕ) (w : World) (a : Location) → Readable b w → Reached b (w .setup .s1) (w .storage) a → (j : ℕ) → j ≤ top (w .setup .d)
-    → {answer : Fetched} → answer ≡ fetched (size j) (lowestRun (w .setup) (w .map) (size j)) → {address m : ℕ} → answer ≡ fetching.Run address m
+    → {answer : Fetched} → toldFetched answer ≡ told (fetched (size j) (lowestRun (w .setup) (w .map) (size j))) → {address m : ℕ} → answer ≡ fetching.Run address m
     → Deliverable b w address m a
 unfolding lowestRun
 run-deliverable b w a h reached j low is {address} {m} to =
@@ -211,8 +213,7 @@ module _ (u : SetUp) (m : List ℕ) (a : Location) (from : ℕ) {n : ℕ} (is : 
   unfolding duplicating
   copy-none z = need-no _ _ _ (rw (eq-eqb (sizeAt from (live u m)) 0 (sym is ∙ z)))
 
-  module _ (some : n ≡ 0 → ⊥) {j k : ℕ} (top-is : k ≡ top (u .d)) (level-is : j ≡ level k n) {answer : Fetched}
-      (fetch : answer ≡ fetched (size j) (lowestRun u m (size j))) where
+  module _ (some : n ≡ 0 → ⊥) {j k : ℕ} (top-is : k ≡ top (u .d)) (level-is : j ≡ level k n) where
     same-size : size j ≡ n
     same-size =
         let (i, low, same) = live-sized u m from (λ z. some (is ∙ z)) in
@@ -223,22 +224,23 @@ module _ (u : SetUp) (m : List ℕ) (a : Location) (from : ℕ) {n : ℕ} (is : 
     unfolding duplicating
     to-copy = rw (← is, same-size) (need-yes _ _ _ (rw (ne-eqb n 0 some)))
 
-    pub copy-run : {address n′ : ℕ} → answer ≡ fetching.Run address n′ → duplicating u m a from (sizeAt from (live u m)) ≡ passed (Deliver address n′ from a)
-    copy-run {address} {n′} to =
-        let (run, same) = run-is (size j) (lowestRun u m (size j)) fetch to in
-        to-copy ∙ bind-yes _ _ run ∙ ap (λ (i : ℕ). passed (Deliver address i from a)) (sym same)
+    module _ {answer : Fetched} (fetch : toldFetched answer ≡ told (fetched (size j) (lowestRun u m (size j)))) where
+      pub copy-run : {address n′ : ℕ} → answer ≡ fetching.Run address n′ → duplicating u m a from (sizeAt from (live u m)) ≡ passed (Deliver address n′ from a)
+      copy-run {address} {n′} to =
+          let (run, same) = run-is (size j) (lowestRun u m (size j)) fetch to in
+          to-copy ∙ bind-yes _ _ run ∙ ap (λ (i : ℕ). passed (Deliver address i from a)) (sym same)
 
-    pub copy-no-run : {r : Refusal} → answer ≡ fetching.Stopped r → duplicating u m a from (sizeAt from (live u m)) ≡ refused r
-    copy-no-run to = to-copy ∙ bind-no _ _ (no-run-is (size j) (lowestRun u m (size j)) fetch to)
+      pub copy-no-run : {r : Refusal} → answer ≡ fetching.Stopped r → duplicating u m a from (sizeAt from (live u m)) ≡ refused r
+      copy-no-run to = to-copy ∙ bind-no _ _ (no-run-is (size j) (lowestRun u m (size j)) fetch to)
 
 -- characters that are all below 64, and others
 module _ (n : ℕ) (a : Location) where
-  characters-value : (t : Bool) (x : ℕ) {v : ℕ} → packs.Value v ≡ cond t (packs.Value x) packs.TooLarge → (need t InputByte >> passed (Input a x n)) ≡ passed (Input a v n)
+  characters-value : (t : Bool) (x : ℕ) {v : ℕ} → gives v ≡ cond t (gives x) (refuses 4) → (need t InputByte >> passed (Input a x n)) ≡ passed (Input a v n)
   unfolding need _>>_
   characters-value true x {v} e = let same : v ≡ x = cc in rw same
   characters-value false x e = let never : _≡_ {A = ℕ} 0 1 = cc in absurd (omega arith)
 
-  characters-byte : (t : Bool) (x : ℕ) → packs.TooLarge ≡ cond t (packs.Value x) packs.TooLarge → (need t InputByte >> passed (Input a x n)) ≡ refused InputByte
+  characters-byte : (t : Bool) (x : ℕ) → refuses 4 ≡ cond t (gives x) (refuses 4) → (need t InputByte >> passed (Input a x n)) ≡ refused InputByte
   unfolding need _>>_
   characters-byte true x e = let never : _≡_ {A = ℕ} 0 1 = cc in absurd (omega arith)
   characters-byte false x e = refl
@@ -264,23 +266,24 @@ module _ (b taken : ℕ) (input : List ℕ) (a : Location) (n : ℕ) where
       take-short h =
           need-yes _ _ _ (le-leb n (b / 6) few) ∙ rw (ne-eqb (length input) 0 some) (need-no _ _ _ (lt-leb (taken + n) (length input) h))
 
-      module _ (there : taken + n ≤ length input) {answer : Packed} (is : answer ≡ packing (take n (drop taken input))) where
+      module _ (there : taken + n ≤ length input) where
         taken-some : taking b taken input a n
             ≡ (need (allBelow 64 (take n (drop taken input))) InputByte >> passed (Input a (packed (take n (drop taken input))) n))
         unfolding taking foundCharacters bytesTaken
         taken-some =
             need-yes _ _ _ (le-leb n (b / 6) few) ∙ rw (ne-eqb (length input) 0 some) (need-yes _ _ _ (le-leb (taken + n) (length input) there))
 
-        pub take-value : {v : ℕ} → answer ≡ packs.Value v → taking b taken input a n ≡ passed (Input a v n)
-        unfolding packing
-        take-value to = taken-some ∙ characters-value n a _ _ (sym to ∙ is)
+        module _ {answer : Packed} (is : toldPacked answer ≡ packing (take n (drop taken input))) where
+          pub take-value : {v : ℕ} → answer ≡ packs.Value v → taking b taken input a n ≡ passed (Input a v n)
+          unfolding toldPacked packing
+          take-value to = taken-some ∙ characters-value n a _ _ (sym (ap toldPacked to) ∙ is)
 
-        pub take-byte : answer ≡ packs.TooLarge → taking b taken input a n ≡ refused InputByte
-        unfolding packing
-        take-byte to = taken-some ∙ characters-byte n a _ _ (sym to ∙ is)
+          pub take-byte : answer ≡ packs.TooLarge → taking b taken input a n ≡ refused InputByte
+          unfolding toldPacked packing
+          take-byte to = taken-some ∙ characters-byte n a _ _ (sym (ap toldPacked to) ∙ is)
 
 -- a value that is made is stored
-module _ (at : Location) (k : Checked ℕ) {answer : Computed} (is : answer ≡ computed k) where
+module _ (at : Location) (k : Checked ℕ) {answer : Computed} (is : toldComputed answer ≡ told k) where
   pub store-made : {v : ℕ} → answer ≡ computing.Made v → storing at k ≡ passed (Store at v)
   unfolding storing
   store-made to = rw (made-is k is to)

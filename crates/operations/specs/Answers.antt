@@ -1,7 +1,8 @@
--- Answers as the code gives them. Assumes nothing.
+-- What the code answers, in numbers. Assumes nothing.
 use Prim.Native.Nat.{ℕ}
+use Rattle.word.specs.Told.{Told, gives, refuses}
 use Rattle.machine.specs.declared.Place.{Place}
-use Rattle.machine.specs.Answer.{Checked, refused, passed}
+use Rattle.machine.specs.Answer.{Checked, refused, passed, refusalNumber}
 use Rattle.operations.specs.declared.Action.{Action}
 use Rattle.operations.specs.declared.Computed.{Computed}
 use Rattle.operations.specs.declared.Computed.the-variants as computing
@@ -10,16 +11,34 @@ use Rattle.operations.specs.declared.Planned.the-variants as planning
 use Rattle.operations.specs.declared.Fetched.{Fetched}
 use Rattle.operations.specs.declared.Fetched.the-variants as fetching
 
-unfoldable pub computed : Checked ℕ → Computed
-computed (refused r) = computing.Stopped r
-computed (passed v) = computing.Made v
+unfoldable pub toldComputed : Computed → Told ℕ
+toldComputed (computing.Made v) = gives v
+toldComputed (computing.Stopped r) = refuses (refusalNumber r)
+
+-- what a step that is not refused does: the place to go to, and the action there
+pub record Plan : Type 0 where
+  pub to : Place
+  pub action : Action
+
+unfoldable pub toldPlanned : Planned → Told Plan
+toldPlanned (planning.Does to x) = gives (record { to = to; action = x })
+toldPlanned (planning.Stopped r) = refuses (refusalNumber r)
 
 -- an action, before going to a place
-unfoldable pub planned : Place → Checked Action → Planned
-planned to (refused r) = planning.Stopped r
-planned to (passed x) = planning.Does to x
+unfoldable pub planned : Place → Checked Action → Checked Plan
+planned to (refused r) = refused r
+planned to (passed x) = passed (record { to = to; action = x })
 
--- a run of n words
-unfoldable pub fetched : ℕ → Checked ℕ → Fetched
-fetched n (refused r) = fetching.Stopped r
-fetched n (passed address) = fetching.Run address n
+-- a run by its address and its words
+pub record Run : Type 0 where
+  pub address : ℕ
+  pub words : ℕ
+
+unfoldable pub toldFetched : Fetched → Told Run
+toldFetched (fetching.Run a n) = gives (record { address = a; words = n })
+toldFetched (fetching.Stopped r) = refuses (refusalNumber r)
+
+-- the run of n words at an address
+unfoldable pub fetched : ℕ → Checked ℕ → Checked Run
+fetched n (refused r) = refused r
+fetched n (passed a) = passed (record { address = a; words = n })

@@ -6,7 +6,8 @@ ghost use lib.ListN.{length};
 ghost use Rattle.table.specs.Reference.{isReference};
 ghost use Rattle.operands.specs.Reading.{seen, valued, Readable, Reached, Taken};
 ghost use Rattle.operations.specs.Plans.{setUpPlan, defining, definePlan, taking, storing, acting, twoPlan, swapPlan, printing, printPlan, contentsPlan, recordPlan, valueBy, Computes, Acts};
-ghost use Rattle.operations.specs.Answers.{planned};
+ghost use Rattle.machine.specs.Answer.{told};
+ghost use Rattle.operations.specs.Answers.{toldPlanned, planned};
 use crate::Action;
 use crate::Computed;
 use crate::Planned;
@@ -35,7 +36,7 @@ use table::Row;
 
 // 1 set up: 3.
 pub fn plan_set_up(to: Place, lent: usize, row: Row) -> Planned
-    ensures { λ r. ⌜ r ≡ planned to (setUpPlan lent row) ⌝ }
+    ensures { λ r. ⌜ toldPlanned r ≡ told (planned to (setUpPlan lent row)) ⌝ }
 {
     let d = row.first.value;
     let s1 = row.second.value;
@@ -54,7 +55,7 @@ pub fn plan_set_up(to: Place, lent: usize, row: Row) -> Planned
 // 2 define, once its numbers are taken: 7.
 fn define(b: u64, to: Place, name: u64, word: u64, left: u64, right: u64) -> Planned
     requires { ⌜ (b ≤ 48) × (name < 36) ⌝ }
-    ensures { λ r. ⌜ r ≡ planned to (defining b name word left right) ⌝ }
+    ensures { λ r. ⌜ toldPlanned r ≡ told (planned to (defining b name word left right)) ⌝ }
 {
     let known = (word <= 127) & (left < b) & (right < b);
     if !known {
@@ -82,7 +83,8 @@ pub fn plan_define(
     row: Row,
 ) -> Planned
     requires { ⌜ Readable b (seen (now bugs) definitions setup (now map) (now storage)) × Taken b (row .first) × Taken b (row .second) × Taken b (row .third) × (row .name < 36) ⌝ }
-    ensures { λ r. ⌜ r ≡ planned to (definePlan b (seen (now (bugs .entry)) definitions setup (now (map .entry)) (now (storage .entry))) row) ⌝ }
+    ensures { λ r. ⌜ toldPlanned r ≡ told (planned to
+        (definePlan b (seen (now (bugs .entry)) definitions setup (now (map .entry)) (now (storage .entry))) row)) ⌝ }
 {
     let first = row.first;
     let second = row.second;
@@ -107,7 +109,7 @@ pub fn plan_define(
 // 24 input: 10, 5, 4. Where the input has length 0, its characters are octal 77 and nothing is taken.
 fn take(b: u64, to: Place, at: Location, taken: usize, input: &[u8], n: u64) -> Planned
     requires { ⌜ (b ≤ 48) × (taken ≤ length (now input)) ⌝ }
-    ensures { λ r. ⌜ r ≡ planned to (taking b taken (now (input .entry)) at n) ⌝ }
+    ensures { λ r. ⌜ toldPlanned r ≡ told (planned to (taking b taken (now (input .entry)) at n)) ⌝ }
 {
     if b / 6 < n {
         return Planned::Stopped(Refusal::CharacterCount);
@@ -129,7 +131,7 @@ fn take(b: u64, to: Place, at: Location, taken: usize, input: &[u8], n: u64) -> 
 // The operations that compute a value and store it in a.
 fn make(b: u64, to: Place, code: u64, at: Location, a: u64, aw: u64, x: u64, xw: u64) -> Planned
     requires { ⌜ (b ≤ 48) × (a < 2 ^ b) × (x < 2 ^ b) × (aw ≤ b) × (xw ≤ b) × Computes code ⌝ }
-    ensures { λ r. ⌜ r ≡ planned to (storing at (valueBy code b (valued a aw) (valued x xw))) ⌝ }
+    ensures { λ r. ⌜ toldPlanned r ≡ told (planned to (storing at (valueBy code b (valued a aw) (valued x xw)))) ⌝ }
 {
     let made = compute(b, code, a, aw, x, xw);
     match made {
@@ -156,7 +158,8 @@ fn act(
     xw: u64,
 ) -> Planned
     requires { ⌜ Readable b (seen (now bugs) definitions setup (now map) (now storage)) × (taken ≤ length (now input)) × Reached b (setup .s1) (now storage) at × (x < 2 ^ b) × (xw ≤ b) × Acts code × ((third .form ≡ 0 → ⊥) → isReference (third .value) ≡ true) ⌝ }
-    ensures { λ r. ⌜ r ≡ planned to (acting code b (seen (now (bugs .entry)) definitions setup (now (map .entry)) (now (storage .entry))) taken (now (input .entry)) third at (valued x xw)) ⌝ }
+    ensures { λ r. ⌜ toldPlanned r ≡ told (planned to
+        (acting code b (seen (now (bugs .entry)) definitions setup (now (map .entry)) (now (storage .entry))) taken (now (input .entry)) third at (valued x xw))) ⌝ }
 {
     match code {
         3 => get(b, to, bugs, definitions, setup, map, storage, third, at, x),
@@ -197,7 +200,8 @@ pub fn plan_two(
     row: Row,
 ) -> Planned
     requires { ⌜ Readable b (seen (now bugs) definitions setup (now map) (now storage)) × (taken ≤ length (now input)) × Acts (row .code) × (isReference (row .first .value) ≡ true) × Taken b (row .second) × ((row .third .form ≡ 0 → ⊥) → isReference (row .third .value) ≡ true) ⌝ }
-    ensures { λ r. ⌜ r ≡ planned to (twoPlan b (seen (now (bugs .entry)) definitions setup (now (map .entry)) (now (storage .entry))) taken (now (input .entry)) row) ⌝ }
+    ensures { λ r. ⌜ toldPlanned r ≡ told (planned to
+        (twoPlan b (seen (now (bugs .entry)) definitions setup (now (map .entry)) (now (storage .entry))) taken (now (input .entry)) row)) ⌝ }
 {
     let first = row.first;
     let second = row.second;
@@ -241,7 +245,8 @@ pub fn plan_swap(
     row: Row,
 ) -> Planned
     requires { ⌜ Readable b (seen (now bugs) definitions setup (now map) (now storage)) × (isReference (row .first .value) ≡ true) × (isReference (row .second .value) ≡ true) ⌝ }
-    ensures { λ r. ⌜ r ≡ planned to (swapPlan b (seen (now (bugs .entry)) definitions setup (now (map .entry)) (now (storage .entry))) row) ⌝ }
+    ensures { λ r. ⌜ toldPlanned r ≡ told (planned to
+        (swapPlan b (seen (now (bugs .entry)) definitions setup (now (map .entry)) (now (storage .entry))) row)) ⌝ }
 {
     let first = row.first;
     let second = row.second;
@@ -265,7 +270,7 @@ pub fn plan_swap(
 // 25 print, once its operands are taken: 10, 21.
 fn print(to: Place, written: usize, room: usize, n: u64, v: u64, width: u64) -> Planned
     requires { ⌜ written ≤ room ⌝ }
-    ensures { λ r. ⌜ r ≡ planned to (printing written room n (valued v width)) ⌝ }
+    ensures { λ r. ⌜ toldPlanned r ≡ told (planned to (printing written room n (valued v width))) ⌝ }
 {
     if 120 < n {
         return Planned::Stopped(Refusal::CharacterCount);
@@ -290,7 +295,8 @@ pub fn plan_print(
     row: Row,
 ) -> Planned
     requires { ⌜ Readable b (seen (now bugs) definitions setup (now map) (now storage)) × (written ≤ room) × Taken b (row .first) × Taken b (row .second) ⌝ }
-    ensures { λ r. ⌜ r ≡ planned to (printPlan b (seen (now (bugs .entry)) definitions setup (now (map .entry)) (now (storage .entry))) written room row) ⌝ }
+    ensures { λ r. ⌜ toldPlanned r ≡ told (planned to
+        (printPlan b (seen (now (bugs .entry)) definitions setup (now (map .entry)) (now (storage .entry))) written room row)) ⌝ }
 {
     let first = row.first;
     let second = row.second;
@@ -320,7 +326,8 @@ pub fn plan_contents(
     row: Row,
 ) -> Planned
     requires { ⌜ Readable b (seen (now bugs) definitions setup (now map) (now storage)) × (count ≤ 128) × (isReference (row .first .value) ≡ true) ⌝ }
-    ensures { λ r. ⌜ r ≡ planned to (contentsPlan b (seen (now (bugs .entry)) definitions setup (now (map .entry)) (now (storage .entry))) count (now (entries .entry)) row) ⌝ }
+    ensures { λ r. ⌜ toldPlanned r ≡ told (planned to
+        (contentsPlan b (seen (now (bugs .entry)) definitions setup (now (map .entry)) (now (storage .entry))) count (now (entries .entry)) row)) ⌝ }
 {
     let first = row.first;
     let found = locate(b, bugs, definitions, setup, map, storage, first);
@@ -344,7 +351,7 @@ pub fn plan_contents(
 // 34 save a definition: 19. 35 restore it: 20. 36 DO: 19.
 pub fn plan_records(to: Place, saved: usize, calls: usize, row: Row) -> Planned
     requires { ⌜ row .name < 36 ⌝ }
-    ensures { λ r. ⌜ r ≡ planned to (recordPlan saved calls row) ⌝ }
+    ensures { λ r. ⌜ toldPlanned r ≡ told (planned to (recordPlan saved calls row)) ⌝ }
 {
     let field = FieldName(row.name as u8);
     let code = row.code;

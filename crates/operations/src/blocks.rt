@@ -10,7 +10,8 @@ ghost use Rattle.machine.specs.Operations.{lowestRun, liesIn};
 ghost use Rattle.operands.specs.Reading.{seen, Readable, Reached};
 ghost use Rattle.operands.specs.Through.{Deliverable};
 ghost use Rattle.operations.specs.Plans.{delivering, getting, freeing, duplicating};
-ghost use Rattle.operations.specs.Answers.{planned, fetched};
+ghost use Rattle.machine.specs.Answer.{told};
+ghost use Rattle.operations.specs.Answers.{toldPlanned, planned, toldFetched, fetched};
 use crate::Action;
 use crate::Fetched;
 use crate::Planned;
@@ -35,7 +36,7 @@ use table::Pair;
 // The lowest aligned run of the j-th size: 17.
 fn fetch(setup: SetUp, map: &[u8], j: u8) -> Fetched
     requires { ⌜ (words setup % size (top (setup .d)) ≡ 0) × (keeps setup (now map) ≡ true) × (j ≤ top (setup .d)) ⌝ }
-    ensures { λ r. ⌜ r ≡ fetched (size j) (lowestRun setup (now (map .entry)) (size j)) ⌝ }
+    ensures { λ r. ⌜ toldFetched r ≡ told (fetched (size j) (lowestRun setup (now (map .entry)) (size j))) ⌝ }
 {
     let run = lowest_run(setup, map, j);
     match run {
@@ -59,7 +60,8 @@ fn deliver(
     n: u64,
 ) -> Planned
     requires { ⌜ Readable b (seen (now bugs) definitions setup (now map) (now storage)) × Deliverable b (seen (now bugs) definitions setup (now map) (now storage)) address n at × ((third .form ≡ 0 → ⊥) → isReference (third .value) ≡ true) ⌝ }
-    ensures { λ r. ⌜ r ≡ planned to (delivering b (seen (now (bugs .entry)) definitions setup (now (map .entry)) (now (storage .entry))) third at address n) ⌝ }
+    ensures { λ r. ⌜ toldPlanned r ≡ told (planned to
+        (delivering b (seen (now (bugs .entry)) definitions setup (now (map .entry)) (now (storage .entry))) third at address n)) ⌝ }
 {
     if third.form == 0 {
         return Planned::Does(to, Action::Deliver(address, n, 0, at));
@@ -88,7 +90,8 @@ pub fn get(
     wanted: u64,
 ) -> Planned
     requires { ⌜ Readable b (seen (now bugs) definitions setup (now map) (now storage)) × Reached b (setup .s1) (now storage) at × ((third .form ≡ 0 → ⊥) → isReference (third .value) ≡ true) ⌝ }
-    ensures { λ r. ⌜ r ≡ planned to (getting b (seen (now (bugs .entry)) definitions setup (now (map .entry)) (now (storage .entry))) third at wanted) ⌝ }
+    ensures { λ r. ⌜ toldPlanned r ≡ told (planned to
+        (getting b (seen (now (bugs .entry)) definitions setup (now (map .entry)) (now (storage .entry))) third at wanted)) ⌝ }
 {
     if wanted == 0 {
         return Planned::Stopped(Refusal::BlockSize);
@@ -133,7 +136,7 @@ fn lies_in(address: u64, n: u64, at: Location) -> bool
 // 4 free: 15, 18.
 pub fn free(to: Place, setup: SetUp, map: &[u8], at: Location, address: u64, v: u64) -> Planned
     requires { ⌜ (words setup % size (top (setup .d)) ≡ 0) × (keeps setup (now map) ≡ true) ⌝ }
-    ensures { λ r. ⌜ r ≡ planned to (freeing address (sizeAt address (live setup (now (map .entry)))) at v) ⌝ }
+    ensures { λ r. ⌜ toldPlanned r ≡ told (planned to (freeing address (sizeAt address (live setup (now (map .entry)))) at v)) ⌝ }
 {
     let n = live_size(setup, map, address);
     if n == 0 {
@@ -148,7 +151,8 @@ pub fn free(to: Place, setup: SetUp, map: &[u8], at: Location, address: u64, v: 
 // 5 duplicate: 15, 17.
 pub fn duplicate(to: Place, setup: SetUp, map: &[u8], at: Location, from: u64) -> Planned
     requires { ⌜ (words setup % size (top (setup .d)) ≡ 0) × (keeps setup (now map) ≡ true) ⌝ }
-    ensures { λ r. ⌜ r ≡ planned to (duplicating setup (now (map .entry)) at from (sizeAt from (live setup (now (map .entry))))) ⌝ }
+    ensures { λ r. ⌜ toldPlanned r ≡ told (planned to
+        (duplicating setup (now (map .entry)) at from (sizeAt from (live setup (now (map .entry)))))) ⌝ }
 {
     let n = live_size(setup, map, from);
     if n == 0 {

@@ -6,7 +6,8 @@ ghost use Rattle.machine.specs.declared.Refusal.the-variants.{NotADigit};
 ghost use Rattle.machine.specs.Operations.{difference, quotient, orRefuse};
 ghost use Rattle.operands.specs.Reading.{valued};
 ghost use Rattle.operations.specs.Plans.{valueBy, Computes};
-ghost use Rattle.operations.specs.Answers.{computed};
+ghost use Rattle.machine.specs.Answer.{told};
+ghost use Rattle.operations.specs.Answers.{toldComputed};
 use crate::Computed;
 use character::Converted;
 use machine::Refusal;
@@ -14,7 +15,7 @@ use machine::Refusal;
 // 9 subtract: 22.
 fn subtracted(b: u64, x: u64, y: u64) -> Computed
     requires { ⌜ (b ≤ 48) × (x < 2 ^ b) ⌝ }
-    ensures { λ r. ⌜ r ≡ computed (difference 0 (valued x 0) (valued y 0)) ⌝ }
+    ensures { λ r. ⌜ toldComputed r ≡ told (difference 0 (valued x 0) (valued y 0)) ⌝ }
 {
     if x < y {
         return Computed::Stopped(Refusal::SubtrahendGreater);
@@ -24,7 +25,7 @@ fn subtracted(b: u64, x: u64, y: u64) -> Computed
 
 // 11 divide: 9.
 fn divided(x: u64, y: u64) -> Computed
-    ensures { λ r. ⌜ r ≡ computed (quotient 0 (valued x 0) (valued y 0)) ⌝ }
+    ensures { λ r. ⌜ toldComputed r ≡ told (quotient 0 (valued x 0) (valued y 0)) ⌝ }
 {
     if y == 0 {
         return Computed::Stopped(Refusal::ZeroDivisor);
@@ -35,7 +36,7 @@ fn divided(x: u64, y: u64) -> Computed
 // 27 decimal, 28 octal to binary: 6.
 fn binary(base: u64, n: usize, v: u64) -> Computed
     requires { ⌜ (base ≤ 64) × (n ≤ 10) ⌝ }
-    ensures { λ r. ⌜ r ≡ computed (orRefuse (toBinary base n v) NotADigit) ⌝ }
+    ensures { λ r. ⌜ toldComputed r ≡ told (orRefuse (toBinary base n v) NotADigit) ⌝ }
 {
     let c = character::to_binary(base, n, v);
     match c {
@@ -47,7 +48,7 @@ fn binary(base: u64, n: usize, v: u64) -> Computed
 // 6 copy, and 8 to 11.
 fn arithmetic(b: u64, code: u64, a: u64, aw: u64, x: u64, xw: u64) -> Computed
     requires { ⌜ (b ≤ 48) × (6 ≤ code) × (code ≤ 11) × (code ≡ 7 → ⊥) × (a < 2 ^ b) × (x < 2 ^ b) ⌝ }
-    ensures { λ r. ⌜ r ≡ computed (valueBy code b (valued a aw) (valued x xw)) ⌝ }
+    ensures { λ r. ⌜ toldComputed r ≡ told (valueBy code b (valued a aw) (valued x xw)) ⌝ }
 {
     match code {
         6 => Computed::Made(x),
@@ -61,7 +62,7 @@ fn arithmetic(b: u64, code: u64, a: u64, aw: u64, x: u64, xw: u64) -> Computed
 // 12 to 15.
 fn logic(b: u64, code: u64, a: u64, aw: u64, x: u64, xw: u64) -> Computed
     requires { ⌜ (b ≤ 48) × (12 ≤ code) × (code ≤ 15) × (x < 2 ^ b) ⌝ }
-    ensures { λ r. ⌜ r ≡ computed (valueBy code b (valued a aw) (valued x xw)) ⌝ }
+    ensures { λ r. ⌜ toldComputed r ≡ told (valueBy code b (valued a aw) (valued x xw)) ⌝ }
 {
     match code {
         12 => Computed::Made(word::logic::or(b, a, x)),
@@ -74,7 +75,7 @@ fn logic(b: u64, code: u64, a: u64, aw: u64, x: u64, xw: u64) -> Computed
 // 16 to 21.
 fn bits(b: u64, code: u64, a: u64, aw: u64, x: u64, xw: u64) -> Computed
     requires { ⌜ (16 ≤ code) × (code ≤ 21) × (xw ≤ 48) ⌝ }
-    ensures { λ r. ⌜ r ≡ computed (valueBy code b (valued a aw) (valued x xw)) ⌝ }
+    ensures { λ r. ⌜ toldComputed r ≡ told (valueBy code b (valued a aw) (valued x xw)) ⌝ }
 {
     match code {
         16 => Computed::Made(word::count::count_ones(xw, x)),
@@ -89,7 +90,7 @@ fn bits(b: u64, code: u64, a: u64, aw: u64, x: u64, xw: u64) -> Computed
 // 22 and 23.
 fn shifts(b: u64, code: u64, a: u64, aw: u64, x: u64, xw: u64) -> Computed
     requires { ⌜ (22 ≤ code) × (code ≤ 23) × (aw ≤ 48) ⌝ }
-    ensures { λ r. ⌜ r ≡ computed (valueBy code b (valued a aw) (valued x xw)) ⌝ }
+    ensures { λ r. ⌜ toldComputed r ≡ told (valueBy code b (valued a aw) (valued x xw)) ⌝ }
 {
     match code {
         22 => Computed::Made(word::shifts::left_shift(aw, a, x)),
@@ -100,7 +101,7 @@ fn shifts(b: u64, code: u64, a: u64, aw: u64, x: u64, xw: u64) -> Computed
 // 26 to 31.
 fn conversions(b: u64, code: u64, a: u64, aw: u64, x: u64, xw: u64) -> Computed
     requires { ⌜ (b ≤ 48) × (26 ≤ code) × (code ≤ 31) × (x < 2 ^ b) × (xw ≤ b) ⌝ }
-    ensures { λ r. ⌜ r ≡ computed (valueBy code b (valued a aw) (valued x xw)) ⌝ }
+    ensures { λ r. ⌜ toldComputed r ≡ told (valueBy code b (valued a aw) (valued x xw)) ⌝ }
 {
     let n = (b / 6) as usize;
     match code {
@@ -116,7 +117,7 @@ fn conversions(b: u64, code: u64, a: u64, aw: u64, x: u64, xw: u64) -> Computed
 // The value, by the code.
 pub fn compute(b: u64, code: u64, a: u64, aw: u64, x: u64, xw: u64) -> Computed
     requires { ⌜ (b ≤ 48) × (a < 2 ^ b) × (x < 2 ^ b) × (aw ≤ b) × (xw ≤ b) × Computes code ⌝ }
-    ensures { λ r. ⌜ r ≡ computed (valueBy code b (valued a aw) (valued x xw)) ⌝ }
+    ensures { λ r. ⌜ toldComputed r ≡ told (valueBy code b (valued a aw) (valued x xw)) ⌝ }
 {
     if code < 12 {
         return arithmetic(b, code, a, aw, x, xw);

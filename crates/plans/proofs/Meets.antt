@@ -32,7 +32,8 @@ use Rattle.operations.specs.declared.Action.{Action}
 use Rattle.operations.specs.declared.Action.the-variants.{Store}
 use Rattle.operations.specs.Seen.{sight}
 use Rattle.operations.specs.Plans.{setUpPlan, defining, definePlan, sizeOf, afterDelivery, delivering, getting, freeing, duplicating, taking, valueOf, valueBy, Computes, storing, acting, twoPlan, swapPlan, printing, printPlan, contentsPlan, recordPlan, stackPlan, planOf}
-use Rattle.plans.specs.Steps.{Plan, testsPlan, orderedPlan, operationPlan, exitPlan, stepPlan}
+use Rattle.operations.specs.Answers.{Plan}
+use Rattle.plans.specs.Steps.{testsPlan, orderedPlan, operationPlan, exitPlan, stepPlan}
 use Rattle.operations.specs.Effects.{effects}
 use Rattle.plans.proofs.Shapes.{allBelow, at-below, operates}
 use Rattle.operands.proofs.Reported.{NotNull}

@@ -13,7 +13,7 @@ use Rattle.table.specs.Table.{usable}
 use Rattle.machine.specs.declared.Place.{Place}
 use Rattle.machine.specs.declared.Refusal.{Refusal}
 use Rattle.machine.specs.declared.Refusal.the-variants.{BeforeSetUp, SecondSetUp, StackEmpty}
-use Rattle.machine.specs.Answer.{Checked, refused, passed, _>>=_, _>>_, need}
+use Rattle.machine.specs.Answer.{Checked, refused, passed, told, _>>=_, _>>_, need}
 use Rattle.machine.specs.State.{testsOf, theEnd}
 use Rattle.machine.specs.Locate.{World}
 use Rattle.machine.specs.Step.{nextLine, operationOrExit}
@@ -22,13 +22,12 @@ use Rattle.machine.proofs.Checks.{need-yes, need-no, bind-yes, bind-no, cond-ye
 use Rattle.operations.specs.declared.Action.{Action}
 use Rattle.operations.specs.declared.Action.the-variants.{Nothing, Return}
 use Rattle.operations.specs.declared.Counts.{Counts}
-use Rattle.operations.specs.declared.Planned.{Planned}
+use Rattle.word.specs.Told.{Told}
 use Rattle.operations.specs.declared.Planned.the-variants.{Stopped}
 use Rattle.operations.specs.Seen.{Sight}
 use Rattle.operations.specs.Plans.{setUpPlan, definePlan, swapPlan, printPlan, twoPlan, contentsPlan, recordPlan, stackPlan, planOf, Acts}
-use Rattle.plans.specs.Steps.{Plan, goingTo, testsPlan, orderedPlan, operationPlan, exitPlan, stepPlan}
-use Rattle.operations.specs.Answers.{planned}
-use Rattle.plans.specs.Answers.{answered}
+use Rattle.operations.specs.Answers.{Plan, toldPlanned, planned}
+use Rattle.plans.specs.Steps.{goingTo, testsPlan, orderedPlan, operationPlan, exitPlan, stepPlan}
 use Rattle.operations.proofs.Answers.{stops}
 use Rattle.plans.proofs.Answers.{halts, leads, with-place}
 
@@ -95,12 +94,12 @@ module _ (b : ℕ) (s : Sight) (table : List ℕ) (place : Place) (u : usable 3 
   unfolding operationPlan
   ordered k is = need-yes _ _ _ u ∙ rw is
 
-  stopped : {q : Refusal} → orderedPlan b s table (place .row) ≡ refused q → Stopped q ≡ answered (operationPlan b s table place)
+  stopped : {q : Refusal} → orderedPlan b s table (place .row) ≡ refused q → toldPlanned (Stopped q) ≡ told (operationPlan b s table place)
   unfolding _>>=_
   stopped {q} is = halts (ordered (refused q) is)
 
   module _ (one : row .code ≡ 1) where
-    pub second-set-up : (s .world .setup .d ≡ 0 → ⊥) → Stopped SecondSetUp ≡ answered (operationPlan b s table place)
+    pub second-set-up : (s .world .setup .d ≡ 0 → ⊥) → toldPlanned (Stopped SecondSetUp) ≡ told (operationPlan b s table place)
     unfolding orderedPlan
     second-set-up some = stopped (rw (← e, one) (need-no _ _ _ (ne-eqb _ _ some)))
 
@@ -108,12 +107,12 @@ module _ (b : ℕ) (s : Sight) (table : List ℕ) (place : Place) (u : usable 3 
     unfolding orderedPlan
     first-plan none = rw (← e, one) (need-yes _ _ _ (eq-eqb _ _ none))
 
-    pub first-set-up : s .world .setup .d ≡ 0 → {to : Place} → to ≡ operationOrExit (row .next) (place .line) → {r : Planned}
-        → r ≡ planned to (setUpPlan (length (s .world .storage)) row) → r ≡ answered (operationPlan b s table place)
+    pub first-set-up : s .world .setup .d ≡ 0 → {to : Place} → to ≡ operationOrExit (row .next) (place .line) → {t : Told Plan}
+        → t ≡ told (planned to (setUpPlan (length (s .world .storage)) row)) → t ≡ told (operationPlan b s table place)
     first-set-up none at is = leads (ordered (setUpPlan (length (s .world .storage)) row) (first-plan none)) (with-place _ _ (at ∙ rw e) is)
 
   module _ (other : row .code ≡ 1 → ⊥) where
-    pub before-set-up : s .world .setup .d ≡ 0 → Stopped BeforeSetUp ≡ answered (operationPlan b s table place)
+    pub before-set-up : s .world .setup .d ≡ 0 → toldPlanned (Stopped BeforeSetUp) ≡ told (operationPlan b s table place)
     unfolding orderedPlan
     before-set-up none = stopped (rw (← e, ne-eqb (row .code) 1 other) (need-no _ _ _ (rw (eq-eqb _ _ none))))
 
@@ -121,8 +120,8 @@ module _ (b : ℕ) (s : Sight) (table : List ℕ) (place : Place) (u : usable 3 
     unfolding orderedPlan
     by-code some = rw (← e, ne-eqb (row .code) 1 other) (need-yes _ _ _ (rw (ne-eqb _ _ some)))
 
-    pub operation-planned : (s .world .setup .d ≡ 0 → ⊥) → {to : Place} → to ≡ operationOrExit (row .next) (place .line) → {r : Planned} → r ≡ planned to (planOf b s row)
-        → r ≡ answered (operationPlan b s table place)
+    pub operation-planned : (s .world .setup .d ≡ 0 → ⊥) → {to : Place} → to ≡ operationOrExit (row .next) (place .line) → {t : Told Plan} → t ≡ told (planned to (planOf b s row))
+        → t ≡ told (operationPlan b s table place)
     operation-planned some at is = leads (ordered (planOf b s row) (by-code some)) (with-place _ _ (at ∙ rw e) is)
 
 -- at a line's exit

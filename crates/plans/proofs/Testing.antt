@@ -11,13 +11,13 @@ use Rattle.table.specs.Row.{rows, rowAt}
 use Rattle.table.specs.Table.{usable}
 use Rattle.machine.specs.declared.Refusal.{Refusal}
 use Rattle.machine.specs.declared.Refusal.the-variants.{BadRow}
-use Rattle.machine.specs.Answer.{Checked, refused, passed, _>>=_, _>>_, need}
+use Rattle.machine.specs.Answer.{Checked, refused, passed, told, _>>=_, _>>_, need}
 use Rattle.machine.specs.Locate.{World, Value, operand}
 use Rattle.machine.specs.Test.{comparisons, compared, settling, settledAs, Made, testing, satisfied}
 use Rattle.machine.proofs.Checks.{need-passed, bind-passed, passed-same}
 use Rattle.plans.specs.declared.Settled.{Settled}
 use Rattle.plans.specs.declared.Settled.the-variants as line
-use Rattle.plans.specs.Answers.{settled}
+use Rattle.plans.specs.Answers.{toldSettled}
 use Rattle.plans.proofs.Rows.{used}
 
 -- either of two modes
@@ -78,11 +78,11 @@ module _ (b : ℕ) (w : World) (table : List ℕ) (mode first : ℕ) where
 
   -- no test is left
   pub open-ends : {r : ℕ} → Open b w table mode first r → r ≡ 0 → {t : Bool} → t ≡ settledAs mode
-      → line.Holds (not t) ≡ settled (satisfied b table w mode (rows table) first)
-  unfolding satisfied settled
+      → toldSettled (line.Holds (not t)) ≡ told (satisfied b table w mode (rows table) first)
+  unfolding satisfied toldSettled told
   open-ends {r} o z {t} is = rw (o .same, is) (none (o .left))
     where
-      none : (count : ℕ) → line.Holds (not (settledAs mode)) ≡ settled (satisfied b table w mode count r)
+      none : (count : ℕ) → toldSettled (line.Holds (not (settledAs mode))) ≡ told (satisfied b table w mode count r)
       none zero = refl
       none (suc count) = rw (eq-eqb r 0 z)
 
@@ -95,20 +95,20 @@ module _ (b : ℕ) (w : World) (table : List ℕ) (mode first : ℕ) where
         by zero e = absurd (let low = o .enough some .0 in omega arith)
         by (suc n) e = f n e
 
-    pub open-stopped : {q : Refusal} → testing b table w r ≡ refused q → line.Stopped q ≡ settled (satisfied b table w mode (rows table) first)
-    unfolding satisfied settled _>>=_
+    pub open-stopped : {q : Refusal} → testing b table w r ≡ refused q → toldSettled (line.Stopped q) ≡ told (satisfied b table w mode (rows table) first)
+    unfolding satisfied toldSettled told _>>=_
     open-stopped {q} k = one-more (λ count e. rw (o .same, e) (here count))
       where
-        here : (count : ℕ) → line.Stopped q ≡ settled (satisfied b table w mode (suc count) r)
+        here : (count : ℕ) → toldSettled (line.Stopped q) ≡ told (satisfied b table w mode (suc count) r)
         here count = rw (ne-eqb r 0 some, k)
 
     module _ {t : Made} (k : testing b table w r ≡ passed t) where
       pub open-settles : Bool·beq (t .holds) (settling mode) ≡ true → {s : Bool} → s ≡ settledAs mode
-          → line.Holds s ≡ settled (satisfied b table w mode (rows table) first)
-      unfolding satisfied settled _>>=_
+          → toldSettled (line.Holds s) ≡ told (satisfied b table w mode (rows table) first)
+      unfolding satisfied toldSettled told _>>=_
       open-settles j {s} is = one-more (λ count e. rw (o .same, e, is) (here count))
         where
-          here : (count : ℕ) → line.Holds (settledAs mode) ≡ settled (satisfied b table w mode (suc count) r)
+          here : (count : ℕ) → toldSettled (line.Holds (settledAs mode)) ≡ told (satisfied b table w mode (suc count) r)
           here count = rw (ne-eqb r 0 some, k, j)
 
       pub open-next : Bool·beq (t .holds) (settling mode) ≡ false → Open b w table mode first (t .next)

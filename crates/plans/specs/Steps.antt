@@ -14,14 +14,10 @@ use Rattle.machine.specs.Locate.{World}
 use Rattle.machine.specs.Test.{satisfied}
 use Rattle.machine.specs.Step.{nextLine, operationOrExit}
 use Rattle.operations.specs.declared.Action.{Action}
+use Rattle.operations.specs.Answers.{Plan}
 use Rattle.operations.specs.declared.Action.the-variants.{Nothing, Return}
 use Rattle.operations.specs.Seen.{Sight}
 use Rattle.operations.specs.Plans.{setUpPlan, planOf}
-
--- what a step that is not refused does: the place to go to, and the action there
-pub record Plan : Type 0 where
-  pub to : Place
-  pub action : Action
 
 -- going to a place and nothing else
 abbrev pub goingTo : Place → Plan

@@ -10,8 +10,8 @@ ghost use Rattle.operations.specs.Seen.{sees, Ready};
 ghost use Rattle.operations.specs.Plans.{planOf, stackPlan};
 ghost use Rattle.plans.specs.Rows.{Stacked, Operates};
 ghost use Rattle.plans.specs.Steps.{testsPlan, operationPlan, orderedPlan, exitPlan, stepPlan};
-ghost use Rattle.operations.specs.Answers.{planned};
-ghost use Rattle.plans.specs.Answers.{answered};
+ghost use Rattle.machine.specs.Answer.{told};
+ghost use Rattle.operations.specs.Answers.{toldPlanned, planned};
 use crate::Settled;
 use crate::places::next_line;
 use crate::places::operation_or_exit;
@@ -48,7 +48,8 @@ fn plan_tests(
     judged: bool,
 ) -> Planned
     requires { ⌜ Readable b (seen (now bugs) definitions setup (now map) (now storage)) × (lengthFits (now table) ≡ true) × (judged ≡ true → checked b (now table) ≡ Lowest 0) ⌝ }
-    ensures { λ r. ⌜ r ≡ answered (testsPlan b (seen (now (bugs .entry)) definitions setup (now (map .entry)) (now (storage .entry))) (now (table .entry)) line) ⌝ }
+    ensures { λ r. ⌜ toldPlanned r ≡ told
+        (testsPlan b (seen (now (bugs .entry)) definitions setup (now (map .entry)) (now (storage .entry))) (now (table .entry)) line) ⌝ }
 {
     let i = line as usize;
     if !can_use(1, b, table, i, judged) {
@@ -93,7 +94,8 @@ fn plan_stacks(
     row: Row,
 ) -> Planned
     requires { ⌜ Readable b (seen (now bugs) definitions setup (now map) (now storage)) × (counts .contents ≤ 128) × Stacked row ⌝ }
-    ensures { λ r. ⌜ r ≡ planned to (stackPlan b (seen (now (bugs .entry)) definitions setup (now (map .entry)) (now (storage .entry))) counts (now (entries .entry)) row) ⌝ }
+    ensures { λ r. ⌜ toldPlanned r ≡ told (planned to
+        (stackPlan b (seen (now (bugs .entry)) definitions setup (now (map .entry)) (now (storage .entry))) counts (now (entries .entry)) row)) ⌝ }
 {
     if 33 < row.code {
         return plan_records(to, counts.saved, counts.calls, row);
@@ -128,7 +130,8 @@ fn plan_by_code(
     row: Row,
 ) -> Planned
     requires { ⌜ Ready b (sees (now bugs) definitions setup (now map) (now storage) counts (now entries) (now input) room) × Operates b row ⌝ }
-    ensures { λ r. ⌜ r ≡ planned to (planOf b (sees (now (bugs .entry)) definitions setup (now (map .entry)) (now (storage .entry)) counts (now (entries .entry)) (now (input .entry)) room) row) ⌝ }
+    ensures { λ r. ⌜ toldPlanned r ≡ told (planned to
+        (planOf b (sees (now (bugs .entry)) definitions setup (now (map .entry)) (now (storage .entry)) counts (now (entries .entry)) (now (input .entry)) room) row)) ⌝ }
 {
     let code = row.code;
     if 31 < code {
@@ -192,7 +195,8 @@ fn plan_operation(
     judged: bool,
 ) -> Planned
     requires { ⌜ Ready b (sees (now bugs) definitions setup (now map) (now storage) counts (now entries) (now input) room) × (lengthFits (now table) ≡ true) × (judged ≡ true → checked b (now table) ≡ Lowest 0) ⌝ }
-    ensures { λ r. ⌜ r ≡ answered (operationPlan b (sees (now (bugs .entry)) definitions setup (now (map .entry)) (now (storage .entry)) counts (now (entries .entry)) (now (input .entry)) room) (now (table .entry)) place) ⌝ }
+    ensures { λ r. ⌜ toldPlanned r ≡ told
+        (operationPlan b (sees (now (bugs .entry)) definitions setup (now (map .entry)) (now (storage .entry)) counts (now (entries .entry)) (now (input .entry)) room) (now (table .entry)) place) ⌝ }
 {
     let i = place.row as usize;
     if !can_use(3, b, table, i, judged) {
@@ -228,7 +232,7 @@ fn plan_operation(
 // The step at a line's exit: DONE, the go-to, or the next line.
 fn plan_exit(b: u64, line: u16, calls: usize, table: &[u64], judged: bool) -> Planned
     requires { ⌜ (lengthFits (now table) ≡ true) × (judged ≡ true → checked b (now table) ≡ Lowest 0) ⌝ }
-    ensures { λ r. ⌜ r ≡ answered (exitPlan b calls (now (table .entry)) line) ⌝ }
+    ensures { λ r. ⌜ toldPlanned r ≡ told (exitPlan b calls (now (table .entry)) line) ⌝ }
 {
     let i = line as usize;
     if !can_use(1, b, table, i, judged) {
@@ -266,7 +270,8 @@ pub fn plan_step(
     judged: bool,
 ) -> Planned
     requires { ⌜ Ready b (sees (now bugs) definitions setup (now map) (now storage) counts (now entries) (now input) room) × (lengthFits (now table) ≡ true) × (judged ≡ true → checked b (now table) ≡ Lowest 0) ⌝ }
-    ensures { λ r. ⌜ r ≡ answered (stepPlan b (sees (now (bugs .entry)) definitions setup (now (map .entry)) (now (storage .entry)) counts (now (entries .entry)) (now (input .entry)) room) (now (table .entry)) place) ⌝ }
+    ensures { λ r. ⌜ toldPlanned r ≡ told
+        (stepPlan b (sees (now (bugs .entry)) definitions setup (now (map .entry)) (now (storage .entry)) counts (now (entries .entry)) (now (input .entry)) room) (now (table .entry)) place) ⌝ }
 {
     let kind = place.kind;
     match kind {

@@ -7,7 +7,8 @@ ghost use Rattle.table.specs.Row.{rows};
 ghost use Rattle.table.specs.Table.{usable, checked};
 ghost use Rattle.machine.specs.Test.{compared as comparedBy, settling as settlingOf, settledAs, testing, satisfied as satisfiedBy};
 ghost use Rattle.operands.specs.Reading.{seen, Readable};
-ghost use Rattle.plans.specs.Answers.{tested, settled};
+ghost use Rattle.machine.specs.Answer.{told};
+ghost use Rattle.plans.specs.Answers.{toldTested, toldSettled};
 use crate::Settled;
 use crate::Tested;
 use block::SetUp;
@@ -79,7 +80,8 @@ fn test_at(
     r: u64,
 ) -> Tested
     requires { ⌜ Readable b (seen (now bugs) definitions setup (now map) (now storage)) × (judged ≡ true → checked b (now table) ≡ Lowest 0) ⌝ }
-    ensures { λ x. ⌜ x ≡ tested (testing b (now (table .entry)) (seen (now (bugs .entry)) definitions setup (now (map .entry)) (now (storage .entry))) r) ⌝ }
+    ensures { λ x. ⌜ toldTested x ≡ told
+        (testing b (now (table .entry)) (seen (now (bugs .entry)) definitions setup (now (map .entry)) (now (storage .entry))) r) ⌝ }
 {
     let i = r as usize;
     if !can_use(2, b, table, i, judged) {
@@ -114,7 +116,8 @@ pub fn satisfied(
     first: u64,
 ) -> Settled
     requires { ⌜ Readable b (seen (now bugs) definitions setup (now map) (now storage)) × (judged ≡ true → checked b (now table) ≡ Lowest 0) × (1 ≤ rows (now table)) ⌝ }
-    ensures { λ x. ⌜ x ≡ settled (satisfiedBy b (now (table .entry)) (seen (now (bugs .entry)) definitions setup (now (map .entry)) (now (storage .entry))) mode (rows (now (table .entry))) first) ⌝ }
+    ensures { λ x. ⌜ toldSettled x ≡ told
+        (satisfiedBy b (now (table .entry)) (seen (now (bugs .entry)) definitions setup (now (map .entry)) (now (storage .entry))) mode (rows (now (table .entry))) first) ⌝ }
 {
     let mut r = first;
     let outcome = loop {

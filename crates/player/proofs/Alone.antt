@@ -7,18 +7,20 @@ use mathlib.Core.List.{List}
 use mathlib.Core.Path.{_≡_, refl, ap, sym, subst, _∙_}
 use borrow.Author.Tests.{eq-eqb}
 use lib.ListN.{length}
+use Rattle.word.specs.Told.{number}
 use Rattle.machine.specs.declared.Answer.{Answer}
 use Rattle.machine.specs.declared.Answer.the-variants.{Running, Finished, Refused}
 use Rattle.machine.specs.declared.Refusal.{Refusal}
-use Rattle.machine.specs.declared.Refusal.the-variants.{TableLength, BadRow, SetUpNumbers, InputByte, InputShort, NotADigit, DefinitionNumber, BlockSize, ZeroDivisor, CharacterCount, Unsound, BeforeSetUp, SecondSetUp, UndefinedField, NotABlock, OutsideBlock, NoRun, FieldFreed, StackFull, StackEmpty, OutputFull, SubtrahendGreater, NoWidth}
-use Rattle.machine.specs.Answer.{refusalNumber, answerNumber}
+use Rattle.machine.specs.declared.Refusal.the-variants.{UndefinedField}
+use Rattle.machine.specs.Answer.{refusalNumber, toldAnswer}
+use Rattle.machine.proofs.Numbers.{number-same}
 use Rattle.machine.specs.State.{fresh}
 use Rattle.machine.specs.Sound.{Lent, Engine}
 use Rattle.machine.specs.Step.{Outcome, RunOutcome, step, run, engineOf, engineRan}
 use Rattle.defined.specs.declared.FieldsCheck.{FieldsCheck}
 use Rattle.defined.specs.declared.FieldsCheck.the-variants as checks
 use Rattle.defined.specs.declared.FieldsCheck.the-variants.{Yes, No, BadLength, IllFormed, WrongKind}
-use Rattle.defined.specs.Answer.{fieldsChecked, refusalOf}
+use Rattle.defined.specs.Answer.{fieldsChecked, toldFields}
 use Rattle.defined.specs.Alone.{Alone, begin, stepping, running}
 use Rattle.defined.proofs.Theorem.{yes-step, yes-run}
 use Rattle.layout.specs.Layout.{stateLength, stateOf}
@@ -28,7 +30,7 @@ use Rattle.player.specs.Playing.{Playing, freshly, step-called, run-call
 
 -- 0 is the answer of a yes alone
 yes-answer : (a : FieldsCheck) (row field : ℕ) → afterDefined a row field .answer ≡ 0 → a ≡ Yes
-unfolding afterDefined refusalOf
+unfolding afterDefined toldFields number
 yes-answer Yes row field e = refl
 yes-answer (No r n) row field e = absurd (omega arith)
 yes-answer checks.NoWidth row field e = absurd (omega arith)
@@ -43,32 +45,10 @@ defined-yes b table row field e = yes-answer (fieldsChecked b table) row field e
 -- 14 is the number of one refusal alone
 undefined-only : (r : Refusal) → refusalNumber r ≡ 14 → r ≡ UndefinedField
 unfolding refusalNumber
-undefined-only TableLength e = absurd (omega arith)
-undefined-only BadRow e = absurd (omega arith)
-undefined-only SetUpNumbers e = absurd (omega arith)
-undefined-only InputByte e = absurd (omega arith)
-undefined-only InputShort e = absurd (omega arith)
-undefined-only NotADigit e = absurd (omega arith)
-undefined-only DefinitionNumber e = absurd (omega arith)
-undefined-only BlockSize e = absurd (omega arith)
-undefined-only ZeroDivisor e = absurd (omega arith)
-undefined-only CharacterCount e = absurd (omega arith)
-undefined-only Unsound e = absurd (omega arith)
-undefined-only BeforeSetUp e = absurd (omega arith)
-undefined-only SecondSetUp e = absurd (omega arith)
-undefined-only UndefinedField e = refl
-undefined-only NotABlock e = absurd (omega arith)
-undefined-only OutsideBlock e = absurd (omega arith)
-undefined-only NoRun e = absurd (omega arith)
-undefined-only FieldFreed e = absurd (omega arith)
-undefined-only StackFull e = absurd (omega arith)
-undefined-only StackEmpty e = absurd (omega arith)
-undefined-only OutputFull e = absurd (omega arith)
-undefined-only SubtrahendGreater e = absurd (omega arith)
-undefined-only NoWidth e = absurd (omega arith)
+undefined-only r e = number-same e
 
-answer-only : (a : Answer) → answerNumber a ≡ 14 → a ≡ Refused UndefinedField
-unfolding answerNumber
+answer-only : (a : Answer) → number (toldAnswer a) ≡ 14 → a ≡ Refused UndefinedField
+unfolding toldAnswer number
 answer-only Running e = absurd (omega arith)
 answer-only Finished e = absurd (omega arith)
 answer-only (Refused r) e = ap Refused (undefined-only r e)
@@ -81,10 +61,10 @@ code-only (Refused r) e = ap Refused (undefined-only r e)
 
 module _ (b : ℕ) (table : List ℕ) (h : fieldsChecked b table ≡ Yes) (e : Engine) (c : Alone table e) (l : Lent) (is : l .table ≡ table) where
   -- the engine's own calls, by the equations and the numbers that they promise
-  pub step-never : (o : Outcome) → o ≡ step l e → answerNumber (o .stepped .answer) ≡ 14 → ⊥
+  pub step-never : (o : Outcome) → o ≡ step l e → number (toldAnswer (o .stepped .answer)) ≡ 14 → ⊥
   step-never o eq k = yes-step b table h e c l is o eq (answer-only _ k)
 
-  pub run-never : (limit : ℕ) (r : RunOutcome) → r ≡ run limit l e → answerNumber (r .ran .answer) ≡ 14 → ⊥
+  pub run-never : (limit : ℕ) (r : RunOutcome) → r ≡ run limit l e → number (toldAnswer (r .ran .answer)) ≡ 14 → ⊥
   run-never limit r eq k = yes-run b table h e c l is limit r eq (answer-only _ k)
 
 -- a tour that is played so is at an engine that its table alone has led to

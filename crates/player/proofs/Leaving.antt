@@ -6,16 +6,17 @@ use mathlib.Core.Path.{_≡_, refl, sym, ap, _∙_}
 use borrow.Author.Tests.{eq-eqb, ne-eqb}
 use lib.Dec.{eqb}
 use lib.ListN.{length}
+use Rattle.word.specs.Told.{number}
 use Rattle.word.specs.Word.{isWidth}
 use Rattle.machine.specs.declared.Ran.{Ran}
 use Rattle.machine.specs.declared.State.{State}
 use Rattle.machine.specs.declared.Stepped.{Stepped}
 use Rattle.machine.specs.declared.Fresh.{Fresh}
-use Rattle.machine.specs.State.{fresh, freshOf, freshNumber, isFinished}
+use Rattle.machine.specs.State.{fresh, freshOf, toldFresh, isFinished}
 use Rattle.machine.specs.Sound.{Lent}
 use Rattle.machine.specs.Step.{Outcome, RunOutcome, step, run}
 use Rattle.layout.specs.Layout.{stateLength, bytesOfState, stateOf}
-use Rattle.player.specs.Calls.{code, moved, bytesAfter, engineAt, FreshLeft, freshLeft, numbersOfReport, StepLeft, afterStep, noStep, stepLeft, RunLeft, afterRun, noRun, runLeft, wrongState, wrongReport}
+use Rattle.player.specs.Calls.{code, moved, bytesAfter, engineAt, FreshLeft, freshLeft, numbersOfReport, StepLeft, afterStep, noStep, stepLeft, RunLeft, afterRun, noRun, runLeft, wrongState, unreported}
 use Rattle.player.proofs.Moving.{step-kept, run-kept}
 
 -- bytes that were written, or left, tell the state afterwards
@@ -29,9 +30,10 @@ module _ (l : Lent) (storage bytes report : List ℕ) where
   unfolding stepLeft
   step-short h = rw (ne-eqb (length bytes) stateLength h)
 
-  pub step-unreported : length bytes ≡ stateLength → (length report ≡ 12 → ⊥) → noStep wrongReport l storage bytes report ≡ stepLeft l storage bytes report
+  pub step-unreported : length bytes ≡ stateLength → (length report ≡ 12 → ⊥) → {answer : ℕ} → answer ≡ unreported bytes
+      → noStep answer l storage bytes report ≡ stepLeft l storage bytes report
   unfolding stepLeft
-  step-unreported h k = rw (eq-eqb (length bytes) stateLength h, ne-eqb (length report) 12 k)
+  step-unreported h k is = rw (eq-eqb (length bytes) stateLength h, ne-eqb (length report) 12 k, is)
 
   -- what the engine's step leaves, of a state that was read, and what is made of it
   module _ {before : State} {stepped : Stepped} {storage' output' bytes' : List ℕ} (read : before ≡ stateOf bytes)
@@ -92,7 +94,7 @@ module _ (limit : ℕ) (l : Lent) (storage bytes : List ℕ) where
 -- a fresh state
 module _ (b : ℕ) (bytes : List ℕ) where
   pub fresh-no-width : isWidth b ≡ false → _≡_ {A = FreshLeft} (record { answer = 31; state = bytes }) (freshLeft b bytes)
-  unfolding freshLeft freshNumber
+  unfolding freshLeft toldFresh number
   fresh-no-width w = rw w
 
   module _ (w : isWidth b ≡ true) where

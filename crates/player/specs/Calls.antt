@@ -5,11 +5,12 @@ use mathlib.Core.Bool.{Bool, true, false, not, _&&_, _||_, cond}
 use mathlib.Core.List.{List, [], _∷_, _++_}
 use lib.Dec.{eqb, ltb}
 use lib.ListN.{length}
+use Rattle.word.specs.Told.{number}
 use Rattle.word.specs.Word.{isWidth}
 use Rattle.table.specs.declared.TableCheck.{TableCheck}
 use Rattle.table.specs.declared.TableCheck.the-variants as table-check
 use Rattle.table.specs.declared.TableCheck.the-variants.{Lowest, BadLength}
-use Rattle.table.specs.Table.{tableChecked, checkRefusal}
+use Rattle.table.specs.Table.{tableChecked, toldCheck}
 use Rattle.machine.specs.declared.Answer.{Answer}
 use Rattle.machine.specs.declared.Answer.the-variants.{Running, Finished, Refused}
 use Rattle.machine.specs.declared.Refusal.the-variants as refusals
@@ -19,7 +20,7 @@ use Rattle.machine.specs.declared.Report.{Report}
 use Rattle.machine.specs.declared.State.{State}
 use Rattle.machine.specs.declared.Store.{Store}
 use Rattle.machine.specs.Answer.{refusalNumber}
-use Rattle.machine.specs.State.{fresh, freshNumber, isFinished}
+use Rattle.machine.specs.State.{fresh, toldFresh, isFinished}
 use Rattle.machine.specs.Sound.{Lent, Engine}
 use Rattle.machine.specs.Step.{Outcome, RunOutcome, step, run}
 use Rattle.block.specs.Blocks.{Block}
@@ -73,7 +74,7 @@ unfoldable pub freshLeft : ℕ → List ℕ → FreshLeft
 freshLeft b bytes =
     cond (isWidth b)
     (cond (eqb (length bytes) stateLength) (record { answer = 0; state = bytesOfState (fresh b) }) (record { answer = wrongState; state = bytes }))
-    (record { answer = freshNumber NoWidth; state = bytes })
+    (record { answer = number (toldFresh NoWidth); state = bytes })
 
 -- a report as twelve numbers
 unfoldable pub numbersOfStore : Store → List ℕ
@@ -107,10 +108,14 @@ unfoldable pub noStep : ℕ → Lent → List ℕ → List ℕ → List ℕ → 
 noStep answer l storage bytes report =
     record { answer = answer; storage = storage; output = l .output; state = bytes; report = report }
 
+-- a report of a wrong length is answered only where the state's width is one: 31 comes before anything else
+unfoldable pub unreported : List ℕ → ℕ
+unreported bytes = cond (isWidth (stateOf bytes .width)) wrongReport (code (Refused refusals.NoWidth))
+
 unfoldable pub stepLeft : Lent → List ℕ → List ℕ → List ℕ → StepLeft
 stepLeft l storage bytes report =
     cond (eqb (length bytes) stateLength)
-    (cond (eqb (length report) 12) (afterStep bytes (step l (engineAt bytes storage))) (noStep wrongReport l storage bytes report))
+    (cond (eqb (length report) 12) (afterStep bytes (step l (engineAt bytes storage))) (noStep (unreported bytes) l storage bytes report))
     (noStep wrongState l storage bytes report)
 
 -- l6_run
@@ -145,9 +150,9 @@ pub record CheckLeft : Type 0 where
   pub row : ℕ
 
 unfoldable pub afterCheck : TableCheck → ℕ → CheckLeft
-afterCheck (Lowest r) row = record { answer = checkRefusal (Lowest r); row = r }
-afterCheck BadLength row = record { answer = checkRefusal BadLength; row = row }
-afterCheck (table-check.NoWidth) row = record { answer = checkRefusal table-check.NoWidth; row = row }
+afterCheck (Lowest r) row = record { answer = number (toldCheck (Lowest r)); row = r }
+afterCheck BadLength row = record { answer = number (toldCheck BadLength); row = row }
+afterCheck (table-check.NoWidth) row = record { answer = number (toldCheck table-check.NoWidth); row = row }
 
 unfoldable pub checkLeft : ℕ → List ℕ → ℕ → CheckLeft
 checkLeft b table row = afterCheck (tableChecked b table) row

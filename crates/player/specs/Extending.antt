@@ -4,8 +4,9 @@ use mathlib.Core.Bool.{cond}
 use mathlib.Core.List.{List}
 use lib.Dec.{eqb}
 use lib.ListN.{length}
+use Rattle.word.specs.Told.{number}
 use Rattle.machine.specs.Sound.{Engine}
-use Rattle.machine.specs.Extend.{Extension, extensionNumber, isDone, extend}
+use Rattle.machine.specs.Extend.{Extension, toldExtension, isDone, extend}
 use Rattle.layout.specs.Layout.{stateLength, bytesOfState}
 use Rattle.player.specs.Calls.{wrongState, engineAt}
 
@@ -18,7 +19,7 @@ pub record ExtendLeft : Type 0 where
 unfoldable pub afterExtension : List ℕ → Extension → ExtendLeft
 afterExtension bytes x =
     record {
-      answer = extensionNumber (x .extended .answer);
+      answer = number (toldExtension (x .extended .answer));
       storage = x .storage;
       state = cond (isDone (x .extended .answer)) (bytesOfState (x .extended .state)) bytes;
     }

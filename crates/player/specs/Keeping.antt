@@ -1,9 +1,10 @@
 -- l6_save and l6_load: what they answer, and what they leave in the memory lent to them. Assumes nothing.
 use Prim.Native.Nat.{ℕ}
 use mathlib.Core.List.{List}
+use Rattle.word.specs.Told.{number}
 use Rattle.columns.specs.declared.Kept.{Kept}
 use Rattle.columns.specs.declared.Kept.the-variants.{Count, NoWidth, WordTooWide, NotSaved, OutputShort}
-use Rattle.columns.specs.Columns.{Left, saving, loading, keptNumber}
+use Rattle.columns.specs.Columns.{Left, saving, loading, toldKept}
 
 -- how many were written, otherwise the count as it was
 unfoldable pub countOf : Kept → ℕ → ℕ
@@ -20,7 +21,7 @@ pub record SaveLeft : Type 0 where
   pub count : ℕ
 
 unfoldable pub afterSave : ℕ → Left → SaveLeft
-afterSave count l = record { answer = keptNumber (l .answer); bytes = l .output; count = countOf (l .answer) count }
+afterSave count l = record { answer = number (toldKept (l .answer)); bytes = l .output; count = countOf (l .answer) count }
 
 unfoldable pub saveLeft : ℕ → List ℕ → List ℕ → ℕ → SaveLeft
 saveLeft width words bytes count = afterSave count (saving width words bytes)
@@ -31,7 +32,7 @@ pub record LoadLeft : Type 0 where
   pub words : List ℕ
 
 unfoldable pub afterLoad : Left → LoadLeft
-afterLoad l = record { answer = keptNumber (l .answer); words = l .output }
+afterLoad l = record { answer = number (toldKept (l .answer)); words = l .output }
 
 unfoldable pub loadLeft : ℕ → List ℕ → ℕ → List ℕ → LoadLeft
 loadLeft width bytes n words = afterLoad (loading width n bytes words)

@@ -1,9 +1,10 @@
 -- l6_read: what it answers, and what it leaves in the memory lent to it. Assumes nothing.
 use Prim.Native.Nat.{ℕ}
 use mathlib.Core.List.{List}
+use Rattle.word.specs.Told.{number}
 use Rattle.lines.specs.declared.Read.{Read}
 use Rattle.lines.specs.declared.Read.the-variants.{Rows, NoWidth, BadLine, BadLabel, TooLong}
-use Rattle.lines.specs.Program.{Left, readAt, readNumber}
+use Rattle.lines.specs.Program.{Left, readAt, toldRead}
 
 -- the row count, otherwise the count as it was
 unfoldable pub rowsAfter : Read → ℕ → ℕ
@@ -30,7 +31,7 @@ pub record ReadLeft : Type 0 where
 -- 0, or the number of the refusal
 unfoldable pub afterReading : ℕ → ℕ → Left → ReadLeft
 afterReading count line l =
-    record { answer = readNumber (l .answer); table = l .table; count = rowsAfter (l .answer) count; line = lineAfter (l .answer) line }
+    record { answer = number (toldRead (l .answer)); table = l .table; count = rowsAfter (l .answer) count; line = lineAfter (l .answer) line }
 
 unfoldable pub readLeft : ℕ → List ℕ → List ℕ → ℕ → ℕ → ReadLeft
 readLeft b text table count line = afterReading count line (readAt b text table)

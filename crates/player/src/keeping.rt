@@ -1,6 +1,7 @@
 // Storage kept by bit columns, for players in C and Rust.
 ghost use mathlib.Core.Path.{_≡_};
-ghost use Rattle.columns.specs.Columns.{keptNumber};
+ghost use Rattle.word.specs.Told.{number};
+ghost use Rattle.columns.specs.Columns.{toldKept};
 ghost use Rattle.player.specs.Keeping.{countOf, saveLeft, loadLeft};
 use columns::Kept;
 use columns::load;
@@ -8,7 +9,7 @@ use columns::save;
 
 // The number of an answer that is no count.
 fn number_of(answer: Kept) -> u64
-    ensures { λ r. ⌜ r ≡ keptNumber answer ⌝ }
+    ensures { λ r. ⌜ r ≡ number (toldKept answer) ⌝ }
 {
     match answer {
         Kept::Count(_) => 0,

@@ -17,7 +17,7 @@ ghost use Rattle.machine.specs.State.{fresh as freshState};
 ghost use Rattle.machine.specs.Step.{step as stepOf, run as runOf};
 ghost use Rattle.machine.specs.Storage.{placed};
 ghost use Rattle.layout.specs.Layout.{stateLength, bytesOfState, stateOf};
-ghost use Rattle.player.specs.Calls.{version, code, moved, numbersOfStore, numbersOfReport, engineAt, freshLeft, stepLeft, runLeft, checkLeft, stateFault, countsLeft, blocksLeft};
+ghost use Rattle.player.specs.Calls.{version, code, moved, numbersOfStore, numbersOfReport, engineAt, freshLeft, unreported as unreportedOf, stepLeft, runLeft, checkLeft, stateFault, countsLeft, blocksLeft};
 use engine::answers::refusal_number;
 use engine::fresh;
 use engine::run;
@@ -147,6 +147,17 @@ pub extern "C" fn l6_fresh(width: u64, state: &mut [u8]) -> u64
     0
 }
 
+// What a step answers where its report has a wrong length: 31 where the state has another width, otherwise 102.
+fn unreported(state: &[u8]) -> u64
+    requires { ⌜ length (now state) ≡ stateLength ⌝ }
+    ensures { λ r. ⌜ r ≡ unreportedOf (now (state .entry)) ⌝ }
+{
+    if !is_width(width_at(state) as u64) {
+        return 31;
+    }
+    102
+}
+
 // One step, with its report.
 #[no_mangle]
 pub extern "C" fn l6_step(
@@ -164,7 +175,7 @@ pub extern "C" fn l6_step(
         return 101;
     }
     if report.len() != 12 {
-        return 102;
+        return unreported(&*state);
     }
     let before = read_state(&*state);
     let core = before.core;

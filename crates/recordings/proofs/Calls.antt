@@ -9,7 +9,7 @@ use lib.Dec.{leb}
 use lib.ListN.{length, drop}
 use Rattle.recordings.specs.declared.Written.{Written}
 use Rattle.recordings.specs.declared.Written.the-variants.{Count, BadList, RowTwice, OutputShort}
-use Rattle.recordings.specs.Recordings.{Left, rowCount, stopOf, recordingOf, isList, chain, hasTwice, allStanding, pairs, written, correcting, writtenNumber, writtenCount, refusalOf, Numbered}
+use Rattle.recordings.specs.Recordings.{Left, rowCount, stopOf, recordingOf, isList, chain, hasTwice, allStanding, pairs, written, correcting, toldWritten, correctingTold}
 use Rattle.recordings.proofs.Chain.{chain-once, chain-twice, chain-most}
 
 abbrev left : Written → List ℕ → Left
@@ -25,28 +25,28 @@ half-short n m h = let short = leb-false n (m / 2) h in omega arith
 module _ (xs output : List ℕ) where
   -- an answer and what it leaves, also in the ticket's numbers
   abbrev pub Answered : Written → List ℕ → Type 0
-  Answered answer after = (left answer after ≡ correcting xs output) × Numbered xs output answer
+  Answered answer after = (left answer after ≡ correcting xs output) × (toldWritten answer ≡ correctingTold xs output)
 
   pub bad-list : isList xs ≡ false → Answered BadList output
-  unfolding correcting refusalOf writtenNumber writtenCount
-  bad-list b = (rw b, record { number = rw b; count = rw b })
+  unfolding correcting toldWritten correctingTold
+  bad-list b = (rw b, rw b)
 
   module _ (is : isList xs ≡ true) {steps : ℕ} (all : steps ≡ length (chain xs)) where
     pub row-twice : steps ≡ rowCount xs → Answered RowTwice output
-    unfolding correcting refusalOf writtenNumber writtenCount
+    unfolding correcting toldWritten correctingTold
     row-twice full =
         let twice = chain-twice xs is (sym all ∙ full) in
-        (rw (is, twice), record { number = rw (is, twice); count = rw (is, twice) })
+        (rw (is, twice), rw (is, twice))
 
     module _ (ends : steps ≡ rowCount xs → ⊥) where
       once : hasTwice (chain xs) ≡ false
       once = chain-once xs is (omega (arith, chain-most xs is))
 
       pub output-short : leb (length (allStanding xs)) (length output / 2) ≡ false → Answered OutputShort output
-      unfolding correcting written refusalOf writtenNumber writtenCount
+      unfolding correcting written toldWritten correctingTold
       output-short h =
           let short = lt-leb (2 * length (allStanding xs)) (length output) (half-short _ _ h) in
-          (rw (is, once, short), record { number = rw (is, once, short); count = rw (is, once, short) })
+          (rw (is, once, short), rw (is, once, short))
 
       module _ (fits : leb (length (allStanding xs)) (length output / 2) ≡ true) where
         pub pairs-fit : 2 * length (allStanding xs) ≤ length output
@@ -54,7 +54,7 @@ module _ (xs output : List ℕ) where
 
         pub all-written : {count : ℕ} {after : List ℕ} → count ≡ length (allStanding xs)
             → after ≡ pairs (stopOf xs) (recordingOf xs) (allStanding xs) ++ drop (2 * count) output → Answered (Count count) after
-        unfolding correcting written refusalOf writtenNumber writtenCount
+        unfolding correcting written toldWritten correctingTold
         all-written count-is e =
             let room = le-leb (2 * length (allStanding xs)) (length output) pairs-fit in
-            (rw (is, once, room, e, count-is), record { number = rw (is, once, room); count = rw (is, once, room, count-is) })
+            (rw (is, once, room, e, count-is), rw (is, once, room, count-is))

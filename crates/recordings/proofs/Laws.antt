@@ -9,7 +9,8 @@ use lib.Dec.{eqb, leb}
 use lib.ListN.{length, take}
 use Rattle.word.proofs.Tests.{by-test, by-eqb, either-way}
 use Rattle.recordings.specs.Recordings.{Left, rowCount, nextOf, firstRow, stopOf, dayOf, recordingOf, isList, reached, chain, member, hasTwice}
-use Rattle.recordings.specs.Recordings.{replaces, standing, standingRows, allStanding, pairs, written, correcting, writtenNumber}
+use Rattle.word.specs.Told.{number}
+use Rattle.recordings.specs.Recordings.{replaces, standing, standingRows, allStanding, pairs, written, correcting, toldWritten}
 use Rattle.recordings.proofs.Counting.{Each, each-first, each-others, or-false, no-both}
 use Rattle.recordings.proofs.Chain.{chain-most, chain-twice}
 use Rattle.recordings.proofs.Standing.{standing-each}
@@ -118,8 +119,8 @@ module _ (xs ys : List ℕ) where
     no-bearing output = rw (list, same-numbers, same-all, same-chain)
 
 -- a refused call writes nothing
-pub refused-nothing : (xs output : List ℕ) → (writtenNumber (correcting xs output .answer) ≡ 0 → ⊥) → correcting xs output .output ≡ output
-unfolding correcting written writtenNumber
+pub refused-nothing : (xs output : List ℕ) → (number (toldWritten (correcting xs output .answer)) ≡ 0 → ⊥) → correcting xs output .output ≡ output
+unfolding correcting written toldWritten number
 refused-nothing xs output =
     either-way Kept (isList xs)
     (either-way Kept (hasTwice (chain xs)) (λ _. refl)
@@ -127,4 +128,4 @@ refused-nothing xs output =
     (λ _. refl)
   where
     Kept : Left → Type 0
-    Kept l = (writtenNumber (l .answer) ≡ 0 → ⊥) → l .output ≡ output
+    Kept l = (number (toldWritten (l .answer)) ≡ 0 → ⊥) → l .output ≡ output

@@ -5,6 +5,7 @@ use mathlib.Core.List.{List, [], _∷_, _++_}
 use mathlib.Core.Path.{_≡_}
 use lib.Dec.{eqb, leb, ltb}
 use lib.ListN.{length, drop, getD}
+use Rattle.word.specs.Told.{Told, gives, refuses}
 use Rattle.recordings.specs.declared.Written.{Written}
 use Rattle.recordings.specs.declared.Written.the-variants.{Count, BadList, RowTwice, OutputShort}
 
@@ -104,25 +105,15 @@ correcting xs output =
     (cond (hasTwice (chain xs)) (record { answer = RowTwice; output = output }) (written xs (allStanding xs) output))
     (record { answer = BadList; output = output })
 
--- the number of a refusal, 0 where it is none, and the count, 0 where there is none
-unfoldable pub writtenNumber : Written → ℕ
-writtenNumber (Count n) = 0
-writtenNumber BadList = 26
-writtenNumber RowTwice = 27
-writtenNumber OutputShort = 28
+-- its answer in numbers: the count, or the refusal
+unfoldable pub toldWritten : Written → Told ℕ
+toldWritten (Count n) = gives n
+toldWritten BadList = refuses 26
+toldWritten RowTwice = refuses 27
+toldWritten OutputShort = refuses 28
 
-unfoldable pub writtenCount : Written → ℕ
-writtenCount (Count n) = n
-writtenCount BadList = 0
-writtenCount RowTwice = 0
-writtenCount OutputShort = 0
-
--- the refusals in the ticket's numbers, in their order, 0 where there is none
-unfoldable pub refusalOf : List ℕ → List ℕ → ℕ
-refusalOf xs output =
-    cond (isList xs) (cond (hasTwice (chain xs)) 27 (cond (leb (2 * length (allStanding xs)) (length output)) 0 28)) 26
-
--- the answer in the ticket's numbers
-pub record Numbered (xs output : List ℕ) (answer : Written) : Type 0 where
-  pub number : writtenNumber answer ≡ refusalOf xs output
-  pub count : writtenCount answer ≡ cond (eqb (refusalOf xs output) 0) (length (allStanding xs)) 0
+-- what the call tells, in the order 26, 27, 28
+unfoldable pub correctingTold : List ℕ → List ℕ → Told ℕ
+correctingTold xs output =
+    let count = length (allStanding xs) in
+    cond (isList xs) (cond (hasTwice (chain xs)) (refuses 27) (cond (leb (2 * count) (length output)) (gives count) (refuses 28))) (refuses 26)

@@ -6,7 +6,7 @@ ghost use Prim.Native.Nat.{_+_, _*_, _%_, _≤_, _<_};
 ghost use lib.Dec.{leb};
 ghost use lib.ListN.{length, getD, set, drop};
 ghost use Rattle.recordings.specs.Recordings.{rowCount, numberOf, stopOf, recordingOf, zerosAfter, nextsInside, isList, chain};
-ghost use Rattle.recordings.specs.Recordings.{allStanding, pairs, correcting, Numbered};
+ghost use Rattle.recordings.specs.Recordings.{allStanding, pairs, correcting, toldWritten, correctingTold};
 ghost use Rattle.recordings.specs.Walking.{Walked, Place, Holds, Entering, Enters, Noted, Linked, Fresh, standingOf};
 ghost use Rattle.recordings.specs.Walking.{rowAt, linkAt, stopAt, stops, from, lesser, LeastOf};
 
@@ -373,7 +373,7 @@ fn put_recordings(list: &[u64], count: usize, output: &mut [u64])
 // Numbers past those written stay.
 pub fn write_standing(list: &[u64], output: &mut [u64]) -> Written
     ensures { λ r. ⌜ record { answer = r; output = now (output .exit) } ≡ correcting (now (list .entry)) (now (output .entry)) ⌝ }
-    ensures numbered { λ r. ⌜ Numbered (now (list .entry)) (now (output .entry)) r ⌝ }
+    ensures numbered { λ r. ⌜ toldWritten r ≡ correctingTold (now (list .entry)) (now (output .entry)) ⌝ }
 {
     if !is_list(list) {
         return Written::BadList;

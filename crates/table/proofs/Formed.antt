@@ -16,7 +16,8 @@ use Rattle.table.specs.declared.TableCheck.the-variants.{Lowest, BadLeng
 use Rattle.table.specs.declared.Operand.{Operand}
 use Rattle.table.specs.declared.Pair.{Pair}
 use Rattle.table.specs.Operands.{testShape, takes}
-use Rattle.table.specs.Table.{fits, isLine, isTest, shapeOf, isOperation, chained, shaped, wellFormedAs, wellFormed, usable, lowestFrom, checked, tableChecked, checkRefusal, checkRow}
+use Rattle.word.specs.Told.{gives, refuses}
+use Rattle.table.specs.Table.{fits, isLine, isTest, shapeOf, isOperation, chained, shaped, wellFormedAs, wellFormed, usable, lowestFrom, checked, tableChecked, toldCheck, checkTold}
 use Rattle.table.specs.Row.{lengthFits, rows, rowAt}
 
 -- a pair's test is the definition's at the operand that is told
@@ -132,21 +133,14 @@ check-at-width b table w is = rw w is
 
 -- its answer in the papers' numbers
 pub check-numbers : (b : ℕ) (table : List ℕ) {x : TableCheck} → x ≡ tableChecked b table
-    → (x ≡ tableChecked b table)
-    × ((checkRefusal x ≡ cond (isWidth b) (cond (lengthFits table) 0 1) 31)
-    × (checkRow x ≡ cond (isWidth b && lengthFits table) (lowestFrom b table 1 (rows table - 1)) 0))
-unfolding tableChecked checked checkRefusal checkRow
-check-numbers b table {x} is = (is, (ap checkRefusal is ∙ refusal (isWidth b) (lengthFits table), ap checkRow is ∙ row (isWidth b) (lengthFits table)))
+    → (x ≡ tableChecked b table) × (toldCheck x ≡ checkTold b table)
+unfolding tableChecked checked toldCheck checkTold
+check-numbers b table {x} is = (is, ap toldCheck is ∙ by-width (isWidth b) (lengthFits table))
   where
     n : ℕ
     n = lowestFrom b table 1 (rows table - 1)
 
-    refusal : (w t : Bool) → checkRefusal (cond w (cond t (Lowest n) BadLength) NoWidth) ≡ cond w (cond t 0 1) 31
-    refusal true true = refl
-    refusal true false = refl
-    refusal false t = refl
-
-    row : (w t : Bool) → checkRow (cond w (cond t (Lowest n) BadLength) NoWidth) ≡ cond (w && t) n 0
-    row true true = refl
-    row true false = refl
-    row false t = refl
+    by-width : (w t : Bool) → toldCheck (cond w (cond t (Lowest n) BadLength) NoWidth) ≡ cond w (cond t (gives n) (refuses 1)) (refuses 31)
+    by-width true true = refl
+    by-width true false = refl
+    by-width false t = refl

@@ -6,6 +6,7 @@ use mathlib.Core.List.{List}
 use lib.Dec.{eqb, leb, ltb}
 use lib.ListN.{getD}
 use Rattle.word.specs.Word.{isWidth}
+use Rattle.word.specs.Told.{Told, gives, refuses}
 use Rattle.table.specs.declared.Row.{Row}
 use Rattle.table.specs.declared.TableCheck.{TableCheck}
 use Rattle.table.specs.declared.TableCheck.the-variants.{Lowest, BadLength, NoWidth}
@@ -105,13 +106,13 @@ checked b table = cond (lengthFits table) (Lowest (lowestFrom b table 1 (rows ta
 unfoldable pub tableChecked : ℕ → List ℕ → TableCheck
 tableChecked b table = cond (isWidth b) (checked b table) NoWidth
 
--- document 01's number of the check's refusal, 0 where it is none, and the row that it gives
-unfoldable pub checkRefusal : TableCheck → ℕ
-checkRefusal (Lowest r) = 0
-checkRefusal BadLength = 1
-checkRefusal NoWidth = 31
+-- its answer in numbers: the row, or the refusal
+unfoldable pub toldCheck : TableCheck → Told ℕ
+toldCheck (Lowest r) = gives r
+toldCheck BadLength = refuses 1
+toldCheck NoWidth = refuses 31
 
-unfoldable pub checkRow : TableCheck → ℕ
-checkRow (Lowest r) = r
-checkRow BadLength = 0
-checkRow NoWidth = 0
+-- what the check tells, in the order 31, 1, the row
+unfoldable pub checkTold : ℕ → List ℕ → Told ℕ
+checkTold b table =
+    cond (isWidth b) (cond (lengthFits table) (gives (lowestFrom b table 1 (rows table - 1))) (refuses 1)) (refuses 31)

@@ -7,7 +7,7 @@ ghost use Rattle.table.specs.Operands.{shape, namedShape};
 ghost use Rattle.table.specs.Table.{shapeOf, rowOrNone, namesRows, hasMode, hasTests};
 ghost use Rattle.table.specs.Table.{goesOn, restUnused, complete, isLine, isTest, isOperation};
 ghost use Rattle.table.specs.Table.{chained, shaped, wellFormedAs, wellFormed};
-ghost use Rattle.table.specs.Table.{usable, lowestFrom, tableChecked, checkRefusal, checkRow};
+ghost use Rattle.table.specs.Table.{usable, lowestFrom, tableChecked, toldCheck, checkTold};
 ghost use Rattle.table.specs.Row.{lengthFits, rows};
 use crate::Operand;
 use crate::Row;
@@ -278,12 +278,10 @@ pub fn lowest_ill_formed(b: u64, table: &[u64]) -> u64
     0
 }
 
-// The table check at a width: 31, then 1, then the row. In the papers' numbers: refusal and row.
+// The table check at a width: 31, then 1, then the row; the second promise gives the answer in the papers' numbers.
 pub fn check_table(b: u64, table: &[u64]) -> TableCheck
     ensures { λ x. ⌜ x ≡ tableChecked b (now (table .entry)) ⌝ }
-    ensures refusal { λ x. ⌜ checkRefusal x ≡ cond (isWidth b) (cond (lengthFits (now (table .entry))) 0 1) 31 ⌝ }
-    ensures row { λ x. ⌜ checkRow x ≡ cond (isWidth b && lengthFits (now (table .entry)))
-        (lowestFrom b (now (table .entry)) 1 (rows (now (table .entry)) - 1)) 0 ⌝ }
+    ensures numbered { λ x. ⌜ toldCheck x ≡ checkTold b (now (table .entry)) ⌝ }
 {
     if !word::is_width(b) {
         return TableCheck::NoWidth;

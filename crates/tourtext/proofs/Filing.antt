@@ -15,7 +15,8 @@ use Rattle.word.proofs.Tests.{by-test, by-eqb}
 use Rattle.octets.specs.Octets.{bytesOf}
 use Rattle.lines.specs.declared.Read.{Read}
 use Rattle.lines.specs.declared.Read.the-variants.{Rows, NoWidth, BadLine, BadLabel, TooLong}
-use Rattle.lines.specs.Program.{rowCount, refusalOf, program, Left, readAt, readCount, Numbered}
+use Rattle.word.specs.Told.{tells, gives, refuses}
+use Rattle.lines.specs.Program.{rowCount, Refusal, refusalOf, program, Left, readAt, toldRead, refusalTold, readTold}
 use Rattle.lines.proofs.Accepted.{accepted}
 use Rattle.typed.specs.Putting.{putAt}
 use Rattle.typed.proofs.Putting.{put-nothing, put-put, put-long}
@@ -85,12 +86,18 @@ filing-none table tab room =
       rest = ap (λ (n : ℕ). filed table ++ drop n tab) (zero-add (length (filed table)) ∙ filed-long table);
     }
 
-most : (b : ℕ) (text : List ℕ) → cond (isWidth b && eqb (refusalOf b 8000 text .number) 0) (rowCount (program b text)) 0 ≤ 800
-most b text =
-    by-test (λ x. cond (x && eqb (refusalOf b 8000 text .number) 0) (rowCount (program b text)) 0 ≤ 800) (isWidth b)
-    (λ _. by-eqb (λ x. cond x (rowCount (program b text)) 0 ≤ 800) (refusalOf b 8000 text .number) 0 (λ z. accepted b 8000 text z .short)
-    (λ _. omega arith))
-    (λ _. omega arith)
+-- a text that is told by its row count has few rows
+few : (b : ℕ) (text : List ℕ) (n : ℕ) → gives n ≡ readTold b text (replicate 8000 0) → n ≤ 800
+unfolding readTold refusalTold
+few b text n =
+    by-test (λ x. gives n ≡ cond x (refusalTold its (rowCount (program b text))) (refuses 31) → n ≤ 800) (isWidth b)
+    (λ _. by-eqb (λ x. gives n ≡ cond x (gives (rowCount (program b text))) (tells (its .number) (its .line ∷ [])) → n ≤ 800) (its .number) 0
+    (λ z e. let same : n ≡ rowCount (program b text) = cc in rw same (accepted b 8000 text z .short))
+    (λ some e. let none : its .number ≡ 0 = cc in absurd (some none)))
+    (λ _ e. let never : _≡_ {A = ℕ} 0 31 = cc in absurd (omega arith))
+  where
+    its : Refusal
+    its = refusalOf b 8000 text
 
 -- what the call answers tells the file and the line
 module _ (b : ℕ) (text : List ℕ) {answer : Read} {table : List ℕ} (e : record { answer = answer; table = table } ≡ readAt b text (replicate 8000 0)) where
@@ -112,9 +119,9 @@ module _ (b : ℕ) (text : List ℕ) {answer : Read} {table : List ℕ} (e : rec
     unfolding printedBy
     rows-printed = sym (ap printedBy is) ∙ printed-is
 
-    pub rows-few : Numbered b text (replicate 8000 0) answer → n ≤ 800
-    unfolding readCount
-    rows-few m = subst (λ (k : ℕ). k ≤ 800) (sym (ap readCount (sym is) ∙ m .count)) (most b text)
+    pub rows-few : toldRead answer ≡ readTold b text (replicate 8000 0) → n ≤ 800
+    unfolding toldRead
+    rows-few m = few b text n (sym (ap toldRead is) ∙ m)
 
   pub width-file : answer ≡ NoWidth → [] ≡ fileOf b text
   unfolding fileBy

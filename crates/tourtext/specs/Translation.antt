@@ -9,7 +9,7 @@ use Rattle.octets.specs.Octets.{bytesOf}
 use Rattle.lines.specs.declared.Read.{Read}
 use Rattle.lines.specs.declared.Read.the-variants.{Rows, NoWidth, BadLine, BadLabel, TooLong}
 use Rattle.lines.specs.Words.{spelled}
-use Rattle.lines.specs.Program.{Left, readAt, readNumber, readFault}
+use Rattle.lines.specs.Program.{Left, readAt}
 use Rattle.tour.specs.Tour.{newline, blank, decimal}
 
 -- numbers of eight bytes, low first

@@ -14,7 +14,8 @@ use Rattle.lines.specs.declared.Read.{Read}
 use Rattle.lines.specs.declared.Read.the-variants.{Rows, NoWidth, BadLine, BadLabel, TooLong}
 use Rattle.lines.specs.Grammar.{Line, Typed}
 use Rattle.lines.specs.Reading.{readLine, cut, readLines}
-use Rattle.lines.specs.Program.{tableOf, rowCount, keptLines, badLabels, tooLong, faultOf, Refusal, noRefusal, lowestFault, refusalOf, program, Left, refused, reading, readAt, readNumber, readCount, readFault, Numbered}
+use Rattle.word.specs.Told.{tells, gives}
+use Rattle.lines.specs.Program.{tableOf, rowCount, keptLines, badLabels, tooLong, faultOf, Refusal, noRefusal, lowestFault, refusalOf, program, Left, refused, reading, readAt, toldRead, refusalTold, readTold}
 use Rattle.lines.proofs.Accepted.{Accepted, accepted}
 use Rattle.faults.specs.Places.{linesIn}
 use Rattle.faults.specs.Names.{Known}
@@ -81,40 +82,24 @@ one-of b lent every before (some t) P none line label long =
     by-test (λ x. P (cond x 24 (cond (tooLong lent (rowCount (before ++ t .line ∷ []))) 25 0))) (badLabels b every before (t .line)) (λ _. label)
     (λ _. by-test (λ x. P (cond x 25 0)) (tooLong lent (rowCount (before ++ t .line ∷ []))) (λ _. long) (λ _. none))
 
-record Fair (r : Refusal) : Type 0 where
-  no-line : r .number ≡ 0 → r .line ≡ 0
-  named : (r .number ≡ 0 → ⊥) → readNumber (refused r) ≡ r .number
+-- a refusal by one of the numbers is told with its line
+Fair : Refusal → Type 0
+Fair r = (r .number ≡ 0 → ⊥) → toldRead (refused r) ≡ tells (r .number) (r .line ∷ [])
 
-fair-fault : (b lent : ℕ) (every before : List Line) (o : Option Typed) (line : ℕ) → (faultOf b lent every before o ≡ 0 → ⊥)
-    → readNumber (refused (record { number = faultOf b lent every before o; line = line })) ≡ faultOf b lent every before o
-unfolding refused readNumber
+fair-fault : (b lent : ℕ) (every before : List Line) (o : Option Typed) (line : ℕ) → Fair (record { number = faultOf b lent every before o; line = line })
+unfolding Fair refused toldRead
 fair-fault b lent every before o line =
-    one-of b lent every before o (λ n. (n ≡ 0 → ⊥) → readNumber (refused (record { number = n; line = line })) ≡ n) (λ h. absurd (h refl)) (λ _. refl)
-    (λ _. refl) (λ _. refl)
+    one-of b lent every before o (λ n. (n ≡ 0 → ⊥) → toldRead (refused (record { number = n; line = line })) ≡ tells n (line ∷ [])) (λ h. absurd (h refl))
+    (λ _. refl) (λ _. refl) (λ _. refl)
 
 fair : (b lent : ℕ) (every before : List Line) (line : ℕ) (ts : List (Option Typed)) → Fair (lowestFault b lent every before line ts)
-unfolding lowestFault
-fair b lent every before line [] = record { no-line = λ _. refl; named = λ h. absurd (h refl) }
+unfolding Fair lowestFault
+fair b lent every before line [] = λ h. absurd (h refl)
 fair b lent every before line (t ∷ ts) =
     let later = fair b lent every (before ++ keptLines (t ∷ [])) (suc line) ts in
     by-eqb (λ x. Fair (cond x (lowestFault b lent every (before ++ keptLines (t ∷ [])) (suc line) ts)
     (record { number = faultOf b lent every before t; line = line })))
-    (faultOf b lent every before t) 0 (λ _. later) (λ some. record { no-line = λ z. absurd (some z); named = fair-fault b lent every before t line })
-
--- each refusal has its line, and no row count
-fault-line : (r : Refusal) → readFault (refused r) ≡ r .line
-unfolding refused readFault
-fault-line r =
-    by-test (λ x. readFault (cond x (BadLine (r .line)) (cond (eqb (r .number) 24) (BadLabel (r .line)) (TooLong (r .line)))) ≡ r .line) (eqb (r .number) 23)
-    (λ _. refl)
-    (λ _. by-test (λ x. readFault (cond x (BadLabel (r .line)) (TooLong (r .line))) ≡ r .line) (eqb (r .number) 24) (λ _. refl) (λ _. refl))
-
-no-count : (r : Refusal) → readCount (refused r) ≡ 0
-unfolding refused readCount
-no-count r =
-    by-test (λ x. readCount (cond x (BadLine (r .line)) (cond (eqb (r .number) 24) (BadLabel (r .line)) (TooLong (r .line)))) ≡ 0) (eqb (r .number) 23)
-    (λ _. refl)
-    (λ _. by-test (λ x. readCount (cond x (BadLabel (r .line)) (TooLong (r .line))) ≡ 0) (eqb (r .number) 24) (λ _. refl) (λ _. refl))
+    (faultOf b lent every before t) 0 (λ _. later) (λ _. fair-fault b lent every before t line)
 
 fair-text : (b lent : ℕ) (text : List ℕ) → Fair (refusalOf b lent text)
 unfolding refusalOf
@@ -131,38 +116,24 @@ answer-is b text table =
     (refused (refusalOf b (length table) text)))
     (eqb (refusalOf b (length table) text .number) 0) (λ _. refl) (λ _. refl)
 
-module _ (r : Refusal) (f : Fair r) (n : ℕ) where
-  numbered : readNumber (cond (eqb (r .number) 0) (Rows n) (refused r)) ≡ r .number
-  unfolding readNumber
-  numbered = by-eqb (λ x. readNumber (cond x (Rows n) (refused r)) ≡ r .number) (r .number) 0 (λ z. sym z) (f .named)
-
-  counted : readCount (cond (eqb (r .number) 0) (Rows n) (refused r)) ≡ cond (eqb (r .number) 0) n 0
-  unfolding readCount
-  counted = by-test (λ x. readCount (cond x (Rows n) (refused r)) ≡ cond x n 0) (eqb (r .number) 0) (λ _. refl) (λ _. no-count r)
-
-  placed : readFault (cond (eqb (r .number) 0) (Rows n) (refused r)) ≡ r .line
-  unfolding readFault
-  placed = by-eqb (λ x. readFault (cond x (Rows n) (refused r)) ≡ r .line) (r .number) 0 (λ z. sym (f .no-line z)) (λ _. fault-line r)
+told-by : (r : Refusal) → Fair r → (n : ℕ) → toldRead (cond (eqb (r .number) 0) (Rows n) (refused r)) ≡ refusalTold r n
+unfolding Fair toldRead refusalTold
+told-by r f n =
+    by-eqb (λ x. toldRead (cond x (Rows n) (refused r)) ≡ cond x (gives n) (tells (r .number) (r .line ∷ []))) (r .number) 0 (λ _. refl) f
 
 module _ (b : ℕ) (text table : List ℕ) where
   -- a width that is none
-  pub no-width-reading : isWidth b ≡ false → (record { answer = NoWidth; table = table } ≡ readAt b text table) × Numbered b text table NoWidth
-  unfolding readAt readNumber readCount readFault
-  no-width-reading w = (rw w, record { number = rw w; count = rw w; fault = rw w })
+  pub no-width-reading : isWidth b ≡ false
+      → (record { answer = NoWidth; table = table } ≡ readAt b text table) × (toldRead NoWidth ≡ readTold b text table)
+  unfolding readAt toldRead readTold
+  no-width-reading w = (rw w, rw w)
 
   -- otherwise a reading and its numbers
   pub numbers : isWidth b ≡ true → {answer : Read} {after : List ℕ} → record { answer = answer; table = after } ≡ reading b text table
-      → (record { answer = answer; table = after } ≡ readAt b text table) × Numbered b text table answer
-  unfolding readAt
+      → (record { answer = answer; table = after } ≡ readAt b text table) × (toldRead answer ≡ readTold b text table)
+  unfolding readAt readTold
   numbers w {answer} e =
       let its = refusalOf b (length table) text in
-      let fair-its = fair-text b (length table) text in
       let is : answer ≡ cond (eqb (its .number) 0) (Rows (rowCount (program b text))) (refused its)
-      = ap (λ (l : Left). l .answer) e ∙ answer-is b text table in (
-        rw w e,
-        record {
-          number = rw w (ap readNumber is ∙ numbered its fair-its (rowCount (program b text)));
-          count = rw w (ap readCount is ∙ counted its fair-its (rowCount (program b text)));
-          fault = rw w (ap readFault is ∙ placed its fair-its (rowCount (program b text)));
-        },
-      )
+      = ap (λ (l : Left). l .answer) e ∙ answer-is b text table in
+      (rw w e, rw w (ap toldRead is ∙ told-by its (fair-text b (length table) text) (rowCount (program b text))))

@@ -2,7 +2,7 @@
 ghost use mathlib.Core.Path.{_≡_};
 ghost use Prim.Native.Nat.{_≤_};
 ghost use lib.ListN.{length};
-ghost use Rattle.lines.specs.Program.{reading, refused, readAt, Numbered};
+ghost use Rattle.lines.specs.Program.{reading, refused, readAt, toldRead, readTold};
 ghost use Rattle.faults.specs.Names.{Known};
 
 pub mod pairs;
@@ -77,7 +77,7 @@ pub fn read_at(b: u64, text: &[u8], table: &mut [u64]) -> Read
 // Reads a text into the lent table, for words of b bits: 31, 23, 24, 25.
 pub fn read(b: u64, text: &[u8], table: &mut [u64]) -> Read
     ensures { λ r. ⌜ record { answer = r; table = now (table .exit) } ≡ readAt b (now (text .entry)) (now (table .entry)) ⌝ }
-    ensures numbered { λ r. ⌜ Numbered b (now (text .entry)) (now (table .entry)) r ⌝ }
+    ensures numbered { λ r. ⌜ toldRead r ≡ readTold b (now (text .entry)) (now (table .entry)) ⌝ }
 {
     if !is_width(b) {
         return Read::NoWidth;

@@ -7,15 +7,15 @@ use native.Mathlib.Omega.{arith}
 use lib.ListN.{take, drop, getD}
 use borrow.Author.Needs.{needs}
 use Rattle.character.specs.Character.{number, packed, allBelow}
-use Rattle.character.specs.Converted.{packing}
-use Rattle.character.specs.declared.Packed.the-variants.{Value, TooLarge}
+use Rattle.word.specs.Told.{gives, refuses}
+use Rattle.character.specs.Converted.{toldPacked, packing}
 use Rattle.character.proofs.Digits.{Growing, growing, grown, grown-fits, answer, answer-next, answer-stop, taken-first, taken-last}
 use Rattle.character.proofs.pack_input.Statement.{statement}
 use Rattle.character.proofs.pack_input.Tie as tie
 
 abbrev Inv-loop : tie.InvT-loop
 Inv-loop input at count left₀ made₀ left made =
-    Growing count left made × (answer Value TooLarge 64 made (drop (count - left) (take count (drop at input))) ≡ packing (take count (drop at input)))
+    Growing count left made × (answer gives (refuses 4) 64 made (drop (count - left) (take count (drop at input))) ≡ packing (take count (drop at input)))
 
 abbrev μ-loop : tie.MeasureT-loop
 μ-loop input at count left₀ made₀ left made = left
@@ -48,13 +48,14 @@ cast-next : tie.Need-cast-next Inv-loop μ-loop
 cast-next c = record { fits = byte-fits _ (c .shared-slice-known .given _ .fits) }
 
 returns : tie.Need-returns Inv-loop μ-loop
+unfolding toldPacked
 returns c =
     let t = c .before .before in
     let l = t .before .loop in
     let s = t .before .before in
     let a = s .args in
     let e = taken-first (a .input .now) (a .at) (a .count) (l .left) (s .pre .1) (t .loop-test .taken) (l .inv .0 .most) in
-    cc (answer-stop Value TooLarge 64 (l .made) (next (c .before)) (drop (a .count - (l .left - 1)) (take (a .count) (drop (a .at) (a .input .now)))) (c .if1 .taken))
+    cc (answer-stop gives (refuses 4) 64 (l .made) (next (c .before)) (drop (a .count - (l .left - 1)) (take (a .count) (drop (a .at) (a .input .now)))) (c .if1 .taken))
 
 -- the value still fits after a turn
 room : (c : tie.Else1 Inv-loop μ-loop) → c .before .before .before .loop .made * 64 + next (c .before) < 2 ^ 64
@@ -82,11 +83,11 @@ loop-again c =
     let a = s .args in
     let e = taken-first (a .input .now) (a .at) (a .count) (l .left) (s .pre .1) (t .loop-test .taken) (l .inv .0 .most) in (
       grown (l .inv .0) (t .loop-test .taken) 64 (next (c .before)) (omega arith) (c .if1 .left),
-      cc (answer-next Value TooLarge 64 (l .made) (next (c .before)) (drop (a .count - (l .left - 1)) (take (a .count) (drop (a .at) (a .input .now)))) (c .if1 .left)),
+      cc (answer-next gives (refuses 4) 64 (l .made) (next (c .before)) (drop (a .count - (l .left - 1)) (take (a .count) (drop (a .at) (a .input .now)))) (c .if1 .left)),
     )
 
 returns-2 : tie.Need-returns-2 Inv-loop μ-loop
-unfolding answer number allBelow
+unfolding answer number allBelow toldPacked
 returns-2 c =
     let l = c .before .loop in
     let s = c .before .before in

@@ -6,7 +6,7 @@ use Prim.Native.Nat.{_+_, _*_, _^_, _<_}
 use native.Mathlib.Omega.{arith}
 use borrow.Author.Needs.{needs}
 use Rattle.character.specs.Character.{digits, number, characters, allBelow, toBinary}
-use Rattle.character.specs.Converted.{converted}
+use Rattle.character.specs.Converted.{toldConverted, converting}
 use Rattle.character.proofs.Digits.{Growing, growing, grown, grown-fits, answer, answer-turn, answer-ends}
 use Rattle.character.proofs.to_binary.Statement.{statement}
 use Rattle.character.proofs.to_binary.Tie as tie
@@ -28,7 +28,7 @@ digit-requires : tie.Need-digit-requires Inv-loop μ-loop
 digit-requires c κs = search needs
 
 returns : tie.Need-returns Inv-loop μ-loop
-unfolding converted
+unfolding toldConverted converting
 returns c =
     let loop = c .before .before .before in
     let a = loop .before .args in
@@ -64,7 +64,7 @@ loop-again c =
     )
 
 returns-2 : tie.Need-returns-2 Inv-loop μ-loop
-unfolding answer digits number allBelow converted
+unfolding answer digits number allBelow toldConverted converting
 returns-2 c =
     let none-left : c .before .loop .left ≡ 0 = omega arith in
     rw (← (rw none-left at (c .before .loop .inv .1)))

@@ -1,8 +1,9 @@
 -- `engine::step` meets its contract: it is a walk of one. Assumes nothing.
 use native.Mathlib.Omega.{arith}
-use mathlib.Core.Path.{ap}
-use Rattle.machine.specs.Answer.{answerNumber}
+use mathlib.Core.Path.{ap, _∙_}
+use Rattle.machine.specs.Answer.{toldAnswer}
 use Rattle.machine.specs.Step.{Outcome}
+use Rattle.machine.proofs.Numbers.{step-told}
 use Rattle.engine.proofs.First.{steps-once}
 use borrow.Author.Needs.{needs}
 use Rattle.engine.proofs.step.Statement.{statement}
@@ -20,7 +21,7 @@ same-length-2 c = search needs
 returns : tie.Need-returns
 returns c =
     let is = steps-once _ _ _ _ (c .before .before .before .before .before .before .walk-from .ensures) in
-    (is, ap (λ (o : Outcome). answerNumber (o .stepped .answer)) is)
+    (is, ap (λ (o : Outcome). toldAnswer (o .stepped .answer)) is ∙ step-told _ _)
 
 pub step-spec : {M : Type 1} → statement M
 step-spec =

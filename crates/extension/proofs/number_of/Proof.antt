@@ -1,5 +1,6 @@
 -- `extension::number_of` gives each answer its number. Assumes nothing.
-use Rattle.machine.specs.Extend.{extensionNumber}
+use Rattle.word.specs.Told.{number}
+use Rattle.machine.specs.Extend.{toldExtension}
 use borrow.Author.Needs.{needs}
 use Rattle.extension.proofs.number_of.Statement.{statement}
 use Rattle.extension.proofs.number_of.Tie as tie
@@ -20,23 +21,23 @@ enum-told-5 : tie.Need-enum-told-5
 enum-told-5 c = search needs
 
 returns : tie.Need-returns
-unfolding extensionNumber
+unfolding toldExtension number
 returns c = rw (c .enum-told .given .1)
 
 returns-2 : tie.Need-returns-2
-unfolding extensionNumber
+unfolding toldExtension number
 returns-2 c = rw (c .enum-told2 .given .1)
 
 returns-3 : tie.Need-returns-3
-unfolding extensionNumber
+unfolding toldExtension number
 returns-3 c = rw (c .enum-told3 .given .1)
 
 returns-4 : tie.Need-returns-4
-unfolding extensionNumber
+unfolding toldExtension number
 returns-4 c = rw (c .enum-told4 .given .1)
 
 returns-5 : tie.Need-returns-5
-unfolding extensionNumber
+unfolding toldExtension number
 returns-5 c = rw (c .enum-told5 .given .1)
 
 pub number-of-spec : {M : Type 1} → statement M

@@ -6,6 +6,7 @@ use Rattle.hours.specs.declared.Entry.{Entry}
 use Rattle.hours.specs.Hours.{naming, firstHolding}
 use Rattle.hours.proofs.Walk.{Walk, walk-start, walk-done, walk-inside, walk-next, walk-found}
 use Rattle.hours.proofs.Tests.{search-from}
+use Rattle.hours.proofs.Answering.{searched-told}
 use borrow.Author.Needs.{needs}
 use Rattle.hours.proofs.first_holding.Statement.{statement}
 use Rattle.hours.proofs.first_holding.Tie as tie
@@ -29,7 +30,7 @@ answers-requires : tie.Need-answers-requires Inv-loop μ-loop
 answers-requires c κs = search needs
 
 returns : tie.Need-returns Inv-loop μ-loop
-returns c = walk-found (c .before .before .before .before .loop .inv) (c .before .before .before .loop-test .taken) _ (c .before .before .entry-at .ensures) _ (search-from _ _ _ _ (sym (c .before .answers .ensures) ∙ c .if1 .taken))
+returns c = searched-told _ _ (walk-found (c .before .before .before .before .loop .inv) (c .before .before .before .loop-test .taken) _ (c .before .before .entry-at .ensures) _ (search-from _ _ _ _ (sym (c .before .answers .ensures) ∙ c .if1 .taken)))
 
 add-at : tie.Need-add-at Inv-loop μ-loop
 add-at c = record { fits = omega (arith, walk-inside (c .before .before .before .before .loop .inv) (c .before .before .before .loop-test .taken)) }
@@ -45,7 +46,7 @@ loop-again c = walk-next (c .before .before .before .before .loop .inv) (c .befo
 
 returns-2 : tie.Need-returns-2 Inv-loop μ-loop
 unfolding naming firstHolding
-returns-2 c = walk-done (c .before .loop .inv) (omega arith)
+returns-2 c = searched-told _ _ (walk-done (c .before .loop .inv) (omega arith))
 
 pub first-holding-spec : {M : Type 1} → statement M
 first-holding-spec =

@@ -40,7 +40,7 @@ returns-4 c =
     let second = c .before .before .before .before in
     let first = second .before .before in
     by-exceptions _ _ _ _ (sym (first .before .list-keeps .ensures) ∙ not-false _ (first .if1 .left)) (sym (second .before .list-keeps2 .ensures) ∙ not-false _ (second .if2 .left))
-    (c .before .before .before .if3 .left) (sym (c .before .before .any-names .ensures) ∙ c .before .if4 .taken) _ (c .first-holding .ensures)
+    (c .before .before .before .if3 .left) (sym (c .before .before .any-names .ensures) ∙ c .before .if4 .taken) _ (c .first-holding .ensures .0)
 
 weekday-of-requires : tie.Need-weekday-of-requires
 weekday-of-requires c κs = search needs
@@ -56,7 +56,7 @@ returns-5 c =
     let args = first .before .before .before .before .args in
     by-windows _ _ _ _ (sym (first .before .list-keeps .ensures) ∙ not-false _ (first .if1 .left)) (sym (second .before .list-keeps2 .ensures) ∙ not-false _ (second .if2 .left))
     (at-names .before .if3 .left) (sym (at-names .any-names .ensures) ∙ c .before .before .if4 .left) _
-    (c .first-holding2 .ensures
+    (c .first-holding2 .ensures .0
     ∙ ap (λ (k : ℕ). firstHolding (args .minute) (naming k (entries window (args .windows .now)))) (c .before .weekday-of .ensures))
 
 pub open-at-spec : {M : Type 1} → statement M

@@ -11,12 +11,22 @@ returns c =
     let entry = c .before .before .before .before .before .before .before in
     (step-short _ (entry .args .storage .now) (entry .args .state .now) (entry .args .report .now) (c .if1 .taken), λ h k. absurd (c .if1 .taken h))
 
+unreported-requires : tie.Need-unreported-requires
+unreported-requires c κs = search needs
+
+same-length : tie.Need-same-length
+same-length c = search needs
+
 returns-2 : tie.Need-returns-2
 unfolding noStep
 returns-2 c =
-    let at-if1 = c .before in
-    let entry = at-if1 .before .before .before .before .before .before .before in
-    (step-unreported _ (entry .args .storage .now) (entry .args .state .now) (entry .args .report .now) (at-if1 .if1 .left) (c .if2 .taken), λ h k. absurd (c .if2 .taken k))
+    let at-if2 = c .before .before in
+    let at-if1 = at-if2 .before in
+    let entry = at-if1 .before .before .before .before .before .before .before in (
+      step-unreported _ (entry .args .storage .now) (entry .args .state .now) (entry .args .report .now) (at-if1 .if1 .left) (at-if2 .if2 .taken)
+          (c .unreported .ensures),
+      λ h k. absurd (at-if2 .if2 .taken k),
+    )
 
 read-state-requires : tie.Need-read-state-requires
 read-state-requires c κs = search needs
@@ -33,9 +43,6 @@ keep-state-requires c κs = search needs
 code-of-requires : tie.Need-code-of-requires
 code-of-requires c κs = search needs
 
-same-length : tie.Need-same-length
-same-length c = search needs
-
 same-length-2 : tie.Need-same-length-2
 same-length-2 c = search needs
 
@@ -44,6 +51,9 @@ same-length-3 c = search needs
 
 same-length-4 : tie.Need-same-length-4
 same-length-4 c = search needs
+
+same-length-5 : tie.Need-same-length-5
+same-length-5 c = search needs
 
 returns-3 : tie.Need-returns-3
 returns-3 c =
@@ -65,14 +75,16 @@ l6-step-spec =
     tie.close
     (tie.spec
     returns
+    unreported-requires
+    same-length
     returns-2
     read-state-requires
     step-requires
     put-report-requires
     keep-state-requires
     code-of-requires
-    same-length
     same-length-2
     same-length-3
     same-length-4
+    same-length-5
     returns-3)

@@ -4,6 +4,7 @@ use mathlib.Core.List.{List, [], _∷_, List·Memᴰ, List·Memᴰ·head}
 use Prim.Native.Nat.{ℕ}
 use native.Mathlib.Omega.{arith}
 use Rattle.buddy.specs.Lowest.{firstOf}
+use Rattle.buddy.proofs.Answers.{told-first}
 use Rattle.block.proofs.Runs.{runs-sound}
 use Rattle.block.proofs.Size.{size-pos, level-le, top-le}
 use borrow.Author.Needs.{needs}
@@ -48,7 +49,7 @@ returns-2 c = search needs
 
 deliver-requires : tie.Need-deliver-requires
 unfolding firstOf
-deliver-requires c κs = let found = sym (c .before .before .before .before .lowest-run .ensures) ∙ c .before .before .found .given .1 in
+deliver-requires c κs = let found = sym (told-first _ (c .before .before .before .before .lowest-run .ensures)) ∙ c .before .before .found .given .1 in
     let run = runs-sound _ _ _ (size-pos _) (first-mem _ _ found) in (
       search needs,
       search needs,

@@ -5,7 +5,7 @@ use mathlib.Core.Bool.{true, _||_}
 use mathlib.Core.Logic.{inl}
 use borrow.Author.Tests.{not-false}
 use Rattle.operands.proofs.Readable.{numbers, locate-reached}
-use Rattle.operands.proofs.Operands.{at-is}
+use Rattle.operands.proofs.Answers.{at-is}
 use Rattle.allocations.proofs.Readable.{tested-readable}
 use borrow.Author.Needs.{needs}
 use Rattle.allocations.proofs.references.followed.Statement.{statement}

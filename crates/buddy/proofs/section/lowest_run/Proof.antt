@@ -10,6 +10,7 @@ use Rattle.block.specs.Map.{live, freeTag}
 use Rattle.block.proofs.Size.{size-pos, size-small, top-le, words-le}
 use Rattle.block.proofs.Map.{keeps-words}
 use Rattle.buddy.specs.Lowest.{firstOf, Passed}
+use Rattle.buddy.proofs.Answers.{first-told}
 use Rattle.buddy.proofs.Scan.{Scanned, meets-free, meets-live, passed-scanned, passed-on, scan-starts, scan-ends}
 use borrow.Author.Needs.{needs}
 use Rattle.buddy.proofs.section.lowest_run.Statement.{statement}
@@ -81,7 +82,7 @@ add-t13 : tie.Need-add-t13 Inv-loop μ-loop
 add-t13 c = record { fits = omega (arith, c .before .before .before .before .loop .inv .0 .0, words-le (c .before .before .before .before .before .before .before .before .before .before .args .setup)) }
 
 returns : tie.Need-returns Inv-loop μ-loop
-returns c = meets-free (c .before .before .before .before .before .before .before .before .before .before .args .setup .s1) (words (c .before .before .before .before .before .before .before .before .before .before .args .setup)) (c .before .before .before .before .loop .i) (c .before .before .before .before .before .before .before .before .before .before .args .map .now) (c .before .before .before .before .loop .inv .0) (omega (arith, c .before .before .before .before .before .before .words-of .ensures)) (large (c .before .before .before)) (λ e. omega (arith, c .before .if1 .taken))
+returns c = first-told _ (meets-free (c .before .before .before .before .before .before .before .before .before .before .args .setup .s1) (words (c .before .before .before .before .before .before .before .before .before .before .args .setup)) (c .before .before .before .before .loop .i) (c .before .before .before .before .before .before .before .before .before .before .args .map .now) (c .before .before .before .before .loop .inv .0) (omega (arith, c .before .before .before .before .before .before .words-of .ensures)) (large (c .before .before .before)) (λ e. omega (arith, c .before .if1 .taken)))
 
 sub-size-of : tie.Need-sub-size-of Inv-loop μ-loop
 unfolding freeTag
@@ -103,7 +104,7 @@ loop-again : tie.Need-loop-again Inv-loop μ-loop
 loop-again c = (scans (c .before .before .before .before .before .before .before) (past-live (c .before .before) .1 (c .before .size-of2 .result) (c .before .size-of2 .ensures)) (c .skip2 .ensures .0), c .skip2 .ensures .1)
 
 returns-2 : tie.Need-returns-2 Inv-loop μ-loop
-returns-2 c = scan-ends (c .before .before .before .before .before .before .before .args .setup .s1) (words (c .before .before .before .before .before .before .before .args .setup)) (c .before .loop .i) (c .before .before .before .before .before .before .before .args .map .now) (c .before .loop .inv .0) (omega (arith, c .before .before .before .words-of .ensures))
+returns-2 c = first-told _ (scan-ends (c .before .before .before .before .before .before .before .args .setup .s1) (words (c .before .before .before .before .before .before .before .args .setup)) (c .before .loop .i) (c .before .before .before .before .before .before .before .args .map .now) (c .before .loop .inv .0) (omega (arith, c .before .before .before .words-of .ensures)))
 
 pub lowest-run-spec : {M : Type 1} → statement M
 lowest-run-spec =

@@ -7,7 +7,8 @@ use mathlib.Core.Path.{_≡_, refl, _∙_}
 use lib.ListN.{length}
 use Rattle.commit.specs.Then.{engineWith}
 use Rattle.engine.specs.Walking.{walkFrom}
-use Rattle.engine.proofs.Turns.{lends, Going}
+use Rattle.machine.specs.Sound.{lends}
+use Rattle.engine.proofs.Turns.{Going}
 use Rattle.engine.proofs.Now.{kept-turn, started, starts, ready-now, refused-now, feasible-now, countable-now, counted-now, reportable-now, ended-now, next-now}
 use borrow.Author.Needs.{needs}
 use Rattle.engine.proofs.walks.walk.Statement.{statement}

@@ -10,9 +10,10 @@ use Rattle.table.specs.declared.Pair.{Pair}
 use Rattle.table.specs.Reference.{Reference, isReference, namesOf, referenceOf}
 use Rattle.table.proofs.Digits.{found-first, found-last}
 use Rattle.machine.specs.declared.Location.the-variants.{Bug}
+use Rattle.machine.specs.Answer.{told}
 use Rattle.machine.specs.Locate.{World, follow, locate}
 use Rattle.operands.specs.declared.Linked.the-variants.{At}
-use Rattle.operands.specs.Reading.{linked}
+use Rattle.operands.specs.Reading.{toldLinked}
 use Rattle.operands.specs.Through.{through, Ahead}
 use Rattle.operands.proofs.references.locate.Statement.{statement}
 use Rattle.operands.proofs.references.locate.Tie as tie
@@ -28,9 +29,9 @@ alone v h one = let l = found-last (found-first v unused h refl) one in (l .low,
 
 -- and leads to it
 at-bug : (b : ℕ) (w : World) (p : Pair) → isReference (p .value) ≡ true → p .value < 64
-    → At (Bug (record { 0 = p .value - 11 })) ≡ linked (locate b w p)
-unfolding linked follow locate
-at-bug b w p h one = ap (λ (r : Reference). linked (follow b w (Bug (r .bug)) (r .fields))) (alone (p .value) h one .2)
+    → toldLinked (At (Bug (record { 0 = p .value - 11 }))) ≡ told (locate b w p)
+unfolding toldLinked told follow locate
+at-bug b w p h one = ap (λ (r : Reference). told (follow b w (Bug (r .bug)) (r .fields))) (alone (p .value) h one .2)
 
 sub-t9 : tie.Need-sub-t9
 sub-t9 c = alone _ (c .before .before .before .before .before .pre .1) (c .before .if1 .taken) .0

@@ -3,7 +3,8 @@
 use Prim.Native.Nat.{_-_}
 use native.Mathlib.Omega.{arith}
 use mathlib.Core.Path.{refl, ap, _∙_}
-use Rattle.operands.specs.Reading.{seen, linked}
+use Rattle.machine.specs.Answer.{told}
+use Rattle.operands.specs.Reading.{seen}
 use Rattle.operands.specs.Through.{through}
 use Rattle.operands.proofs.Follows.{Followed, bug-reached, followed-next, followed-stopped, followed-all, bug-named, field-named, from-bug}
 use Rattle.operands.proofs.Through.{through-readable, through-reached}
@@ -45,7 +46,7 @@ returns c =
     let at-names-in = turn .before .before .before in
     let start = at-names-in .before .before .before in
     followed-stopped _ _ _ _ _ _ _ _ (turn .loop .inv) (omega (arith, at-names-in .names-in .ensures .1)) (c .before .before .link-from .ensures) _ (c .enum-told .given .1)
-    ∙ ap linked (from-bug (at-names-in .names-in .result) _ (start .pre .2) (at-names-in .names-in .ensures .0) _ _ _ refl)
+    ∙ ap told (from-bug (at-names-in .names-in .result) _ (start .pre .2) (at-names-in .names-in .ensures .0) _ _ _ refl)
 
 add-i : tie.Need-add-i Inv-loop μ-loop
 add-i c = omega arith
@@ -65,7 +66,7 @@ loop-again c =
 returns-2 : tie.Need-returns-2 Inv-loop μ-loop
 returns-2 c =
     followed-all _ _ _ _ _ _ _ (c .before .loop .inv) (omega (arith, c .before .before .before .before .names-in .ensures .1))
-    ∙ ap linked (from-bug (c .before .before .before .before .names-in .result) _ (c .before .before .before .before .before .before .before .pre .2) (c .before .before .before .before .names-in .ensures .0) _ _ _ refl)
+    ∙ ap told (from-bug (c .before .before .before .before .names-in .result) _ (c .before .before .before .before .before .before .before .pre .2) (c .before .before .before .before .names-in .ensures .0) _ _ _ refl)
 
 pub locate-through-spec : {M : Type 1} → statement M
 locate-through-spec =

@@ -1,7 +1,8 @@
 -- `operands::references::operand` meets its contract: a literal, or what stands where the reference leads. Assumes nothing.
 use mathlib.Core.Path.{_∙_}
 use Rattle.operands.proofs.Readable.{locate-reached}
-use Rattle.operands.proofs.Operands.{at-is, stopped-is, reached-narrow, literal, found, not-found}
+use Rattle.operands.proofs.Answers.{at-is, stopped-is}
+use Rattle.operands.proofs.Operands.{reached-narrow, literal, found, not-found}
 use borrow.Author.Needs.{needs}
 use Rattle.operands.proofs.references.operand.Statement.{statement}
 use Rattle.operands.proofs.references.operand.Tie as tie

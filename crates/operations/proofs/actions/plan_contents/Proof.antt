@@ -3,7 +3,7 @@ use native.Mathlib.Omega.{arith}
 use mathlib.Core.Path.{_∙_}
 use Rattle.machine.proofs.Checks.{bind-no}
 use Rattle.operands.proofs.Readable.{locate-reached}
-use Rattle.operands.proofs.Operands.{at-is, stopped-is}
+use Rattle.operands.proofs.Answers.{at-is, stopped-is}
 use Rattle.operations.specs.Plans.{contentsPlan}
 use Rattle.operations.proofs.Answers.{does, stops}
 use Rattle.operations.proofs.Stacks.{save-full, save-done, restore-empty, restore-done}

@@ -1,7 +1,7 @@
 -- `operations::actions::plan_define` meets its contract: its operands as written. Assumes nothing.
 use mathlib.Core.Path.{_∙_}
 use Rattle.machine.proofs.Checks.{bind-yes, bind-no}
-use Rattle.operands.proofs.Operands.{value-is, no-value-is}
+use Rattle.operands.proofs.Answers.{value-is, no-value-is}
 use Rattle.operations.specs.Plans.{definePlan}
 use Rattle.operations.proofs.Answers.{stops, follows}
 use borrow.Author.Needs.{needs}

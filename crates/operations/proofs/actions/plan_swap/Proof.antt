@@ -2,7 +2,7 @@
 use mathlib.Core.Path.{_∙_}
 use Rattle.machine.proofs.Checks.{bind-yes, bind-no}
 use Rattle.operands.proofs.Readable.{locate-reached}
-use Rattle.operands.proofs.Operands.{at-is, stopped-is}
+use Rattle.operands.proofs.Answers.{at-is, stopped-is}
 use Rattle.operations.specs.Plans.{swapPlan}
 use Rattle.operations.proofs.Answers.{does, stops}
 use Rattle.operations.proofs.Doing.{swaps}

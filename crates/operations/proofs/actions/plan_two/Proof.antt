@@ -2,7 +2,8 @@
 use mathlib.Core.Path.{_∙_}
 use Rattle.machine.proofs.Checks.{bind-yes, bind-no}
 use Rattle.operands.proofs.Readable.{locate-reached}
-use Rattle.operands.proofs.Operands.{at-is, stopped-is, value-is, no-value-is, operand-small}
+use Rattle.operands.proofs.Answers.{at-is, stopped-is, value-is, no-value-is}
+use Rattle.operands.proofs.Operands.{operand-small}
 use Rattle.operations.specs.Plans.{twoPlan}
 use Rattle.operations.proofs.Answers.{stops, follows}
 use borrow.Author.Needs.{needs}

@@ -4,7 +4,7 @@ use mathlib.Core.Path.{_∙_, sym}
 use borrow.Author.Tests.{not-true, not-false}
 use Rattle.machine.specs.Test.{testing}
 use Rattle.machine.proofs.Checks.{need-no}
-use Rattle.operands.proofs.Operands.{value-is, no-value-is}
+use Rattle.operands.proofs.Answers.{value-is, no-value-is}
 use Rattle.plans.proofs.Answers.{tests-to, test-stops}
 use Rattle.plans.proofs.Rows.{used, test-row-is}
 use Rattle.plans.proofs.Testing.{test-first, test-second, test-made}

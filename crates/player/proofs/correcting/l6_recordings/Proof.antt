@@ -1,5 +1,6 @@
 -- `player::correcting::l6_recordings` meets its contract: by the answer. Assumes nothing.
-use Rattle.recordings.specs.Recordings.{writtenNumber}
+use Rattle.word.specs.Told.{number}
+use Rattle.recordings.specs.Recordings.{toldWritten}
 use Rattle.player.specs.Recordings.{countAfter, afterRecordings, recordingsLeft}
 use borrow.Author.Needs.{needs}
 use Rattle.player.proofs.correcting.l6_recordings.Statement.{statement}
@@ -24,28 +25,28 @@ same-length : tie.Need-same-length
 same-length c = search needs
 
 returns : tie.Need-returns
-unfolding recordingsLeft afterRecordings countAfter writtenNumber
+unfolding recordingsLeft afterRecordings countAfter toldWritten number
 returns c = rw (← c .before .before .before .before .before .write-standing .ensures .0, c .before .written .given .1)
 
 same-length-2 : tie.Need-same-length-2
 same-length-2 c = search needs
 
 returns-2 : tie.Need-returns-2
-unfolding recordingsLeft afterRecordings countAfter writtenNumber
+unfolding recordingsLeft afterRecordings countAfter toldWritten number
 returns-2 c = rw (← c .before .before .before .before .write-standing .ensures .0, c .enum-told .given .1)
 
 same-length-3 : tie.Need-same-length-3
 same-length-3 c = search needs
 
 returns-3 : tie.Need-returns-3
-unfolding recordingsLeft afterRecordings countAfter writtenNumber
+unfolding recordingsLeft afterRecordings countAfter toldWritten number
 returns-3 c = rw (← c .before .before .before .before .write-standing .ensures .0, c .enum-told2 .given .1)
 
 same-length-4 : tie.Need-same-length-4
 same-length-4 c = search needs
 
 returns-4 : tie.Need-returns-4
-unfolding recordingsLeft afterRecordings countAfter writtenNumber
+unfolding recordingsLeft afterRecordings countAfter toldWritten number
 returns-4 c = rw (← c .before .before .before .before .write-standing .ensures .0, c .enum-told3 .given .1)
 
 pub l6-recordings-spec : {M : Type 1} → statement M

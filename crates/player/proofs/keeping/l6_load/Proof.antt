@@ -16,7 +16,7 @@ same-length c = search needs
 
 returns : tie.Need-returns
 unfolding afterLoad loadLeft
-returns c = rw (c .number-of .ensures) (ap afterLoad (c .before .before .before .load .ensures))
+returns c = rw (c .number-of .ensures) (ap afterLoad (c .before .before .before .load .ensures .0))
 
 pub l6-load-spec : {M : Type 1} → statement M
 l6-load-spec =

@@ -1,5 +1,6 @@
 -- `player::keeping::number_of` meets its contract: by the answer. Assumes nothing.
-use Rattle.columns.specs.Columns.{keptNumber}
+use Rattle.word.specs.Told.{number}
+use Rattle.columns.specs.Columns.{toldKept}
 use borrow.Author.Needs.{needs}
 use Rattle.player.proofs.keeping.number_of.Statement.{statement}
 use Rattle.player.proofs.keeping.number_of.Tie as tie
@@ -20,23 +21,23 @@ enum-told-5 : tie.Need-enum-told-5
 enum-told-5 c = search needs
 
 returns : tie.Need-returns
-unfolding keptNumber
+unfolding toldKept number
 returns c = rw (c .enum-told .given .1)
 
 returns-2 : tie.Need-returns-2
-unfolding keptNumber
+unfolding toldKept number
 returns-2 c = rw (c .enum-told2 .given .1)
 
 returns-3 : tie.Need-returns-3
-unfolding keptNumber
+unfolding toldKept number
 returns-3 c = rw (c .enum-told3 .given .1)
 
 returns-4 : tie.Need-returns-4
-unfolding keptNumber
+unfolding toldKept number
 returns-4 c = rw (c .enum-told4 .given .1)
 
 returns-5 : tie.Need-returns-5
-unfolding keptNumber
+unfolding toldKept number
 returns-5 c = rw (c .enum-told5 .given .1)
 
 pub number-of-spec : {M : Type 1} → statement M
