@@ -5,7 +5,7 @@ use native.Mathlib.Omega.{arith}
 use mathlib.Core.Bool.{true, cond}
 use mathlib.Core.List.{List, [], _∷_}
 use mathlib.Core.Path.{_≡_, refl, sym, ap, subst, _∙_}
-use Prim.Native.Nat.{ℕ}
+use Prim.Native.Nat.{ℕ, _/_, _^_, _<_}
 use Rattle.word.specs.Word.{isWidth}
 use Rattle.word.proofs.Tests.{by-test}
 use Rattle.machine.specs.declared.State.{State}
@@ -15,6 +15,10 @@ use Rattle.machine.specs.declared.Refusal.{Refusal}
 use Rattle.machine.specs.declared.Answer.the-variants.{Finished, Refused}
 use Rattle.machine.specs.State.{fresh, freshOf, isFinished}
 use Rattle.machine.specs.Sound.{Lent, Engine, sound}
+use Rattle.machine.specs.declared.Location.{Location}
+use Rattle.machine.specs.Locate.{Value, world, contents}
+use Rattle.machine.specs.Converting.{Clears, Whole, left}
+use Rattle.machine.proofs.Converting.{decimal-steps}
 use Rattle.machine.specs.Step.{Outcome, RunOutcome, step, run, engineOf, engineRan}
 use Rattle.machine.proofs.Steps.{AsBefore, DeliversRun, refused-changes-nothing, finished-stays, delivered-run}
 use Rattle.machine.specs.Extend.{Extension, engineLeft}
@@ -41,6 +45,17 @@ module _ (l : Lent) (e : Engine) (o : Outcome) (is : o ≡ step l e) where
   -- a get or duplicate that is not refused delivers the lowest aligned run of its size outside the live blocks
   pub delivering-call : DeliversRun e (o .stepped .report)
   delivering-call = subst (λ (o : Outcome). DeliversRun e (o .stepped .report)) (sym is) (delivered-run l e)
+
+-- numbers below 1,000,000 at 36 bits, and below 100,000,000 at 48, survive conversion to characters and back: a call that carries out a 29, and any
+-- calls later one that carries out a 27 of what the first has left in a whole word
+module _ {b n : ℕ} (small : n < 10 ^ (b / 6)) {l₁ l₂ : Lent} {e₁ e₂ : Engine} {a₁ a₂ : Location} {x₁ x₂ : Value} {o₁ o₂ : Outcome}
+    (is₁ : o₁ ≡ step l₁ e₁) (is₂ : o₂ ≡ step l₂ e₂) where
+  pub decimal-calls : Clears b 29 l₁ e₁ a₁ x₁ → x₁ .value ≡ n → Whole b e₁ a₁ → Clears b 27 l₂ e₂ a₂ x₂
+      → x₂ .value ≡ contents b (world (engineOf o₁)) a₁ → Whole b e₂ a₂ → contents b (world (engineOf o₂)) a₂ ≡ n
+  unfolding left
+  decimal-calls c₁ v₁ w₁ c₂ v₂ w₂ =
+      ap (λ (o : Outcome). contents b (world (engineOf o)) a₂) is₂
+      ∙ decimal-steps small c₁ v₁ w₁ c₂ (v₂ ∙ ap (λ (o : Outcome). contents b (world (engineOf o)) a₁) is₁) w₂ .holds
 
 -- a fresh engine that was made has the width that was asked for
 made-wide : (b : ℕ) (f : Fresh) → f ≡ freshOf b → f .answer ≡ Done → (isWidth b ≡ true) × (f .state ≡ fresh b)

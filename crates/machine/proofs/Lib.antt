@@ -1,6 +1,7 @@
 -- Theorems on the machine that a reader may want to see, and the laws behind them.
 pub mod Computing
 pub mod Bench
+pub mod Examples
 pub mod Checks
 pub mod Numbers
 pub mod Every
@@ -21,3 +22,4 @@ pub mod Starting
 pub mod Soundness
 pub mod Extend
 pub mod Wanting
+pub mod Converting

@@ -10,4 +10,6 @@ pub mod Effects
 pub mod Operations
 pub mod Step
 pub mod Extend
+pub mod Converting
 pub mod Bench
+pub mod Examples
