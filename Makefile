@@ -1,7 +1,12 @@
-# make tour: plays the sample museum. make test: the gate. The other targets stand beside what they do.
+# make tour: plays the sample museum. make test: the gate. make help lists all targets.
 SHELL = /bin/bash
 .SHELLFLAGS = -o pipefail -c
-.PHONY: tour tours tourrun libplayer player compare test fmt wrong bench expected
+.DEFAULT_GOAL = help
+.PHONY: help tour tours tourrun libplayer player compare test fmt wrong bench expected map everything dist
+
+# Lists the targets, each with what stands above it here.
+help:
+	@awk '/^#/ { sub(/^# ?/, ""); said = said (said ? " " : "") $$0; next } /^[a-z]+:/ { split($$1, name, ":"); printf "make %-11s %s\n", name[1], said; said = "" } /^$$/ { said = "" }' Makefile
 
 # Proves tourread, tourcheck and tourrun and builds them (minutes the first time), then reads, checks and plays the sample museum.
 tour: tourrun
@@ -12,6 +17,7 @@ tour: tourrun
 tours: tourrun
 	tours/try
 
+# Proves tourread, tourcheck and tourrun and builds them into target/bin.
 tourrun:
 	rt check tourread tourcheck tourrun | grep '^rt:'
 
@@ -31,6 +37,7 @@ compare: libplayer
 	rustc -O --edition 2021 -L target/staticlib -C link-arg=target/header.o -o target/compare reference/compare.rs
 	target/compare $(SEED) $(STEPS)
 
+# The gate: proves every crate from nothing, tries the must-fail edits, runs the programs; its last line is 'N passed, 0 failed'.
 test:
 	bash .ci/run
 
@@ -63,3 +70,19 @@ expected: tourrun
 	rm crates/laps/data/stops.in
 	rustc -O --edition 2021 -o target/rival bench/main.rs
 	cd crates/laps/data && ../../../target/rival $$(cat ../args) > ../stdout
+
+# Writes docs/PROOFS.md again: a line for each file of laws, from its header.
+map:
+	docs/proofs
+
+# All that can be tried, one after the other: the gate, the tours, both hosts, a million steps against the other engine, expected output and the list
+# of proofs written anew with no change left, and the wrong answers apart from the gate (hours).
+everything: test tours player compare expected map
+	git diff --exit-code
+	$(MAKE) wrong
+
+# The library for vendors in one file, with its version: header, archive, Rust module, example hosts, docs/EMBEDDING.md.
+dist: libplayer
+	version=l6-$$(sed -n 's/^#define L6_VERSION //p' include/l6.h) && rm -rf target/$$version && mkdir -p target/$$version \
+	&& cp include/l6.h host/l6.rs host/player.c host/player.rs docs/EMBEDDING.md CHANGELOG.md target/staticlib/libplayer.a target/$$version \
+	&& tar -C target -czf target/$$version.tar.gz $$version && echo target/$$version.tar.gz
