@@ -2,7 +2,7 @@
 ghost use mathlib.Core.Bool.{_&&_, _||_, cond};
 ghost use mathlib.Core.Path.{_≡_};
 ghost use mathlib.Core.List.{[]};
-ghost use Prim.Native.Nat.{_^_, _≤_, _<_};
+ghost use Prim.Native.Nat.{ℕ, _^_, _≤_, _<_};
 ghost use lib.Dec.{eqb, ltb};
 ghost use lib.ListN.{length, take};
 ghost use Rattle.block.specs.SetUp.{words};
@@ -17,10 +17,9 @@ use machine::Definition;
 use machine::Place;
 use word::arithmetic::power;
 
-// Each of these words is below 2^b: so is what they are joined to by "or".
-pub fn are_words(b: u64, words: &[u64]) -> bool
-    requires { ⌜ b < 64 ⌝ }
-    ensures { λ r. ⌜ r ≡ every (λ x. ltb x (2 ^ b)) (now (words .entry)) ⌝ }
+// What these words are joined to by "or": it is below a power of two if each of them is.
+fn joined(words: &[u64]) -> u64
+    ensures { λ r. ⌜ ((b : ℕ) → ltb r (2 ^ b) ≡ every (λ x. ltb x (2 ^ b)) (now (words .entry))) ⌝ }
 {
     let mut all: u64 = 0;
     let mut i = 0;
@@ -28,7 +27,22 @@ pub fn are_words(b: u64, words: &[u64]) -> bool
         all = all | words[i];
         i += 1;
     }
-    all < power(b)
+    all
+}
+
+// Each of these words is below 2^b: so is what they are joined to, 64 at a time, a number of turns that the compiler knows.
+pub fn are_words(b: u64, words: &[u64]) -> bool
+    requires { ⌜ b < 64 ⌝ }
+    ensures { λ r. ⌜ r ≡ every (λ x. ltb x (2 ^ b)) (now (words .entry)) ⌝ }
+{
+    let mut all: u64 = 0;
+    let mut i = 0;
+    while 64 <= words.len() - i {
+        let end = i + 64;
+        all = all | joined(&words[i..end]);
+        i = end;
+    }
+    (all | joined(&words[i..])) < power(b)
 }
 
 // A row that a place may name.

@@ -1,77 +1,75 @@
 -- `soundness::are_words` meets its contract. The loop's invariant: the words are below 2 ^ b if what those passed are joined to and those
 -- left are. The measure is what is left. Assumes nothing.
-use Prim.Native.Nat.{ℕ, _+_, _^_, _-_, _≤_, _<_}
-use native.Mathlib.Numerals.{add-one}
+use Prim.Native.Nat.{_+_, _^_, _-_, _≤_}
 use native.Mathlib.Omega.{arith}
-use mathlib.Core.Bool.{Bool, true, false, _&&_}
-use mathlib.Core.List.{List}
-use mathlib.Core.Path.{_≡_, refl, sym, _∙_}
+use mathlib.Core.Path.{_≡_, sym, _∙_}
 use borrow.Author.Needs.{needs}
 use borrow.Author.Tests.{lt-ltb}
-use lib.Bits.{bitOr}
-use lib.Dec.{ltb}
-use lib.ListN.{length, getD, drop, drop-of-length-le}
+use lib.ListN.{length}
 use lib.Pow.{pow-pos}
-use lib.Seq.{drop-cons}
-use Rattle.word.proofs.Bitwise.{or-below}
-use Rattle.buddy.proofs.Parts.{and-assoc}
 use Rattle.machine.specs.Sound.{every}
 use Rattle.machine.proofs.Every.{below}
+use Rattle.soundness.proofs.Passed.{parted, part-on, part-end}
+use borrow.Author.Needs.{needs}
 use Rattle.soundness.proofs.are_words.Statement.{statement}
 use Rattle.soundness.proofs.are_words.Tie as tie
 
--- those that are passed, joined, and those left
-abbrev parted : ℕ → ℕ → ℕ → List ℕ → Bool
-parted b all i words = ltb all (2 ^ b) && every (below (2 ^ b)) (drop i words)
-
-part-next : (b all i : ℕ) (words : List ℕ) → i < length words → parted b all i words ≡ parted b (bitOr all (getD words i 0)) (i + 1) words
-unfolding every
-part-next b all i words h = rw (drop-cons words i 0, add-one, or-below) (and-assoc (ltb all (2 ^ b)) (ltb (getD words i 0) (2 ^ b)) _)
-
-part-end : (b all i : ℕ) (words : List ℕ) → length words ≤ i → parted b all i words ≡ ltb all (2 ^ b)
-unfolding every
-part-end b all i words h = rw (drop-of-length-le words h) (always (ltb all (2 ^ b)))
-  where
-    always : (t : Bool) → (t && true) ≡ t
-    always true = refl
-    always false = refl
-
 abbrev Inv-loop : tie.InvT-loop
-Inv-loop b words all₀ i₀ all i = every (below (2 ^ b)) words ≡ parted b all i words
+Inv-loop b words all₀ i₀ all i = (i ≤ length words) × (every (below (2 ^ b)) words ≡ parted b all i words)
 
 abbrev μ-loop : tie.MeasureT-loop
 μ-loop b words all₀ i₀ all i = length words - i
 
 loop-holds : tie.Need-loop-holds Inv-loop μ-loop
-loop-holds c = rw (lt-ltb 0 (2 ^ c .before .args .b) (pow-pos (c .before .args .b)))
+loop-holds c = (omega arith, rw (lt-ltb 0 (2 ^ c .before .args .b) (pow-pos (c .before .args .b))))
 
-mul-all : tie.Need-mul-all Inv-loop μ-loop
-mul-all c = search needs
+sub-loop : tie.Need-sub-loop Inv-loop μ-loop
+sub-loop c = omega arith
 
-shared-slice-read-all : tie.Need-shared-slice-read-all Inv-loop μ-loop
-shared-slice-read-all c = search needs
+add-end : tie.Need-add-end Inv-loop μ-loop
+add-end c = omega arith
 
-add-i : tie.Need-add-i Inv-loop μ-loop
-add-i c = search needs
+mul-joined : tie.Need-mul-joined Inv-loop μ-loop
+mul-joined c = search needs
+
+sub-joined : tie.Need-sub-joined Inv-loop μ-loop
+sub-joined c = omega arith
+
+part-joined-start : tie.Need-part-joined-start Inv-loop μ-loop
+part-joined-start c = omega arith
+
+part-joined-end : tie.Need-part-joined-end Inv-loop μ-loop
+part-joined-end c = omega arith
+
+joined-requires : tie.Need-joined-requires Inv-loop μ-loop
+joined-requires c κs = search needs
 
 loop-less : tie.Need-loop-less Inv-loop μ-loop
 loop-less c = omega arith
 
 loop-again : tie.Need-loop-again Inv-loop μ-loop
-loop-again c =
-    let l = c .before .before in
-    let start = l .before .before in
-    l .loop .inv ∙ part-next (start .args .b) (l .loop .all) (l .loop .i) (start .args .words .now) (c .before .loop-test .taken)
+loop-again c = (omega arith, c .before .before .before .loop .inv .1 ∙ part-on (c .before .before .before .before .before .args .b) (c .before .before .before .loop .all) (c .before .before .before .loop .i) (c .before .before .before .before .before .args .words .now) (c .before .before .before .loop .i + 64) (c .joined .result) (omega arith) (c .joined .ensures (c .before .before .before .before .before .args .b)))
+
+mul-joined-2 : tie.Need-mul-joined-2 Inv-loop μ-loop
+mul-joined-2 c = search needs
+
+sub-joined-2 : tie.Need-sub-joined-2 Inv-loop μ-loop
+sub-joined-2 c = omega arith
+
+part-joined-start-2 : tie.Need-part-joined-start-2 Inv-loop μ-loop
+part-joined-start-2 c = omega arith
+
+part-joined-end-2 : tie.Need-part-joined-end-2 Inv-loop μ-loop
+part-joined-end-2 c = omega arith
+
+joined-requires-2 : tie.Need-joined-requires-2 Inv-loop μ-loop
+joined-requires-2 c κs = search needs
 
 power-requires : tie.Need-power-requires Inv-loop μ-loop
 power-requires c κs = search needs
 
 returns : tie.Need-returns Inv-loop μ-loop
-returns c =
-    let l = c .before .before in
-    let start = l .before .before in
-    rw (c .power .ensures)
-    (sym (l .loop .inv ∙ part-end (start .args .b) (l .loop .all) (l .loop .i) (start .args .words .now) (c .before .loop-test .left)))
+returns c = let words = c .before .before .before .before .before .before .args .words .now in rw (c .power .ensures) (sym (c .before .before .before .before .loop .inv .1 ∙ part-on (c .before .before .before .before .before .before .args .b) (c .before .before .before .before .loop .all) (c .before .before .before .before .loop .i) words (length words) (c .before .joined2 .result) (omega arith) (c .before .joined2 .ensures (c .before .before .before .before .before .before .args .b)) ∙ part-end (c .before .before .before .before .before .before .args .b) _ (length words) words (omega arith)))
 
 pub are-words-spec : {M : Type 1} → statement M
 are-words-spec =
@@ -80,10 +78,19 @@ are-words-spec =
     Inv-loop
     μ-loop
     loop-holds
-    mul-all
-    shared-slice-read-all
-    add-i
+    sub-loop
+    add-end
+    mul-joined
+    sub-joined
+    part-joined-start
+    part-joined-end
+    joined-requires
     loop-less
     loop-again
+    mul-joined-2
+    sub-joined-2
+    part-joined-start-2
+    part-joined-end-2
+    joined-requires-2
     power-requires
     returns)
