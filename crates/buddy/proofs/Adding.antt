@@ -1,5 +1,5 @@
--- Tags added from block to block of a tree: a block that keeps the section is passed, the first that breaks it ends the sum. By induction
--- on the level of a part of the tree: the scan passes it with the tags of the tree that it tells, or stops in it. Assumes nothing.
+-- Blocks counted one after the other in a tree: a block that keeps the section is passed, the first that breaks it ends the count. By
+-- induction on the level of a part of the tree: the scan passes it with the blocks of the tree that it tells, or stops in it. Assumes nothing.
 use mathlib.Core.Path.{_≡_, refl, sym, ap, ap₂, subst, _∙_}
 use mathlib.Core.Bool.{Bool, true, false, not, _&&_, _||_, cond}
 use mathlib.Core.List.{List, [], _∷_}
@@ -13,24 +13,24 @@ use borrow.Author.Tests.{eq-eqb, ne-eqb, le-leb, lt-leb, lt-ltb, leb-true, ltb-t
 use Rattle.word.proofs.Tests.{by-test, by-eqb, by-leb, and-true, and-false}
 use Rattle.block.specs.Blocks.{size, Tree, Free, Live, Halves}
 use Rattle.block.specs.Map.{freeTag, liveTag, written, told, isFree, canonical}
-use Rattle.buddy.specs.Sum.{total, isTag, tagLevel, isRest, startsBlock, tags}
+use Rattle.buddy.specs.Marks.{mark, marks, isTag, tagLevel, isRest, startsBlock, counted}
 use Rattle.block.proofs.Size.{size-suc, size-pos, size-small, aligned-smaller}
 use Rattle.block.proofs.Map.{halved, canonical-halves}
-use Rattle.buddy.proofs.Sums.{total-append, total-zeros}
+use Rattle.buddy.proofs.Marks.{marks-append, marks-zeros}
 use Rattle.buddy.proofs.Parts.{no-tag, told-free, told-live, told-halved, free-told}
 
--- what adding tags from a place of a tree on, to a sum, gives
+-- what counting blocks from a place of a tree on, to a number, gives
 pub data Adds (k : ℕ) (m : List ℕ) : ℕ → ℕ → ℕ → Type 0 where
   ends : {i s : ℕ} → length m ≤ i → Adds k m i s s
   stops : {i s : ℕ} → i < length m → startsBlock k i m ≡ false → Adds k m i s 0
-  passes : {i s r : ℕ} → i < length m → startsBlock k i m ≡ true → Adds k m (i + size (tagLevel (getD m i 0))) (s + getD m i 0) r → Adds k m i s r
+  passes : {i s r : ℕ} → i < length m → startsBlock k i m ≡ true → Adds k m (i + size (tagLevel (getD m i 0))) (s + 1) r → Adds k m i s r
 
 -- a test that failed did not hold
 unlike : {t : Bool} → t ≡ false → t ≡ true → ⊥
 unlike e f = let z : _≡_ {A = ℕ} 0 1 = cc in omega arith
 
 module _ (k : ℕ) (m : List ℕ) where
-  -- at the end the sum is the answer
+  -- at the end the number is the answer
   pub adds-end : {i s r : ℕ} → length m ≤ i → Adds k m i s r → r ≡ s
   adds-end h (ends l) = refl
   adds-end h (stops l e) = absurd (omega arith)
@@ -43,7 +43,7 @@ module _ (k : ℕ) (m : List ℕ) where
   adds-stop h e (passes l f more) = absurd (unlike e f)
 
   -- another is passed
-  pub adds-pass : {i s r : ℕ} → i < length m → startsBlock k i m ≡ true → Adds k m i s r → Adds k m (i + size (tagLevel (getD m i 0))) (s + getD m i 0) r
+  pub adds-pass : {i s r : ℕ} → i < length m → startsBlock k i m ≡ true → Adds k m i s r → Adds k m (i + size (tagLevel (getD m i 0))) (s + 1) r
   adds-pass h e (ends l) = absurd (omega arith)
   adds-pass h e (stops l f) = absurd (unlike f e)
   adds-pass h e (passes l f more) = more
@@ -188,9 +188,9 @@ module _ (k : ℕ) (m : List ℕ) where
 
   -- one block is passed
   block-passed : (j q x : ℕ) {s r : ℕ} → q * size j < length m → getD m (q * size j) 0 ≡ x → tagLevel x ≡ j → startsBlock k (q * size j) m ≡ true
-      → Adds k m (q * size j + size j) (s + x) r → Adds k m (q * size j) s r
+      → Adds k m (q * size j + size j) (s + 1) r → Adds k m (q * size j) s r
   block-passed j q x {s} {r} inside e level starts more =
-      passes inside starts (subst (λ (y : ℕ). Adds k m (q * size j + size (tagLevel y)) (s + y) r) (sym e) (rw level more))
+      passes inside starts (subst (λ (y : ℕ). Adds k m (q * size j + size (tagLevel y)) (s + 1) r) (sym e) (rw level more))
 
   module _ (j q : ℕ) (low : j ≤ k) (inside : q * size j < length m) where
     abbrev first : ℕ
@@ -204,17 +204,17 @@ module _ (k : ℕ) (m : List ℕ) where
 
     -- a part that is one block is passed, a halved one is left to its halves
     pass-step : {s r : ℕ} → (q % 2 ≡ 1 → first ≡ freeTag j → getD m (q * size j - size j) 0 ≡ freeTag j → ⊥)
-        → Adds k m (q * size j + size j) (s + total (written j (tells j q))) r
+        → Adds k m (q * size j + size j) (s + marks (written j (tells j q))) r
         → (isTag j first ≡ false → Adds k m (q * size j) s r) → Adds k m (q * size j) s r
     unfolding isTag
     pass-step {s} {r} apart more halves =
         by-eqb (λ t. ((t || eqb first (liveTag j)) ≡ false → Adds k m (q * size j) s r) → Adds k m (q * size j) s r) first (freeTag j)
         (λ e _. block-passed j q (freeTag j) inside e (level-free j) (free-starts j q low e (λ o. apart o e))
-        (subst (λ (n : ℕ). Adds k m (q * size j + size j) (s + n) r) (ap (λ (t : Tree). total (written j t)) (free-tree e) ∙ unfold written total in rw total-zeros (omega arith)) more))
+        (subst (λ (n : ℕ). Adds k m (q * size j + size j) (s + n) r) (ap (λ (t : Tree). marks (written j t)) (free-tree e) ∙ unfold written marks mark freeTag liveTag in rw marks-zeros (omega arith)) more))
         (λ f other.
         by-eqb (λ t. (t ≡ false → Adds k m (q * size j) s r) → Adds k m (q * size j) s r) first (liveTag j)
         (λ e _. block-passed j q (liveTag j) inside e (level-live j) (live-starts j q low e)
-        (subst (λ (n : ℕ). Adds k m (q * size j + size j) (s + n) r) (ap (λ (t : Tree). total (written j t)) (live-tree e) ∙ unfold written total in rw total-zeros (omega arith)) more))
+        (subst (λ (n : ℕ). Adds k m (q * size j + size j) (s + n) r) (ap (λ (t : Tree). marks (written j t)) (live-tree e) ∙ unfold written marks mark freeTag liveTag in rw marks-zeros (omega arith)) more))
         (λ g neither. neither refl) other)
         halves
 
@@ -249,10 +249,10 @@ module _ (k : ℕ) (m : List ℕ) where
       unlike' : false ≡ true → _≡_ {A = ℕ} 0 1
       unlike' e = cc
 
-  -- a canonical part is passed with its tags
+  -- a canonical part is passed with its blocks
   passed : (j q : ℕ) {s r : ℕ} → j ≤ k → q * size j + size j ≤ length m → canonical j (tells j q) ≡ true
       → (q % 2 ≡ 1 → getD m (q * size j) 0 ≡ freeTag j → getD m (q * size j - size j) 0 ≡ freeTag j → ⊥)
-      → Adds k m (q * size j + size j) (s + total (written j (tells j q))) r → Adds k m (q * size j) s r
+      → Adds k m (q * size j + size j) (s + marks (written j (tells j q))) r → Adds k m (q * size j) s r
   passed zero q low inside whole apart more =
       pass-step zero q low (omega (arith, size-pos zero)) apart more
       (λ h. absurd (unlike (ap (canonical 0) (told-halved 0 (piece 0 q) (ap (isTag 0) (piece-first 0 q) ∙ h)) ∙ unfold canonical halved in refl) whole))
@@ -263,14 +263,14 @@ module _ (k : ℕ) (m : List ℕ) where
       let parts = canonical-halves j (tells j (q + q)) (tells j (q + q + 1)) (ap (canonical (suc j)) (sym halves) ∙ whole) in
       let end = end-place j q in
       let next = next-place j q in
-      let tags-of : s + total (written (suc j) (tells (suc j) q)) ≡ s + total (written j (tells j (q + q))) + total (written j (tells j (q + q + 1)))
-      = ap (λ (t : Tree). s + total (written (suc j) t)) halves ∙ (unfold written in rw total-append (omega arith)) in
-      let last = subst (λ (n : ℕ). Adds k m n (s + total (written j (tells j (q + q))) + total (written j (tells j (q + q + 1)))) r) (sym end)
-      (subst (λ (n : ℕ). Adds k m (q * size (suc j) + size (suc j)) n r) tags-of more) in
+      let blocks-of : s + marks (written (suc j) (tells (suc j) q)) ≡ s + marks (written j (tells j (q + q))) + marks (written j (tells j (q + q + 1)))
+      = ap (λ (t : Tree). s + marks (written (suc j) t)) halves ∙ (unfold written in rw marks-append (omega arith)) in
+      let last = subst (λ (n : ℕ). Adds k m n (s + marks (written j (tells j (q + q))) + marks (written j (tells j (q + q + 1)))) r) (sym end)
+      (subst (λ (n : ℕ). Adds k m (q * size (suc j) + size (suc j)) n r) blocks-of more) in
       let high = passed j (q + q + 1) (omega arith) (omega arith) (parts .1)
       (λ o here before. not-both j q (parts .2) (ap (λ (n : ℕ). getD m n 0) (sym (low-of j q)) ∙ before) here) last in
       subst (λ (n : ℕ). Adds k m n s r) (low-place j q)
-      (passed j (q + q) (omega arith) (omega arith) (parts .0) (λ o. absurd (even q o)) (subst (λ (n : ℕ). Adds k m n (s + total (written j (tells j (q + q)))) r) (sym next) high)))
+      (passed j (q + q) (omega arith) (omega arith) (parts .0) (λ o. absurd (even q o)) (subst (λ (n : ℕ). Adds k m n (s + marks (written j (tells j (q + q)))) r) (sym next) high)))
 
   -- a tag first tells one block, which is canonical
   tag-whole : (j q : ℕ) → canonical j (tells j q) ≡ false → isTag j (getD m (q * size j) 0) ≡ false
@@ -287,7 +287,7 @@ module _ (k : ℕ) (m : List ℕ) where
   tag-none : (x : ℕ) → isTag 0 x ≡ false → x ≤ liveTag 0 → x ≡ 0
   tag-none x h l = let (f, g) = no-tag 0 x h in unfold freeTag liveTag in omega arith
 
-  -- a high half that is not canonical, or free beside a free one, ends the sum
+  -- a high half that is not canonical, or free beside a free one, ends the count
   high-stopped : (j q : ℕ) {s : ℕ} → (q + q + 1) * size j + size j ≤ length m
       → (canonical j (tells j (q + q + 1)) && not (isFree (tells j (q + q)) && isFree (tells j (q + q + 1)))) ≡ false
       → (getD m ((q + q + 1) * size j) 0 ≤ liveTag j → canonical j (tells j (q + q + 1)) ≡ false → Adds k m ((q + q + 1) * size j) s 0)
@@ -317,7 +317,7 @@ module _ (k : ℕ) (m : List ℕ) where
           (λ f _. (e, f)) (λ f h. absurd (unlike h refl)))
           (λ e h. absurd (unlike h refl)))
 
-  -- a part that is not canonical ends the sum
+  -- a part that is not canonical ends the count
   stopped : (j q : ℕ) {s : ℕ} → j ≤ k → q * size j + size j ≤ length m → getD m (q * size j) 0 ≤ liveTag j → canonical j (tells j q) ≡ false
       → Adds k m (q * size j) s 0
   unfolding canonical
@@ -338,27 +338,27 @@ module _ (k : ℕ) (m : List ℕ) where
       (by-test (λ t. canonical j l ≡ t → ((t && canonical j r) && not (isFree l && isFree r)) ≡ false → Adds k m ((q + q) * size j) s 0) (canonical j l)
       (λ _ whole rest.
       passed j (q + q) (omega arith) (omega arith) whole (λ o. absurd (even q o))
-      (subst (λ (n : ℕ). Adds k m n (s + total (written j l)) 0) (sym next)
+      (subst (λ (n : ℕ). Adds k m n (s + marks (written j l)) 0) (sym next)
       (high-stopped j q (omega arith) rest (stopped j (q + q + 1) (omega arith) (omega arith)))))
       (λ _ bad rest. stopped j (q + q) (omega arith) (omega arith) small bad)
       refl tests)
 
-  -- so adding from the first place on gives the tags of the tree
-  pub adds-all : length m ≡ size k → Adds k m 0 0 (tags k m)
-  unfolding tags
+  -- so counting from the first place on gives the blocks of the tree
+  pub adds-all : length m ≡ size k → Adds k m 0 0 (counted k m)
+  unfolding counted
   adds-all long =
       let none : 0 * size k ≡ 0 = omega arith in
       let whole : piece k 0 ≡ m = ap (λ (n : ℕ). take (size k) (drop n m)) none ∙ take-all (size k) m (omega arith) in
       let here = ap (told k) whole in
       let fits : 0 * size k + size k ≤ length m = omega arith in
       let inside : 0 < length m = omega (arith, size-pos k) in
-      by-test (λ t. canonical k (told k m) ≡ t → Adds k m 0 0 (cond t (total (written k (told k m))) 0)) (canonical k (told k m))
+      by-test (λ t. canonical k (told k m) ≡ t → Adds k m 0 0 (cond t (marks (written k (told k m))) 0)) (canonical k (told k m))
       (λ _ h.
-      let sum : 0 + total (written k (told k m)) ≡ total (written k (told k m)) = omega arith in
+      let sum : 0 + marks (written k (told k m)) ≡ marks (written k (told k m)) = omega arith in
       let past : length m ≤ 0 * size k + size k = omega arith in
-      let done : Adds k m (0 * size k + size k) (0 + total (written k (tells k 0))) (total (written k (told k m)))
+      let done : Adds k m (0 * size k + size k) (0 + marks (written k (tells k 0))) (marks (written k (told k m)))
       = rw (here, sum) (ends past) in
-      subst (λ (n : ℕ). Adds k m n 0 (total (written k (told k m)))) none (passed k 0 (omega arith) fits (ap (canonical k) here ∙ h) (λ o. absurd (omega arith)) done))
+      subst (λ (n : ℕ). Adds k m n 0 (marks (written k (told k m)))) none (passed k 0 (omega arith) fits (ap (canonical k) here ∙ h) (λ o. absurd (omega arith)) done))
       (λ _ h.
       by-leb (λ _. Adds k m 0 0 0) (getD m 0 0) (liveTag k)
       (λ below. subst (λ (n : ℕ). Adds k m n 0 0) none (stopped k 0 (omega arith) fits (rw none below) (ap (canonical k) here ∙ h)))

@@ -2,7 +2,7 @@
 pub mod Answers
 pub mod Level
 pub mod Halves
-pub mod Sums
+pub mod Marks
 pub mod Parts
 pub mod Adding
 pub mod Tags
@@ -15,6 +15,7 @@ pub mod Rest
 pub mod Upward
 pub mod Scan
 pub mod Keeping
+pub mod Passing
 pub mod Placed
 pub mod Address
 pub mod Count

@@ -1,5 +1,5 @@
 -- What the contracts of the code cite beside the definitions of `block`.
-pub mod Sum
+pub mod Marks
 pub mod Upward
 pub mod Lowest
 pub mod Tag

@@ -7,16 +7,17 @@ ghost use Rattle.buddy.specs.declared.Found.the-variants.{At};
 ghost use Rattle.block.specs.Blocks.{size, sizeAt};
 ghost use Rattle.block.specs.SetUp.{top, words, runs};
 ghost use Rattle.block.specs.Map.{keeps, live, freedMap, deliveredMap};
-ghost use Rattle.buddy.specs.Sum.{total, allTags};
+ghost use Rattle.buddy.specs.Marks.{mark as markOf, marks, allCounted, PassedOver};
 ghost use Rattle.buddy.specs.Lowest.{firstOf, toldFound, firstTold, Passed};
 ghost use Rattle.buddy.specs.Tag.{tagSize};
 use super::Found;
 use super::sizes::size_of;
 use super::sizes::top_of;
+use super::tree::count_blocks;
 use super::tree::free_tag;
 use super::tree::free_up;
+use super::tree::is_tag;
 use super::tree::split;
-use super::tree::tree_tags;
 use super::tree::zero_from;
 use block::SetUp;
 
@@ -33,63 +34,89 @@ pub fn words_of(setup: SetUp) -> usize
     (setup.s2 - setup.s1) as usize + 1
 }
 
-// The sum of at most 256 bytes.
-fn part_sum(part: &[u8]) -> u16
-    requires { ⌜ length (now part) ≤ 256 ⌝ }
-    ensures { λ r. ⌜ r ≡ total (now (part .entry)) ⌝ }
+// Whether a byte marks a block, as a number: it is not zero.
+fn mark(x: u8) -> u8
+    ensures { λ r. ⌜ r ≡ markOf x ⌝ }
 {
-    let mut sum: u16 = 0;
+    if x == 0 { 0 } else { 1 }
+}
+
+// How many of at most 128 bytes are not zero.
+fn part_marks(part: &[u8]) -> u8
+    requires { ⌜ length (now part) ≤ 128 ⌝ }
+    ensures { λ r. ⌜ r ≡ marks (now (part .entry)) ⌝ }
+{
+    let mut count: u8 = 0;
     let mut i = 0;
     while i < part.len() {
-        sum += part[i] as u16;
+        count += mark(part[i]);
         i += 1;
     }
-    sum
+    count
 }
 
-// Where a part that starts at a place ends: 256 bytes on, or at the end of all.
-fn part_end(i: usize, length: usize) -> usize
-    requires { ⌜ (i < length) × (length ≤ 65536) ⌝ }
-    ensures { λ r. ⌜ (i < r) × (r ≤ length) × (r ≤ i + 256) ⌝ }
+// How many bytes are not zero, 128 at a time, a number of turns that the compiler knows.
+fn marks_of(bytes: &[u8]) -> usize
+    ensures { λ r. ⌜ (r ≡ marks (now (bytes .entry))) × (r ≤ length (now (bytes .entry))) ⌝ }
 {
-    if i + 256 < length { i + 256 } else { length }
-}
-
-// The sum of bytes.
-fn sum_of(bytes: &[u8]) -> u64
-    requires { ⌜ length (now bytes) ≤ 65536 ⌝ }
-    ensures { λ r. ⌜ (r ≡ total (now (bytes .entry))) × (r ≤ 65536 * length (now (bytes .entry))) ⌝ }
-{
-    let mut sum: u64 = 0;
+    let mut count: usize = 0;
     let mut i = 0;
-    while i < bytes.len() {
-        let end = part_end(i, bytes.len());
-        sum += part_sum(&bytes[i..end]) as u64;
+    while 128 <= bytes.len() - i {
+        let end = i + 128;
+        count += part_marks(&bytes[i..end]) as usize;
         i = end;
     }
-    sum
+    count + part_marks(&bytes[i..]) as usize
 }
 
-// One more than the sum of the tags of so many trees of the k-th size, 0 if one is broken.
-fn all_tags(k: u8, count: usize, map: &[u8]) -> u64
-    requires { ⌜ (k ≤ 7) × (count ≤ 65536) × (count * size k ≤ length (now map)) ⌝ }
-    ensures { λ r. ⌜ r ≡ allTags k count 1 (now (map .entry)) ⌝ }
+// How far trees were passed, and a number with the blocks of those passed.
+struct Whole {
+    at: usize,
+    count: usize,
+}
+
+// Passes trees of the k-th size that are one block each, up to the first that is not, or to the end.
+fn whole_trees(k: u8, before: usize, from: usize, end: usize, map: &[u8]) -> Whole
+    requires { ⌜ (k ≤ 7) × (end ≤ length (now map)) × (end ≤ 65536) × (before ≤ 33554432) ⌝ }
+    ensures { λ r. ⌜ PassedOver k (now (map .entry)) end from before (r .at) (r .count) ⌝ }
 {
     let n = size_of(k);
-    let mut sum: u64 = 1;
-    let mut i = 0;
-    let mut left = count;
-    while 0 < left {
-        let end = i + n;
-        let next = tree_tags(k, &map[i..end]);
-        if next == 0 {
+    let mut count = before;
+    let mut i = from;
+    while i < end {
+        if !is_tag(k, map[i]) {
+            return Whole {
+                at: i,
+                count: count,
+            };
+        }
+        count += 1;
+        i += n;
+    }
+    Whole {
+        at: i,
+        count: count,
+    }
+}
+
+// One more than the number of blocks in so many trees of the k-th size, 0 if one is broken.
+fn all_blocks(k: u8, count: usize, map: &[u8]) -> usize
+    requires { ⌜ (k ≤ 7) × (count ≤ 65536) × (count * size k ≤ 65536) × (count * size k ≤ length (now map)) ⌝ }
+    ensures { λ r. ⌜ r ≡ allCounted k count 1 (now (map .entry)) ⌝ }
+{
+    let n = size_of(k);
+    let all = count * n;
+    let mut whole = whole_trees(k, 1, 0, all, map);
+    while whole.at < all {
+        let at = whole.at;
+        let end = at + n;
+        let more = count_blocks(k, &map[at..end]);
+        if more == 0 {
             return 0;
         }
-        sum += next;
-        i = end;
-        left -= 1;
+        whole = whole_trees(k, whole.count + more, end, all, map);
     }
-    sum
+    whole.count
 }
 
 // How many bytes of a map lie past the set-up words.
@@ -100,7 +127,7 @@ fn bytes_past(words: usize, length: usize) -> usize
 }
 
 // Whether a map keeps the section "Blocks": it is as long as its trees and the bytes past them, no tree is broken, and the tags of their
-// blocks are all that is not zero, which is so if they sum to the trees' bytes.
+// blocks are all that is not zero, which is so if there are as many bytes that are not zero as blocks.
 pub fn keeps_section(setup: SetUp, map: &[u8]) -> bool
     ensures { λ r. ⌜ r ≡ keeps setup (now (map .entry)) ⌝ }
 {
@@ -112,8 +139,8 @@ pub fn keeps_section(setup: SetUp, map: &[u8]) -> bool
     if end + bytes_past(words, map.len()) != map.len() {
         return false;
     }
-    let tags = all_tags(k, count, map);
-    (tags == 1 + sum_of(&map[..end])) & zero_from(end, map)
+    let blocks = all_blocks(k, count, map);
+    (blocks == 1 + marks_of(&map[..end])) & zero_from(end, map)
 }
 
 // The size of the live block of which a byte is the tag; 0 if it is none.

@@ -7,7 +7,7 @@ ghost use lib.Dec.{eqb, ltb};
 ghost use lib.ListN.{length, getD, replicate, drop};
 ghost use Rattle.block.specs.Blocks.{Free, size, delivered};
 ghost use Rattle.block.specs.Map.{freeTag, liveTag, written, same};
-ghost use Rattle.buddy.specs.Sum.{isTag, isRest, startsBlock, tags};
+ghost use Rattle.buddy.specs.Marks.{isTag, isRest, startsBlock, counted};
 ghost use Rattle.buddy.specs.Upward.{pairStart, otherPlace, Rises, Rising};
 use super::sizes::size_of;
 
@@ -41,15 +41,8 @@ pub(crate) fn zero_from(from: usize, tags: &[u8]) -> bool
     all == 0
 }
 
-// A byte as a number to add up.
-fn wide(x: u8) -> u64
-    ensures { λ r. ⌜ r ≡ x ⌝ }
-{
-    x as u64
-}
-
 // Whether a byte is the tag of a block of the k-th size.
-fn is_tag(k: u8, x: u8) -> bool
+pub(crate) fn is_tag(k: u8, x: u8) -> bool
     requires { ⌜ k ≤ 7 ⌝ }
     ensures { λ r. ⌜ r ≡ isTag k x ⌝ }
 {
@@ -89,36 +82,22 @@ fn starts_block(k: u8, i: usize, bytes: &[u8]) -> bool
     !is_rest(tag, n, i, bytes)
 }
 
-// The sum of the tags of the blocks in a tree of the k-th size, from block to block, 0 if one breaks the section. Bytes between them are not
-// looked at.
-fn add_tags(k: u8, bytes: &[u8]) -> u64
+// How many blocks a tree of the k-th size has, counted one after the other, 0 if one breaks the section. Bytes between them are not looked
+// at.
+pub(crate) fn count_blocks(k: u8, bytes: &[u8]) -> usize
     requires { ⌜ (k ≤ 7) × (length (now bytes) ≡ size k) ⌝ }
-    ensures { λ r. ⌜ r ≡ tags k (now (bytes .entry)) ⌝ }
+    ensures { λ r. ⌜ r ≡ counted k (now (bytes .entry)) ⌝ }
 {
-    let mut sum: u64 = 0;
+    let mut count: usize = 0;
     let mut i = 0;
     while i < bytes.len() {
         if !starts_block(k, i, bytes) {
             return 0;
         }
-        let tag = bytes[i];
-        sum += wide(tag);
-        i += size_of((tag - 1) / 2);
+        count += 1;
+        i += size_of((bytes[i] - 1) / 2);
     }
-    sum
-}
-
-// The same of a tree, most often one block.
-pub(crate) fn tree_tags(k: u8, bytes: &[u8]) -> u64
-    requires { ⌜ (k ≤ 7) × (length (now bytes) ≡ size k) ⌝ }
-    ensures { λ r. ⌜ r ≡ tags k (now (bytes .entry)) ⌝ }
-{
-    let tag = bytes[0];
-    if is_tag(k, tag) {
-        wide(tag)
-    } else {
-        add_tags(k, bytes)
-    }
+    count
 }
 
 // Delivers the first words of a free block of the k-th size: it is halved until the j-th size is reached, the low half going on.

@@ -1,5 +1,5 @@
--- `keeps_section` checks that the map is as long as its trees and the bytes past them, that the trees' tags sum to their bytes, and that the
--- rest is zero. Assumes nothing.
+-- `keeps_section` checks that the map is as long as its trees and the bytes past them, that the trees have as many blocks as bytes that are
+-- not zero, and that the rest is zero. Assumes nothing.
 use mathlib.Core.Path.{sym, ap}
 use Prim.Native.Nat.{ℕ, _/_, _*_, _≤_}
 use native.Mathlib.Nat.{div-add-mod', div-le-self}
@@ -44,17 +44,6 @@ returns c =
     count-short (e .before .before .before .before .before .args .setup) _ _ _ (e .before .before .before .top-of .ensures)
     (e .before .before .size-of .ensures) (e .before .words-of .ensures) _ (λ z. c .if1 .taken (rw (e .bytes-past .ensures) z))
 
-all-tags-requires : tie.Need-all-tags-requires
-all-tags-requires c κs =
-    let sized = c .before .before .before in
-    let w = c .before .before .words-of .result in
-    let start = sized .before .before .before in
-    let same = ap (λ (x : ℕ). w / sized .size-of .result * x) (sized .size-of .ensures) in (
-      omega (arith, sized .before .top-of .ensures, top-le (start .args .setup .d)),
-      omega (arith, div-le-self w (sized .size-of .result), c .before .before .words-of .ensures, words-le (start .args .setup)),
-      omega arith,
-    )
-
 -- the trees lie in the map, and their words are at most 65,536
 within : (c : tie.Else1) → let w = c .before .before .words-of .result in let n = c .before .before .before .size-of .result in
     (w / n * n ≤ length (c .before .before .before .before .before .before .args .map .now)) × (w / n * n ≤ 65536)
@@ -63,17 +52,29 @@ within c =
     let n = c .before .before .before .size-of .result in
     (omega arith, omega (arith, div-add-mod' w n, c .before .before .words-of .ensures, words-le (c .before .before .before .before .before .before .args .setup)))
 
-slice-aggregate-sum-of : tie.Need-slice-aggregate-sum-of
-slice-aggregate-sum-of c = sym (length-take-le _ _ (within (c .before .before) .0))
+all-blocks-requires : tie.Need-all-blocks-requires
+all-blocks-requires c κs =
+    let sized = c .before .before .before in
+    let w = c .before .before .words-of .result in
+    let start = sized .before .before .before in
+    let same = ap (λ (x : ℕ). w / sized .size-of .result * x) (sized .size-of .ensures) in (
+      omega (arith, sized .before .top-of .ensures, top-le (start .args .setup .d)),
+      omega (arith, div-le-self w (sized .size-of .result), c .before .before .words-of .ensures, words-le (start .args .setup)),
+      omega (arith, within c .1),
+      omega arith,
+    )
 
-sum-of-requires : tie.Need-sum-of-requires
-sum-of-requires c κs = let (there, few) = within (c .before .before) in rw (length-take-le _ _ there) few
+slice-aggregate-marks-of : tie.Need-slice-aggregate-marks-of
+slice-aggregate-marks-of c = sym (length-take-le _ _ (within (c .before .before) .0))
+
+marks-of-requires : tie.Need-marks-of-requires
+marks-of-requires c κs = search needs
 
 add-result : tie.Need-add-result
 add-result c =
     let (there, few) = within (c .before .before .before) in
     let long = length-take-le _ (c .before .before .before .before .before .before .before .before .before .args .map .now) there in
-    omega (arith, c .sum-of .ensures .1)
+    omega (arith, c .marks-of .ensures .1)
 
 zero-from-requires : tie.Need-zero-from-requires
 zero-from-requires c κs = within (c .before .before .before) .0
@@ -82,7 +83,7 @@ returns-2 : tie.Need-returns-2
 returns-2 c =
     let e = c .before .before .before .before .before in
     let start = e .before .before .before .before .before in
-    rw (c .before .before .before .all-tags .ensures, c .before .sum-of .ensures .0, c .zero-from .ensures)
+    rw (c .before .before .before .all-blocks .ensures, c .before .marks-of .ensures .0, c .zero-from .ensures)
     (count-keeps (start .args .setup) _ _ _ (e .before .before .before .top-of .ensures)
     (e .before .before .size-of .ensures) (e .before .words-of .ensures) (start .args .map .now) (omega (arith, e .bytes-past .ensures)))
 
@@ -98,9 +99,9 @@ keeps-section-spec =
     bytes-past-requires
     add-if1
     returns
-    all-tags-requires
-    slice-aggregate-sum-of
-    sum-of-requires
+    all-blocks-requires
+    slice-aggregate-marks-of
+    marks-of-requires
     add-result
     zero-from-requires
     returns-2)

@@ -2,7 +2,7 @@
 use Prim.Native.Nat.{_/_, _%_}
 use native.Mathlib.Omega.{arith}
 use borrow.Author.Tests.{eq-eqb, ne-eqb}
-use Rattle.buddy.specs.Sum.{isRest}
+use Rattle.buddy.specs.Marks.{isRest}
 use Rattle.buddy.proofs.Adding.{odd-past}
 use borrow.Author.Needs.{needs}
 use Rattle.buddy.proofs.tree.is_rest.Statement.{statement}

@@ -1,6 +1,6 @@
 -- `is_tag` tells the two tags of a size. Assumes nothing.
 use borrow.Author.Needs.{needs}
-use Rattle.buddy.specs.Sum.{isTag}
+use Rattle.buddy.specs.Marks.{isTag}
 use Rattle.buddy.proofs.tree.is_tag.Statement.{statement}
 use Rattle.buddy.proofs.tree.is_tag.Tie as tie
 

@@ -5,7 +5,7 @@ use native.Mathlib.Omega.{arith}
 use Prim.Native.Nat.{_-_, _/_}
 use lib.ListN.{getD}
 use Rattle.block.specs.Map.{liveTag}
-use Rattle.buddy.specs.Sum.{tagLevel}
+use Rattle.buddy.specs.Marks.{tagLevel}
 use Rattle.block.proofs.Size.{size-pos}
 use Rattle.buddy.proofs.Adding.{zero-stops, above-stops, off-stops, starts-else}
 use Rattle.buddy.proofs.tree.starts_block.Statement.{statement}
