@@ -1,4 +1,5 @@
--- Words joined by "or", in parts: whether those passed, joined, and those left are below 2 ^ b. Assumes nothing.
+-- A test of those passed, and of those left: of entries one by one, and of words joined by "or", in parts, which are below 2 ^ b.
+-- Assumes nothing.
 use Prim.Native.Nat.{ℕ, zero, suc, _+_, _-_, _^_, _≤_, _<_}
 use native.Mathlib.Numerals.{add-one}
 use native.Mathlib.Omega.{arith}
@@ -14,13 +15,23 @@ use Rattle.buddy.proofs.Parts.{and-assoc}
 use Rattle.machine.specs.Sound.{every}
 use Rattle.machine.proofs.Every.{below}
 
--- those that are passed, joined, and those left
-abbrev pub parted : ℕ → ℕ → ℕ → List ℕ → Bool
-parted b all i words = ltb all (2 ^ b) && every (below (2 ^ b)) (drop i words)
-
 always : (t : Bool) → (t && true) ≡ t
 always true = refl
 always false = refl
+
+-- what a test of those passed says, and a test of those left
+module _ {A : Type 0} (f : A → Bool) (passed : Bool) (l : List A) (i : ℕ) where
+  pub also-next : (d : A) → i < length l → (passed && every f (drop i l)) ≡ ((passed && f (getD l i d)) && every f (drop (i + 1) l))
+  unfolding every
+  also-next d h = rw (drop-cons l i d, add-one) (and-assoc passed (f (getD l i d)) _)
+
+  pub also-end : length l ≤ i → (passed && every f (drop i l)) ≡ passed
+  unfolding every
+  also-end h = rw (drop-of-length-le l h) (always passed)
+
+-- those that are passed, joined, and those left
+abbrev pub parted : ℕ → ℕ → ℕ → List ℕ → Bool
+parted b all i words = ltb all (2 ^ b) && every (below (2 ^ b)) (drop i words)
 
 -- a test of the first n entries and of the others
 every-split : (f : ℕ → Bool) (n : ℕ) (l : List ℕ) → every f l ≡ (every f (take n l) && every f (drop n l))
@@ -32,8 +43,7 @@ every-split f (suc n) (x ∷ xs) = rw (every-split f n xs) (and-assoc (f x) (eve
 module _ (b all i : ℕ) (words : List ℕ) where
   -- one word more
   pub part-next : i < length words → parted b all i words ≡ parted b (bitOr all (getD words i 0)) (i + 1) words
-  unfolding every
-  part-next h = rw (drop-cons words i 0, add-one, or-below) (and-assoc (ltb all (2 ^ b)) (ltb (getD words i 0) (2 ^ b)) _)
+  part-next h = rw or-below (also-next (below (2 ^ b)) (ltb all (2 ^ b)) words i 0 h)
 
   -- those up to another place, joined first
   pub part-on : (e r : ℕ) → i ≤ e → ltb r (2 ^ b) ≡ every (below (2 ^ b)) (take (e - i) (drop i words))
@@ -45,5 +55,4 @@ module _ (b all i : ℕ) (words : List ℕ) where
 
   -- no word is left
   pub part-end : length words ≤ i → parted b all i words ≡ ltb all (2 ^ b)
-  unfolding every
-  part-end h = rw (drop-of-length-le words h) (always (ltb all (2 ^ b)))
+  part-end h = also-end (below (2 ^ b)) (ltb all (2 ^ b)) words i h

@@ -84,18 +84,17 @@ fn is_definition(b: u64, x: Definition) -> bool
     !x.defined | ((x.word <= 127) & ((x.left as u64) < b) & ((x.right as u64) < b))
 }
 
-// Each field's definition is undefined or in range.
+// Each field's definition is undefined or in range: all are looked at, which takes no branch for each.
 fn are_definitions(b: u64, definitions: [Definition; 36]) -> bool
     ensures { λ r. ⌜ r ≡ every (isDefinition b) definitions ⌝ }
 {
+    let mut all = true;
     let mut i = 0;
     while i < 36 {
-        if !is_definition(b, definitions[i]) {
-            return false;
-        }
+        all = all & is_definition(b, definitions[i]);
         i += 1;
     }
-    true
+    all
 }
 
 // The stack of contents: at most 128 entries, and those used are words.

@@ -48,7 +48,11 @@ loop-less : tie.Need-loop-less Inv-loop μ-loop
 loop-less c = omega arith
 
 loop-again : tie.Need-loop-again Inv-loop μ-loop
-loop-again c = (omega arith, c .before .before .before .loop .inv .1 ∙ part-on (c .before .before .before .before .before .args .b) (c .before .before .before .loop .all) (c .before .before .before .loop .i) (c .before .before .before .before .before .args .words .now) (c .before .before .before .loop .i + 64) (c .joined .result) (omega arith) (c .joined .ensures (c .before .before .before .before .before .args .b)))
+loop-again c =
+    let l = c .before .before .before in
+    let start = l .before .before in
+    let on = part-on (start .args .b) (l .loop .all) (l .loop .i) (start .args .words .now) (l .loop .i + 64) in
+    (omega arith, l .loop .inv .1 ∙ on (c .joined .result) (omega arith) (c .joined .ensures (start .args .b)))
 
 mul-joined-2 : tie.Need-mul-joined-2 Inv-loop μ-loop
 mul-joined-2 c = search needs
@@ -69,7 +73,13 @@ power-requires : tie.Need-power-requires Inv-loop μ-loop
 power-requires c κs = search needs
 
 returns : tie.Need-returns Inv-loop μ-loop
-returns c = let words = c .before .before .before .before .before .before .args .words .now in rw (c .power .ensures) (sym (c .before .before .before .before .loop .inv .1 ∙ part-on (c .before .before .before .before .before .before .args .b) (c .before .before .before .before .loop .all) (c .before .before .before .before .loop .i) words (length words) (c .before .joined2 .result) (omega arith) (c .before .joined2 .ensures (c .before .before .before .before .before .before .args .b)) ∙ part-end (c .before .before .before .before .before .before .args .b) _ (length words) words (omega arith)))
+returns c =
+    let l = c .before .before .before .before in
+    let start = l .before .before in
+    let words = start .args .words .now in
+    let rest = c .before .joined2 in
+    let on = part-on (start .args .b) (l .loop .all) (l .loop .i) words (length words) (rest .result) (omega arith) (rest .ensures (start .args .b)) in
+    rw (c .power .ensures) (sym (l .loop .inv .1 ∙ on ∙ part-end (start .args .b) _ (length words) words (omega arith)))
 
 pub are-words-spec : {M : Type 1} → statement M
 are-words-spec =
