@@ -1,0 +1,21 @@
+-- `silence::write_silent` meets its contract. Assumes nothing.
+use borrow.Author.Needs.{needs}
+use Rattle.silence.proofs.write_silent.Statement.{statement}
+use Rattle.silence.proofs.write_silent.Tie as tie
+
+write-picked-requires : tie.Need-write-picked-requires
+write-picked-requires c κs = search needs
+
+same-length : tie.Need-same-length
+same-length c = search needs
+
+returns : tie.Need-returns
+returns c = (c .before .before .write-picked .ensures .left, c .before .before .write-picked .ensures .numbered)
+
+pub write-silent-spec : {M : Type 1} → statement M
+write-silent-spec =
+    tie.close
+    (tie.spec
+    write-picked-requires
+    same-length
+    returns)

@@ -1,0 +1,2 @@
+-- Stops without a recording, and stops that stand twice.
+pub mod Silence
