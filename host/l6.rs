@@ -96,7 +96,7 @@ pub const REFUSALS: [(Refusal, &str); 32] = [
     (TypedTooLong, "with this line the table has too many rows"),
     (Corrections, "the list of corrections has a wrong length, a wrong row 0 or a next index outside"),
     (CorrectionsLoop, "the chain of corrections reaches a row a second time"),
-    (CorrectionsShort, "there is no room for the corrected stops"),
+    (CorrectionsShort, "there is no room for the stops to write"),
     (Hours, "the opening hours break their rules, or the minute is above 1,439"),
     (Kinds, "row 1 is no line, or a row names one of the wrong kind"),
     (NoWidth, "the width is neither 36 nor 48"),
@@ -413,6 +413,23 @@ pub fn recordings(list: &[u64], output: &mut [u64]) -> Result<usize, Refusal> {
     Ok(count as usize)
 }
 
+/// Silent stops: those of the stops on display that no pair of stop and recording has with a recording other than 0 (l6.h), at the start of
+/// the output in their order, and how many they are. The other numbers stay; all do where it is refused.
+pub fn silent(stops: &[u64], pairs: &[u64], output: &mut [u64]) -> Result<usize, Refusal> {
+    let mut count = 0;
+    done(unsafe {
+        raw::l6_silent(stops.as_ptr(), stops.len(), pairs.as_ptr(), pairs.len(), output.as_mut_ptr(), output.len(), &mut count)
+    })?;
+    Ok(count as usize)
+}
+
+/// Repeated stops: those that stand twice or more, each once, as [`silent`] writes its stops.
+pub fn repeated(stops: &[u64], output: &mut [u64]) -> Result<usize, Refusal> {
+    let mut count = 0;
+    done(unsafe { raw::l6_repeated(stops.as_ptr(), stops.len(), output.as_mut_ptr(), output.len(), &mut count) })?;
+    Ok(count as usize)
+}
+
 /// The numbers of a file, of eight bytes each, the low one first. No multiple of eight bytes counts as one number, which no table, no list
 /// of hours and no list of corrections has.
 pub fn numbers(bytes: &[u8]) -> Vec<u64> {
@@ -515,6 +532,11 @@ pub mod raw {
             width: u64, text: *const u8, text_length: usize, table: *mut u64, table_length: usize, count: *mut u64, line: *mut u64,
         ) -> u64;
         pub fn l6_recordings(list: *const u64, list_length: usize, output: *mut u64, output_length: usize, count: *mut u64) -> u64;
+        pub fn l6_silent(
+            stops: *const u64, stops_length: usize, pairs: *const u64, pairs_length: usize, output: *mut u64, output_length: usize,
+            count: *mut u64,
+        ) -> u64;
+        pub fn l6_repeated(stops: *const u64, stops_length: usize, output: *mut u64, output_length: usize, count: *mut u64) -> u64;
         pub fn l6_save(width: u64, words: *const u64, words_length: usize, bytes: *mut u8, bytes_length: usize, count: *mut u64) -> u64;
         pub fn l6_load(width: u64, bytes: *const u8, bytes_length: usize, n: usize, words: *mut u64, words_length: usize) -> u64;
     }

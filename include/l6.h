@@ -70,7 +70,7 @@ enum {
     /* l6_recordings */
     L6_CORRECTIONS = 26,      /* a list of corrections of a wrong length, whose row 0 breaks its form, or with a next index outside */
     L6_CORRECTIONS_LOOP = 27, /* the chain of corrections reaches a row a second time */
-    L6_CORRECTIONS_SHORT = 28, /* the stops and recordings to write have no room */
+    L6_CORRECTIONS_SHORT = 28, /* the stops, or stops and recordings, to write have no room; of l6_silent and l6_repeated too */
 
     L6_HOURS = 29,            /* opening hours of a wrong length, with an entry that breaks the rules, or a minute above 1,439 */
 
@@ -248,6 +248,18 @@ uint64_t l6_hours(const uint64_t *windows, size_t windows_length, const uint64_t
  * order of the tests, each over the whole list. */
 uint64_t l6_recordings(const uint64_t *list, size_t list_length, uint64_t *output, size_t output_length, uint64_t *count);
 
+/* Stops without a recording, and stops that stand twice: what a museum asks before it opens.
+ * stops are the numbers of the stops on display. pairs are a stop and a recording each, as l6_recordings writes them; recording 0 is none,
+ * and a last number that is no pair is a stop without one.
+ * l6_silent writes each of the stops that no pair with a recording has, in their order and as often as it stands there. l6_repeated writes
+ * each that stands there twice or more, once, in the order in which they first occur.
+ * Both write at the start of output, and into count how many they wrote; numbers past them stay. An output as long as stops has room in any
+ * case. They look each stop up along pairs or stops, so the time grows with the product of two lengths.
+ * Answers 0 or L6_CORRECTIONS_SHORT; output and count are unchanged then. */
+uint64_t l6_silent(const uint64_t *stops, size_t stops_length, const uint64_t *pairs, size_t pairs_length, uint64_t *output,
+                   size_t output_length, uint64_t *count);
+uint64_t l6_repeated(const uint64_t *stops, size_t stops_length, uint64_t *output, size_t output_length, uint64_t *count);
+
 /* Tours typed as L6 lines (docs/TOURS.md), for words of so many bits.
  * Reads text, all of it. Writes the table at the start of table, row 0 as zeros, and into count how many rows it has, ten numbers each; the
  * numbers past them stay, and line. Every table that is read passes l6_check at its width.
@@ -310,7 +322,7 @@ static inline const char *l6_words(uint64_t answer) {
     case L6_TYPED_TOO_LONG: return "with this line the table has too many rows";
     case L6_CORRECTIONS: return "the list of corrections has a wrong length, a wrong row 0 or a next index outside";
     case L6_CORRECTIONS_LOOP: return "the chain of corrections reaches a row a second time";
-    case L6_CORRECTIONS_SHORT: return "there is no room for the corrected stops";
+    case L6_CORRECTIONS_SHORT: return "there is no room for the stops to write";
     case L6_HOURS: return "the opening hours break their rules, or the minute is above 1,439";
     case L6_KINDS: return "row 1 is no line, or a row names one of the wrong kind";
     case L6_NO_WIDTH: return "the width is neither 36 nor 48";

@@ -12,6 +12,7 @@ type Run = unsafe extern "C" fn(
 ) -> u64;
 type Hours = unsafe extern "C" fn(*const u64, usize, *const u64, usize, u64, u64, *mut u64) -> u64;
 type Recordings = unsafe extern "C" fn(*const u64, usize, *mut u64, usize, *mut u64) -> u64;
+type Silent = unsafe extern "C" fn(*const u64, usize, *const u64, usize, *mut u64, usize, *mut u64) -> u64;
 type Read = unsafe extern "C" fn(u64, *const u8, usize, *mut u64, usize, *mut u64, *mut u64) -> u64;
 type Save = unsafe extern "C" fn(u64, *const u64, usize, *mut u8, usize, *mut u64) -> u64;
 type Load = unsafe extern "C" fn(u64, *const u8, usize, usize, *mut u64, usize) -> u64;
@@ -26,6 +27,8 @@ pub struct Calls {
     list_blocks: unsafe extern "C" fn(*const u8, usize, u64, *mut u64, usize) -> u64,
     hours: Hours,
     recordings: Recordings,
+    silent: Silent,
+    repeated: Recordings,
     read: Read,
     save: Save,
     load: Load,
@@ -50,6 +53,10 @@ extern "C" {
         windows: *const u64, n: usize, exceptions: *const u64, m: usize, day: u64, minute: u64, row: *mut u64,
     ) -> u64;
     fn header_recordings(list: *const u64, given: usize, output: *mut u64, room: usize, count: *mut u64) -> u64;
+    fn header_silent(
+        stops: *const u64, n: usize, pairs: *const u64, m: usize, output: *mut u64, room: usize, count: *mut u64,
+    ) -> u64;
+    fn header_repeated(stops: *const u64, n: usize, output: *mut u64, room: usize, count: *mut u64) -> u64;
     fn header_read(width: u64, text: *const u8, given: usize, table: *mut u64, room: usize, count: *mut u64, line: *mut u64) -> u64;
     fn header_save(width: u64, words: *const u64, given: usize, bytes: *mut u8, room: usize, count: *mut u64) -> u64;
     fn header_load(width: u64, bytes: *const u8, given: usize, n: usize, words: *mut u64, room: usize) -> u64;
@@ -70,13 +77,14 @@ extern "C" {
 pub static HEADER: Calls = Calls {
     fresh: header_fresh, step: header_step, run: header_run, check: header_check, defined: header_defined,
     count_blocks: header_count_blocks,
-    list_blocks: header_list_blocks, hours: header_hours, recordings: header_recordings,
+    list_blocks: header_list_blocks, hours: header_hours, recordings: header_recordings, silent: header_silent, repeated: header_repeated,
     read: header_read, save: header_save, load: header_load, extend: header_extend,
 };
 pub static MODULE: Calls = Calls {
     fresh: module::l6_fresh, step: module::l6_step, run: module::l6_run, check: module::l6_check, defined: module::l6_defined,
     count_blocks: module::l6_count_blocks, list_blocks: module::l6_list_blocks, hours: module::l6_hours,
-    recordings: module::l6_recordings, read: module::l6_read, save: module::l6_save, load: module::l6_load, extend: module::l6_extend,
+    recordings: module::l6_recordings, silent: module::l6_silent, repeated: module::l6_repeated,
+    read: module::l6_read, save: module::l6_save, load: module::l6_load, extend: module::l6_extend,
 };
 
 /// What is lent and only read.
@@ -122,6 +130,12 @@ impl Calls {
     }
     pub fn recordings(&self, list: &[u64], output: &mut [u64], count: &mut u64) -> u64 {
         unsafe { (self.recordings)(list.as_ptr(), list.len(), output.as_mut_ptr(), output.len(), count) }
+    }
+    pub fn silent(&self, stops: &[u64], pairs: &[u64], output: &mut [u64], count: &mut u64) -> u64 {
+        unsafe { (self.silent)(stops.as_ptr(), stops.len(), pairs.as_ptr(), pairs.len(), output.as_mut_ptr(), output.len(), count) }
+    }
+    pub fn repeated(&self, stops: &[u64], output: &mut [u64], count: &mut u64) -> u64 {
+        unsafe { (self.repeated)(stops.as_ptr(), stops.len(), output.as_mut_ptr(), output.len(), count) }
     }
     pub fn read(&self, width: u64, text: &[u8], table: &mut [u64], count: &mut u64, line: &mut u64) -> u64 {
         unsafe { (self.read)(width, text.as_ptr(), text.len(), table.as_mut_ptr(), table.len(), count, line) }

@@ -5,8 +5,8 @@
 //! table, input or lengths. Calls go through the header and through the Rust module in turn; wrong lengths are tried with both.
 //! With each tour go drawn opening hours, and between steps storage is extended, to drawn last addresses, refused ones among them.
 //! Pairs of tours free the same blocks in two orders and then get the same sizes (ticket 14).
-//! Before the generated tours, 20,000 lists of words and bytes are saved and loaded by bit columns, and as many lists of corrections
-//! answered, damaged ones among them, with both and with the safe calls.
+//! Before the generated tours, 20,000 lists of words and bytes are saved and loaded by bit columns, as many lists of corrections answered,
+//! damaged ones among them, and as many lists of stops looked through for silent and repeated ones, with both and with the safe calls.
 //! Before these, 40,000 drafts of tables are checked for fields that are used before they are defined, and those that got a yes are run.
 //! Before these, 20,000 texts of L6 lines are read, damaged ones among them, into tables of drawn lengths; each table passes the table check,
 //! and printed as typed lines it is read again.
@@ -28,6 +28,7 @@ mod lists;
 mod printed;
 mod raw;
 mod recordings;
+mod silence;
 mod texts;
 mod typed;
 
@@ -42,7 +43,7 @@ use std::ffi::CStr;
 /// Widths that are none.
 const OTHERS: [u64; 8] = [0, 35, 37, 40, 47, 49, 1 << 32 | 36, u64::MAX];
 
-/// How many lists are saved and loaded by bit columns, and how many lists of corrections are answered.
+/// How many lists are saved and loaded by bit columns, and how many lists of corrections and of stops on display are answered.
 const LISTS: u64 = 20_000;
 
 /// How many texts of L6 lines are read.
@@ -383,6 +384,30 @@ impl Compared {
         self.same("safe corrections", (safe, output), (expected, wanted));
     }
 
+    /// Silent and repeated stops of drawn lists, with room for all, for one fewer and for a drawn number.
+    fn displayed(&mut self, rng: &mut Rng) {
+        let (stops, pairs) = lists::displayed(rng);
+        let all = stops.len();
+        let found = silence::silent(&stops, &pairs, &mut vec![0; all]).unwrap() as usize;
+        let twice = silence::repeated(&stops, &mut vec![0; all]).unwrap() as usize;
+        let drawn = rng.below(all as u64 + 1) as usize;
+        for room in [all + 1, found, found.saturating_sub(1), twice, twice.saturating_sub(1), drawn] {
+            let mut wanted = [vec![77; room], vec![77; room]];
+            let expected = [silence::silent(&stops, &pairs, &mut wanted[0]), silence::repeated(&stops, &mut wanted[1])];
+            for calls in [&HEADER, &MODULE] {
+                let (mut output, mut count) = ([vec![77; room], vec![77; room]], [77; 2]);
+                let answers = [calls.silent(&stops, &pairs, &mut output[0], &mut count[0]), calls.repeated(&stops, &mut output[1], &mut count[1])];
+                answers.iter().for_each(|&answer| self.answered(answer, 0));
+                let told = (expected.map(|e| e.err().unwrap_or(0)), expected.map(|e| e.unwrap_or(77)), &wanted);
+                self.same("silent and repeated stops", (answers, count, &output), told);
+            }
+            let mut output = [vec![77; room], vec![77; room]];
+            let safe = [l6::silent(&stops, &pairs, &mut output[0]), l6::repeated(&stops, &mut output[1])];
+            let safe = safe.map(|told| told.map(|count| count as u64).map_err(|refusal| refusal.number()));
+            self.same("safe silent and repeated stops", (safe, output), (expected, wanted));
+        }
+    }
+
     /// Ticket 14: rooms closed in two drawn orders. What is delivered afterwards, and where there is no room, is the same.
     fn rooms(&mut self, rng: &mut Rng) -> Vec<u64> {
         let sizes: Vec<u64> = (0..12).map(|_| 1 + rng.below(8)).collect();
@@ -582,6 +607,11 @@ fn main() {
         compared.label = format!("lists {i} of seed {seed}");
         compared.columns(&mut rng);
         compared.corrected(&mut rng);
+    }
+    let mut rng_of_stops = Rng(seed ^ 32);
+    for i in 0..LISTS {
+        compared.label = format!("stops {i} of seed {seed}");
+        compared.displayed(&mut rng_of_stops);
     }
     let mut rooms = vec![];
     for i in 0..1000 {

@@ -34,6 +34,13 @@ uint64_t header_hours(const uint64_t *windows, size_t windows_length, const uint
 uint64_t header_recordings(const uint64_t *list, size_t list_length, uint64_t *output, size_t output_length, uint64_t *count) {
     return l6_recordings(LENT(list), LENT(output), count);
 }
+uint64_t header_silent(const uint64_t *stops, size_t stops_length, const uint64_t *pairs, size_t pairs_length, uint64_t *output,
+                       size_t output_length, uint64_t *count) {
+    return l6_silent(LENT(stops), LENT(pairs), LENT(output), count);
+}
+uint64_t header_repeated(const uint64_t *stops, size_t stops_length, uint64_t *output, size_t output_length, uint64_t *count) {
+    return l6_repeated(LENT(stops), LENT(output), count);
+}
 uint64_t header_read(uint64_t width, const uint8_t *text, size_t text_length, uint64_t *table, size_t table_length, uint64_t *count,
                      uint64_t *line) {
     return l6_read(width, LENT(text), LENT(table), count, line);

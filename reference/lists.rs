@@ -1,5 +1,5 @@
-//! Drawn lists for compare.rs: windows and exceptions with a day and a minute, and corrections; some with a number or a length that breaks
-//! the rules.
+//! Drawn lists for compare.rs: windows and exceptions with a day and a minute, and corrections, some with a number or a length that breaks
+//! the rules; stops on display with pairs of stop and recording.
 use crate::generator::Rng;
 
 pub struct Lists { pub windows: Vec<u64>, pub exceptions: Vec<u64>, pub day: u64, pub minute: u64 }
@@ -66,4 +66,23 @@ pub fn corrections(rng: &mut Rng) -> Vec<u64> {
         _ => {}
     }
     list
+}
+
+/// Stops on display and pairs of stop and recording: of few numbers or many, so that some stops stand twice, some have no pair, one without a
+/// recording, or several; every third list of pairs has one number more or fewer. Pairs of most stops of the list are there in their order.
+pub fn displayed(rng: &mut Rng) -> (Vec<u64>, Vec<u64>) {
+    let range = rng.pick(&[2, 10, 60, 1000, u64::MAX]);
+    let stops: Vec<u64> = (0..rng.below(40)).map(|_| rng.below(range)).collect();
+    let heard = rng.pick(&[0, 50, 90, 100]);
+    let mut pairs: Vec<u64> = vec![];
+    for &stop in &stops {
+        if rng.chance(heard) { pairs.extend([stop, rng.pick(&[1, 1, 1, 7, u64::MAX])]) }
+        if rng.chance(20) { pairs.extend([rng.below(range), rng.pick(&[0, 0, 1])]) }
+    }
+    match rng.below(6) {
+        0 => pairs.push(stops.last().copied().unwrap_or(1)),
+        1 => { pairs.pop(); }
+        _ => {}
+    }
+    (stops, pairs)
 }

@@ -6,3 +6,4 @@ pub mod Hosts
 pub mod Blocks
 pub mod Corollaries
 pub mod Alone
+pub mod Telling

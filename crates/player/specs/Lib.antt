@@ -7,4 +7,5 @@ pub mod Hours
 pub mod Keeping
 pub mod Playing
 pub mod Recordings
+pub mod Silence
 pub mod Typed

@@ -4,6 +4,7 @@ pub mod defining;
 pub mod extending;
 pub mod keeping;
 pub mod opening;
+pub mod rehearsing;
 pub mod typing;
 
 ghost use Prim.Native.Nat.{_≤_};
