@@ -8,7 +8,7 @@ SHELL = /bin/bash
 help:
 	@awk '/^#/ { sub(/^# ?/, ""); said = said (said ? " " : "") $$0; next } /^[a-z]+:/ { split($$1, name, ":"); printf "make %-11s %s\n", name[1], said; said = "" } /^$$/ { said = "" }' Makefile
 
-# Proves tourread, tourcheck and tourrun and builds them (minutes the first time), then reads, checks and plays the sample museum.
+# Proves tourread, tourcheck, tourrun and tourlist and builds them (minutes the first time), then reads, checks and plays the sample museum.
 tour: tourrun
 	tours/play tours/museum.l6
 
@@ -19,7 +19,7 @@ tours: tourrun
 
 # Proves tourread, tourcheck and tourrun and builds them into target/bin.
 tourrun:
-	rt check tourread tourcheck tourrun | grep '^rt:'
+	rt check tourread tourcheck tourrun tourlist | grep '^rt:'
 
 # Proves the library for players and writes target/staticlib/libplayer.a (minutes the first time).
 libplayer:
@@ -66,6 +66,9 @@ expected: tourrun
 	rm crates/tourrun/data/stops.in
 	tours/play --files tours/refusal-14.l6 crates/tourcheck/data
 	rm crates/tourcheck/data/stops.in
+	tours/play --files tours/left.l6 crates/tourlist/data
+	rm crates/tourlist/data/stops.in
+	cd crates/tourlist/data && ../../../target/reference tourlist > ../stdout
 	tours/play --files bench/lists.l6 crates/laps/data
 	rm crates/laps/data/stops.in
 	rustc -O --edition 2021 -o target/rival bench/main.rs

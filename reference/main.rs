@@ -1,5 +1,5 @@
 //! Commands over the reference engine.
-//! Usage: reference gen|cover SEED N | comparison|drafts|scripts SEED N stdin|stdout | bench | tourrun
+//! Usage: reference gen|cover SEED N | comparison|drafts|scripts SEED N stdin|stdout | bench | tourrun | tourlist
 #[allow(dead_code)]
 mod bytes;
 mod comparison;
@@ -72,12 +72,17 @@ fn cover(seed: u64, count: u64) {
     println!("last step reports something in {reports} of {count} cases");
 }
 
-/// Bench cases: what tourrun prints.
-fn tour(table: &[u8], input: &[u8]) -> String {
+/// Bench cases: the engine that tourrun runs.
+fn files_engine(table: &[u8], input: &[u8]) -> Engine {
     let bad = table.len() % 8 != 0 || table.len() > 64000; // "counts as refusal 1 at the first step"
     let numbers = table.chunks_exact(8).map(|eight| u64::from_le_bytes(eight.try_into().unwrap()));
     let numbers = if bad { vec![] } else { numbers.collect() };
-    let mut engine = Engine::fresh(numbers, input[..input.len().min(4096)].to_vec(), vec![0; 4096], 4096, 36);
+    Engine::fresh(numbers, input[..input.len().min(4096)].to_vec(), vec![0; 4096], 4096, 36)
+}
+
+/// Bench cases: what tourrun prints.
+fn tour(table: &[u8], input: &[u8]) -> String {
+    let mut engine = files_engine(table, input);
     let (answer, count, _) = engine.run(100_000);
     let codes: Vec<String> = engine.state.written.iter().map(|code| format!("{code:02o}")).collect();
     let word = match answer {
@@ -86,6 +91,41 @@ fn tour(table: &[u8], input: &[u8]) -> String {
         Answer::Refused(k) => k.to_string(),
     };
     format!("{}\n{word} {count}\n", codes.join(" "))
+}
+
+/// What tourlist prints: the state that tourrun's run leaves, by blocks.
+fn listed(table: &[u8], input: &[u8]) -> String {
+    let mut engine = files_engine(table, input);
+    engine.run(100_000);
+    let s = &engine.state;
+    let (d, s1, s2) = s.setup.unwrap_or((0, 0, 0));
+    let mut lines = vec![format!("set-up {d} {s1} {s2}")];
+    for (letter, &word) in ('A'..='Z').zip(&s.bugs) {
+        if word > 0 { lines.push(format!("bug {letter} {word:012o}")) }
+    }
+    for (name, field) in ('0'..='9').chain('A'..='Z').zip(&s.fields) {
+        if let Some(f) = field { lines.push(format!("field {name} {} {} {}", f.word, f.left, f.right)) }
+    }
+    let mut blocks: Vec<(&Block, bool)> = s.live.iter().map(|b| (b, true)).chain(s.free.iter().map(|b| (b, false))).collect();
+    blocks.sort_by_key(|(b, _)| b.start);
+    for (b, live) in blocks {
+        let last = b.start + b.size - 1;
+        lines.push(format!("{} {} {last} {}", if live { "block" } else { "free" }, b.start, b.size));
+        for address in (b.start..=last).filter(|_| live) { lines.push(format!("{address:05o} {:012o}", s.storage[(address - s1) as usize])) }
+    }
+    lines.push(format!("stacks {} {} {}", s.contents.len(), s.definitions.len(), s.returns.len()));
+    lines.extend(s.contents.iter().map(|word| format!("contents {word:012o}")));
+    lines.extend(s.definitions.iter().map(|saved| match saved {
+        Some(f) => format!("definition {} {} {}", f.word, f.left, f.right),
+        None => "definition undefined".to_string(),
+    }));
+    lines.extend(s.returns.iter().map(|place| match place {
+        Place::Tests(line) => format!("place 0 0 {line}"),
+        Place::Operation(row, line) => format!("place 1 {row} {line}"),
+        Place::Exit(line) => format!("place 2 0 {line}"),
+        Place::Finished => "place 3 0 0".to_string(),
+    }));
+    lines.join("\n") + "\n"
 }
 
 /// A bench program: set-up with d = 8, s1 = 8, s2 = 23, then the operations, run on seven input characters.
@@ -152,7 +192,8 @@ fn main() {
         Some("drafts") => print!("{}", drafts::stdout(number(2), number(3))),
         Some("comparison") => print!("{}", comparison::stdout(number(2), number(3))),
         Some("bench") => bench(),
+        Some("tourlist") => print!("{}", listed(&file("tour.tab"), &file("stops.in"))),
         Some("tourrun") => print!("{}", tour(&file("tour.tab"), &file("stops.in"))),
-        _ => eprintln!("usage: reference gen|cover SEED N | comparison|drafts|scripts SEED N stdin|stdout | bench | tourrun"),
+        _ => eprintln!("usage: reference gen|cover SEED N | comparison|drafts|scripts SEED N stdin|stdout | bench | tourrun | tourlist"),
     }
 }

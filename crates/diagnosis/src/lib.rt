@@ -14,7 +14,7 @@ use tour::text::put_decimal;
 use tour::text::put_word;
 
 // The character of a field's name.
-fn field_character(n: u64) -> u8
+pub fn field_character(n: u64) -> u8
     ensures { λ r. ⌜ r ≡ fieldCharacter n ⌝ }
 {
     let name = (n % 36) as u8;

@@ -1,0 +1,5 @@
+-- Laws of the listing.
+pub mod Octal
+pub mod Pieces
+pub mod Texts
+pub mod Owners

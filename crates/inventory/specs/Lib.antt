@@ -1,0 +1,3 @@
+-- What tourlist prints of the bytes that it reads.
+pub mod Inventory
+pub mod Puts
