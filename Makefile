@@ -26,8 +26,10 @@ libplayer:
 	rt staticlib player | grep '^rt:'
 
 # Builds the example hosts in C and in Rust, plays the sample museum with both, in one go and in two processes, and compares what they print.
+# Then builds the producer's tools and tries tours/rehearse, tours/trace and tours/draw. The hosts stay in target/bin.
 player: libplayer tourrun
 	host/run
+	host/rehearsed
 
 # Holds libplayer.a against the reference engine on generated and damaged tours, by step and by run: make compare SEED=7 STEPS=50000.
 SEED = 1966
