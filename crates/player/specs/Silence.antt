@@ -1,12 +1,13 @@
 -- l6_silent and l6_repeated: what they answer, and what they leave in the memory lent to them. Assumes nothing.
 use Prim.Native.Nat.{ℕ}
 use mathlib.Core.List.{List}
-use Rattle.silence.specs.declared.Told.{Told}
-use Rattle.silence.specs.declared.Told.the-variants.{Count, OutputShort}
-use Rattle.silence.specs.Silence.{Left, telling, toldNumber}
+use Rattle.word.specs.Told.{number}
+use Rattle.silence.specs.declared.Listed.{Listed}
+use Rattle.silence.specs.declared.Listed.the-variants.{Count, OutputShort}
+use Rattle.silence.specs.Silence.{Left, telling, toldListed}
 
 -- how many were written, otherwise the count as it was
-unfoldable pub countAfter : Told → ℕ → ℕ
+unfoldable pub countAfter : Listed → ℕ → ℕ
 countAfter (Count n) count = n
 countAfter OutputShort count = count
 
@@ -15,8 +16,8 @@ pub record CountedLeft : Type 0 where
   pub count : ℕ
 
 -- 0, or the number of the refusal
-unfoldable pub countedAs : Told → ℕ → CountedLeft
-countedAs told count = record { answer = toldNumber told; count = countAfter told count }
+unfoldable pub countedAs : Listed → ℕ → CountedLeft
+countedAs told count = record { answer = number (toldListed told); count = countAfter told count }
 
 pub record StopsLeft : Type 0 where
   pub answer : ℕ

@@ -2,20 +2,20 @@
 ghost use mathlib.Core.Path.{_≡_};
 ghost use Rattle.silence.specs.Silence.{silent, repeated};
 ghost use Rattle.player.specs.Silence.{CountedLeft, countedAs, stopsLeft};
-use silence::Told;
+use silence::Listed;
 use silence::write_repeated;
 use silence::write_silent;
 
 // The number of an answer, with the count put in its place.
-fn tell(told: Told, count: &mut u64) -> u64
+fn tell(told: Listed, count: &mut u64) -> u64
     ensures { λ r. ⌜ record { answer = r; count = now (count .exit) } ≡ countedAs told (now (count .entry)) ⌝ }
 {
     match told {
-        Told::Count(n) => {
+        Listed::Count(n) => {
             *count = n as u64;
             0
         }
-        Told::OutputShort => 28,
+        Listed::OutputShort => 28,
     }
 }
 

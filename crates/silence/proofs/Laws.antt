@@ -8,11 +8,12 @@ use mathlib.Core.Path.{_≡_, refl, sym, ap, _∙_}
 use borrow.Author.Tests.{eq-eqb, ne-eqb, eqb-true}
 use lib.Dec.{eqb, leb}
 use lib.ListN.{length, getD}
+use Rattle.word.specs.Told.{number}
 use Rattle.word.proofs.Tests.{and-true, and-false, by-test, by-eqb, either-way}
 use Rattle.recordings.specs.Recordings.{member}
 use Rattle.recordings.proofs.Counting.{Each, member-first, no-both}
 use Rattle.silence.specs.declared.Asked.the-variants.{Silent}
-use Rattle.silence.specs.Silence.{hasRecording, testOf, picked, silent, Left, telling, toldNumber}
+use Rattle.silence.specs.Silence.{hasRecording, testOf, picked, silent, Left, telling, toldListed}
 
 -- the pair at place k has the stop, with a recording
 pub record RecordedAt (x : ℕ) (pairs : List ℕ) (k : ℕ) : Type 0 where
@@ -143,8 +144,8 @@ module _ (pairs stops : List ℕ) where
       (λ not-there. absurd (no-both (silent-exactly x pairs stops ∙ rw (is, not-there)) out))
 
 -- a call that is refused writes nothing
-pub refused-nothing : (found output : List ℕ) → (toldNumber (telling found output .answer) ≡ 0 → ⊥) → telling found output .output ≡ output
-unfolding telling toldNumber
+pub refused-nothing : (found output : List ℕ) → (number (toldListed (telling found output .answer)) ≡ 0 → ⊥) → telling found output .output ≡ output
+unfolding telling toldListed number
 refused-nothing found output =
-    either-way (λ (l : Left). (toldNumber (l .answer) ≡ 0 → ⊥) → l .output ≡ output) (leb (length found) (length output))
+    either-way (λ (l : Left). (number (toldListed (l .answer)) ≡ 0 → ⊥) → l .output ≡ output) (leb (length found) (length output))
     (λ refused. absurd (refused refl)) (λ _. refl)

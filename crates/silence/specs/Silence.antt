@@ -5,9 +5,10 @@ use mathlib.Core.List.{List, [], _∷_, _++_}
 use mathlib.Core.Path.{_≡_}
 use lib.Dec.{eqb, leb}
 use lib.ListN.{length, getD, take, drop}
+use Rattle.word.specs.Told.{Told, gives, refuses}
 use Rattle.recordings.specs.Recordings.{member}
-use Rattle.silence.specs.declared.Told.{Told}
-use Rattle.silence.specs.declared.Told.the-variants.{Count, OutputShort}
+use Rattle.silence.specs.declared.Listed.{Listed}
+use Rattle.silence.specs.declared.Listed.the-variants.{Count, OutputShort}
 use Rattle.silence.specs.declared.Asked.{Asked}
 use Rattle.silence.specs.declared.Asked.the-variants.{Silent, Repeated}
 
@@ -50,7 +51,7 @@ repeated stops = chosen Repeated [] stops
 
 -- what a call answers and what it leaves in its output
 pub record Left : Type 0 where
-  pub answer : Told
+  pub answer : Listed
   pub output : List ℕ
 
 -- these stops from the start of an output that has room, and how many they are; 28 where it has none
@@ -60,21 +61,16 @@ telling found output =
     (record { answer = Count (length found); output = found ++ drop (length found) output })
     (record { answer = OutputShort; output = output })
 
--- the number of a refusal, 0 where it is none, and the count, 0 where there is none
-unfoldable pub toldNumber : Told → ℕ
-toldNumber (Count n) = 0
-toldNumber OutputShort = 28
+-- the answer in numbers: the count, or 28
+unfoldable pub toldListed : Listed → Told ℕ
+toldListed (Count n) = gives n
+toldListed OutputShort = refuses 28
 
-unfoldable pub toldCount : Told → ℕ
-toldCount (Count n) = n
-toldCount OutputShort = 0
-
--- the answer in numbers
-pub record Numbered (found output : List ℕ) (answer : Told) : Type 0 where
-  pub number : toldNumber answer ≡ cond (leb (length found) (length output)) 0 28
-  pub count : toldCount answer ≡ cond (leb (length found) (length output)) (length found) 0
+-- what a call tells that lists these stops
+unfoldable pub tellingTold : List ℕ → List ℕ → Told ℕ
+tellingTold found output = cond (leb (length found) (length output)) (gives (length found)) (refuses 28)
 
 -- both: what the calls promise
-pub record Tells (found output : List ℕ) (answer : Told) (after : List ℕ) : Type 0 where
+pub record Tells (found output : List ℕ) (answer : Listed) (after : List ℕ) : Type 0 where
   pub left : record { answer = answer; output = after } ≡ telling found output
-  pub numbered : Numbered found output answer
+  pub numbered : toldListed answer ≡ tellingTold found output

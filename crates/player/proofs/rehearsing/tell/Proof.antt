@@ -1,5 +1,6 @@
 -- `player::rehearsing::tell` meets its contract: by the answer. Assumes nothing.
-use Rattle.silence.specs.Silence.{toldNumber}
+use Rattle.word.specs.Told.{number}
+use Rattle.silence.specs.Silence.{toldListed}
 use Rattle.player.specs.Silence.{countAfter, countedAs}
 use borrow.Author.Needs.{needs}
 use Rattle.player.proofs.rehearsing.tell.Statement.{statement}
@@ -12,11 +13,11 @@ enum-told : tie.Need-enum-told
 enum-told c = search needs
 
 returns : tie.Need-returns
-unfolding countedAs countAfter toldNumber
+unfolding countedAs countAfter toldListed number
 returns c = rw (c .before .told .given .1)
 
 returns-2 : tie.Need-returns-2
-unfolding countedAs countAfter toldNumber
+unfolding countedAs countAfter toldListed number
 returns-2 c = rw (c .enum-told .given .1)
 
 pub tell-spec : {M : Type 1} → statement M
