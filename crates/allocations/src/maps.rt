@@ -132,7 +132,8 @@ fn damaged(setup: SetUp, map: &mut [u8], at: usize, byte: u8) -> u64
 
 // An operation on a map that keeps its section: 1 get, 2 free, 3 the live size, 4 whether a damaged map keeps its section.
 fn done(setup: SetUp, map: &mut [u8], operation: u64, n: u64) -> u64
-    requires { ⌜ (words setup % size (top (setup .d)) ≡ 0) × (keeps setup (now map) ≡ true) × (words setup ≤ length (now map)) × (1030 ≤ length (now map)) ⌝ }
+    requires { ⌜ (words setup % size (top (setup .d)) ≡ 0) × (keeps setup (now map) ≡ true) × (words setup ≤ length (now map))
+        × (1030 ≤ length (now map)) ⌝ }
 {
     match operation {
         1 => get(setup, map, n),

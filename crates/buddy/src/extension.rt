@@ -28,7 +28,8 @@ pub fn extends(lent: usize, setup: SetUp, last: u64) -> bool
 
 // The words up to a new last address become free blocks of the largest size.
 pub fn extend_map(setup: SetUp, last: u16, map: &mut [u8])
-    requires { ⌜ ((lent : ℕ) × (fitting lent setup ≡ true) × (extending lent last setup ≡ true)) × (keeps setup (now map) ≡ true) × (words (extendedTo last setup) ≤ length (now map)) ⌝ }
+    requires { ⌜ ((lent : ℕ) × (fitting lent setup ≡ true) × (extending lent last setup ≡ true)) × (keeps setup (now map) ≡ true)
+        × (words (extendedTo last setup) ≤ length (now map)) ⌝ }
     ensures { λ _. ⌜ now (map .exit) ≡ extendedMap last setup (now (map .entry)) ⌝ }
 {
     let k = top_of(setup.d);

@@ -26,7 +26,8 @@ fn zero_all(map: &mut [u8])
 // So many free blocks of the k-th size, in zeros.
 pub(crate) fn free_trees(k: u8, count: usize, map: &mut [u8])
     requires { ⌜ (k ≤ 7) × (count * size k ≤ length (now map)) × (now map ≡ replicate (length (now map)) 0) ⌝ }
-    ensures { λ _. ⌜ now (map .exit) ≡ allWritten k (replicate count Free) ++ replicate (length (now (map .entry)) - count * size k) 0 ⌝ }
+    ensures { λ _. ⌜ now (map .exit) ≡ allWritten k (replicate count Free) ++ replicate (length (now (map .entry)) - count * size k)
+        0 ⌝ }
 {
     let n = size_of(k);
     let tag = free_tag(k);

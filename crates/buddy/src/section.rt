@@ -213,7 +213,8 @@ pub fn lowest_run(setup: SetUp, map: &[u8], j: u8) -> Found
 
 // Frees the live block that starts at an address: in its tree, from its own byte upward.
 pub fn free_block(setup: SetUp, map: &mut [u8], address: usize)
-    requires { ⌜ (words setup % size (top (setup .d)) ≡ 0) × (keeps setup (now map) ≡ true) × (sizeAt address (live setup (now map)) ≡ 0 → ⊥) ⌝ }
+    requires { ⌜ (words setup % size (top (setup .d)) ≡ 0) × (keeps setup (now map) ≡ true)
+        × (sizeAt address (live setup (now map)) ≡ 0 → ⊥) ⌝ }
     ensures { λ _. ⌜ now (map .exit) ≡ freedMap address setup (now (map .entry)) ⌝ }
 {
     let k = top_of(setup.d);
@@ -227,7 +228,9 @@ pub fn free_block(setup: SetUp, map: &mut [u8], address: usize)
 
 // Delivers the lowest aligned run of the j-th size: the free block that it starts is split.
 pub fn deliver(setup: SetUp, map: &mut [u8], j: u8, address: usize)
-    requires { ⌜ (words setup % size (top (setup .d)) ≡ 0) × (keeps setup (now map) ≡ true) × (setup .s1 ≤ address) × (address < setup .s1 + words setup) × (j ≤ top (setup .d)) × (firstOf (runs (size j) setup (live setup (now map))) ≡ At address) ⌝ }
+    requires { ⌜ (words setup % size (top (setup .d)) ≡ 0) × (keeps setup (now map) ≡ true) × (setup .s1 ≤ address)
+        × (address < setup .s1 + words setup) × (j ≤ top (setup .d))
+        × (firstOf (runs (size j) setup (live setup (now map))) ≡ At address) ⌝ }
     ensures { λ _. ⌜ now (map .exit) ≡ deliveredMap j address setup (now (map .entry)) ⌝ }
 {
     let start = address - setup.s1 as usize;

@@ -150,7 +150,8 @@ fn printed_at(count: usize, width: usize, v: u64, i: usize) -> u8
 // Operation 25: a field is printed from a place of the output on.
 pub fn print_into(output: &mut [u8], at: usize, count: usize, width: usize, v: u64)
     requires { ⌜ (width ≤ 64) × (at + count ≤ length (now output)) ⌝ }
-    ensures { λ r. ⌜ now (output .exit) ≡ take at (now (output .entry)) ++ (printed count width v ++ drop (at + count) (now (output .entry))) ⌝ }
+    ensures { λ r. ⌜ now (output .exit) ≡ take at (now (output .entry)) ++
+        (printed count width v ++ drop (at + count) (now (output .entry))) ⌝ }
 {
     let mut i = 0;
     while i < count {

@@ -25,7 +25,9 @@ use operations::Counts;
 
 // The words of a delivered block: zero, and then those of the block that it copies, if there is one.
 fn fill(s1: u16, storage: &mut [u64], address: u64, n: u64, from: u64)
-    requires { ⌜ (s1 ≤ address) × (address + n ≤ s1 + length (now storage)) × ((from ≡ 0 → ⊥) → (s1 ≤ from) × (from + n ≤ s1 + length (now storage)) × ((from + n ≤ address) ⊎ (address + n ≤ from))) ⌝ }
+    requires { ⌜ (s1 ≤ address) × (address + n ≤ s1 + length (now storage))
+        × ((from ≡ 0 → ⊥) → (s1 ≤ from) × (from + n ≤ s1 + length (now storage))
+        × ((from + n ≤ address) ⊎ (address + n ≤ from))) ⌝ }
     ensures { λ _. ⌜ now (storage .exit) ≡ copied s1 address n from (zeroed s1 address n (now (storage .entry))) ⌝ }
 {
     let first = s1 as u64;
@@ -38,8 +40,11 @@ fn fill(s1: u16, storage: &mut [u64], address: u64, n: u64, from: u64)
 
 // A delivery: the run is live, and its words are filled.
 fn take_run(setup: SetUp, map: &mut [u8], storage: &mut [u64], address: u64, n: u64, from: u64)
-    requires { ⌜ (words setup % size (top (setup .d)) ≡ 0) × (keeps setup (now map) ≡ true) × Run (groundOf setup (now map) (now storage)) address n × ((from ≡ 0 → ⊥) → Copy (groundOf setup (now map) (now storage)) address n from) ⌝ }
-    ensures { λ _. ⌜ (now (map .exit) ≡ deliveredMap (level (top (setup .d)) n) address setup (now (map .entry))) × (now (storage .exit) ≡ copied (setup .s1) address n from (zeroed (setup .s1) address n (now (storage .entry)))) ⌝ }
+    requires { ⌜ (words setup % size (top (setup .d)) ≡ 0) × (keeps setup (now map) ≡ true)
+        × Run (groundOf setup (now map) (now storage)) address n
+        × ((from ≡ 0 → ⊥) → Copy (groundOf setup (now map) (now storage)) address n from) ⌝ }
+    ensures { λ _. ⌜ (now (map .exit) ≡ deliveredMap (level (top (setup .d)) n) address setup (now (map .entry)))
+        × (now (storage .exit) ≡ copied (setup .s1) address n from (zeroed (setup .s1) address n (now (storage .entry)))) ⌝ }
 {
     let j = level_of(top_of(setup.d), n);
     deliver(setup, map, j, address as usize);
@@ -58,8 +63,13 @@ pub fn carry_out(
     output: &mut [u8],
     action: Action,
 )
-    requires { ⌜ (b ≤ 48) × (words setup % size (top (setup .d)) ≡ 0) × (keeps setup (now map) ≡ true) × ((given : ℕ) × Feasible b (ground setup (now map) (now storage) counts given (length (now output))) action) ⌝ }
-    ensures { λ _. ⌜ (now (bugs .exit) ≡ bugsAfter b action (now (bugs .entry))) × (now (entries .exit) ≡ entriesAfter (counts .contents) action (now (entries .entry))) × (now (map .exit) ≡ mapAfter setup action (now (map .entry))) × (now (storage .exit) ≡ wordsAfter b (setup .s1) action (now (storage .entry))) × (now (output .exit) ≡ outputAfter (counts .written) action (now (output .entry))) ⌝ }
+    requires { ⌜ (b ≤ 48) × (words setup % size (top (setup .d)) ≡ 0) × (keeps setup (now map) ≡ true)
+        × ((given : ℕ) × Feasible b (ground setup (now map) (now storage) counts given (length (now output))) action) ⌝ }
+    ensures { λ _. ⌜ (now (bugs .exit) ≡ bugsAfter b action (now (bugs .entry)))
+        × (now (entries .exit) ≡ entriesAfter (counts .contents) action (now (entries .entry)))
+        × (now (map .exit) ≡ mapAfter setup action (now (map .entry)))
+        × (now (storage .exit) ≡ wordsAfter b (setup .s1) action (now (storage .entry)))
+        × (now (output .exit) ≡ outputAfter (counts .written) action (now (output .entry))) ⌝ }
 {
     match action {
         Action::Store(at, v) => store(b, bugs, setup.s1, storage, at, v),

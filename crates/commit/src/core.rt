@@ -76,7 +76,8 @@ fn defined(records: Records, f: FieldName, x: Definition) -> Records
 // A definition saved.
 fn saved(records: Records, count: usize, f: FieldName) -> Records
     requires { ⌜ (f .0 < 36) × (count < 128) ⌝ }
-    ensures { λ r. ⌜ r ≡ recording (records .definitions) (set (records .saved) count (getD (records .definitions) (f .0) undefined)) (records .calls) ⌝ }
+    ensures { λ r. ⌜ r ≡ recording (records .definitions) (set (records .saved) count
+        (getD (records .definitions) (f .0) undefined)) (records .calls) ⌝ }
 {
     let i = f.0 as usize;
     let definitions = records.definitions;
@@ -93,7 +94,8 @@ fn saved(records: Records, count: usize, f: FieldName) -> Records
 // The newest saved definition restored.
 fn restored(records: Records, count: usize, f: FieldName) -> Records
     requires { ⌜ (f .0 < 36) × (0 < count) × (count ≤ 128) ⌝ }
-    ensures { λ r. ⌜ r ≡ recording (set (records .definitions) (f .0) (getD (records .saved) (count - 1) undefined)) (records .saved) (records .calls) ⌝ }
+    ensures { λ r. ⌜ r ≡ recording (set (records .definitions) (f .0) (getD (records .saved) (count - 1) undefined))
+        (records .saved) (records .calls) ⌝ }
 {
     let i = f.0 as usize;
     let last = count - 1;
@@ -157,7 +159,8 @@ fn turn(place: Place, records: Records) -> Turned
 // The place and the records after an action that goes to a place.
 pub fn turned(action: Action, to: Place, counts: Counts, records: Records) -> Turned
     requires { ⌜ Countable counts action ⌝ }
-    ensures { λ r. ⌜ (r .place ≡ placeAfter action to (records .calls) (counts .calls)) × (r .records ≡ recordsAfter action to counts records) ⌝ }
+    ensures { λ r. ⌜ (r .place ≡ placeAfter action to (records .calls) (counts .calls))
+        × (r .records ≡ recordsAfter action to counts records) ⌝ }
 {
     match action {
         Action::Define(f, x) => turn(to, defined(records, f, x)),

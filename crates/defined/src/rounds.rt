@@ -24,7 +24,8 @@ const ROUNDS: u64 = 59200;
 fn walk_changed(table: &[u64], l: u64, sets: &mut [u64; 800], walked: &mut [u64; 800])
     requires { ⌜ Accepted (now table) × (0 < l) × (l < rows (now table)) ⌝ }
     ensures { λ _. ⌜ record { sets = now (sets .exit); walked = now (walked .exit) }
-        ≡ cond (isKind (now (table .entry)) 1 l) (changedWalked (now (table .entry)) l (record { sets = now (sets .entry); walked = now (walked .entry) }))
+        ≡ cond (isKind (now (table .entry)) 1 l)
+        (changedWalked (now (table .entry)) l (record { sets = now (sets .entry); walked = now (walked .entry) }))
         (record { sets = now (sets .entry); walked = now (walked .entry) }) ⌝ }
 {
     if kind_at(table, l) != 1 {
@@ -57,7 +58,8 @@ fn walk_lines(table: &[u64], sets: &mut [u64; 800], walked: &mut [u64; 800])
 fn walk_rest(table: &[u64], l: u64, done: u64, sets: &mut [u64; 800])
     requires { ⌜ Accepted (now table) × (0 < l) × (l < rows (now table)) ⌝ }
     ensures { λ _. ⌜ now (sets .exit)
-        ≡ cond (isKind (now (table .entry)) 1 l) (chainWalked (now (table .entry)) l 0 done (now (sets .entry))) (now (sets .entry)) ⌝ }
+        ≡ cond (isKind (now (table .entry)) 1 l) (chainWalked (now (table .entry)) l 0 done (now (sets .entry)))
+        (now (sets .entry)) ⌝ }
 {
     if kind_at(table, l) == 1 {
         walk_chain(table, l, 0, done, sets);

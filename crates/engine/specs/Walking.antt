@@ -18,6 +18,9 @@ pub record Walk : Type 0 where
   pub output : List ℕ
 
 -- a walk that returns so
+abbrev pub walkedTo : State → Answer → Report → ℕ → Walked
+walkedTo state answer report count = record { state = state; answer = answer; report = report; count = count }
+
 abbrev pub walks : State → Answer → Report → ℕ → List ℕ → List ℕ → Walk
 walks state answer report count storage output =
     record { walked = record { state = state; answer = answer; report = report; count = count }; storage = storage; output = output }

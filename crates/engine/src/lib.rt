@@ -197,7 +197,8 @@ pub fn step(
     ensures { λ r. ⌜ record { stepped = r; storage = now (storage .exit); output = now (output .exit) }
         ≡ stepOf (lends (now (table .entry)) (now (input .entry)) (now (output .entry))) (engineOn state (now (storage .entry))) ⌝ }
     ensures numbered { λ r. ⌜ toldAnswer (r .answer)
-        ≡ stepTold (lends (now (table .entry)) (now (input .entry)) (now (output .entry))) (engineOn state (now (storage .entry))) ⌝ }
+        ≡ stepTold (lends (now (table .entry)) (now (input .entry)) (now (output .entry)))
+        (engineOn state (now (storage .entry))) ⌝ }
 {
     let last = walk_from(state, table, storage, input, output, 1);
     let after = last.state;
@@ -220,9 +221,11 @@ pub fn run(
     limit: u64,
 ) -> Ran
     ensures { λ r. ⌜ record { ran = r; storage = now (storage .exit); output = now (output .exit) }
-        ≡ runOf limit (lends (now (table .entry)) (now (input .entry)) (now (output .entry))) (engineOn state (now (storage .entry))) ⌝ }
+        ≡ runOf limit (lends (now (table .entry)) (now (input .entry)) (now (output .entry)))
+        (engineOn state (now (storage .entry))) ⌝ }
     ensures numbered { λ r. ⌜ toldAnswer (r .answer)
-        ≡ runTold limit (lends (now (table .entry)) (now (input .entry)) (now (output .entry))) (engineOn state (now (storage .entry))) ⌝ }
+        ≡ runTold limit (lends (now (table .entry)) (now (input .entry)) (now (output .entry)))
+        (engineOn state (now (storage .entry))) ⌝ }
 {
     if limit == 0 {
         return Ran {

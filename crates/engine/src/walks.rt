@@ -9,10 +9,10 @@ ghost use Rattle.table.specs.Table.{checked};
 ghost use Rattle.machine.specs.declared.Answer.the-variants.{Running, Finished};
 ghost use Rattle.machine.specs.State.{isFinished};
 ghost use Rattle.machine.specs.Storage.{noReport};
-ghost use Rattle.machine.specs.Sound.{sound};
+ghost use Rattle.machine.specs.Sound.{lends, engineOn, sound};
 ghost use Rattle.commit.specs.Then.{coreWith, recordsOf};
 ghost use Rattle.operations.specs.Seen.{countsOf};
-ghost use Rattle.engine.specs.Walking.{walkFrom};
+ghost use Rattle.engine.specs.Walking.{walkedTo, walkFrom};
 use crate::Walked;
 use block::SetUp;
 use commit::Records;
@@ -138,7 +138,8 @@ fn ended(
     report: Report,
     count: u64,
 ) -> Walked
-    ensures { λ r. ⌜ r ≡ record { state = record { width = width; core = coreWith place bugs records entries counts setup; map = map }; answer = answer; report = report; count = count } ⌝ }
+    ensures { λ r. ⌜ r ≡ walkedTo (record { width = width; core = coreWith place bugs records entries counts setup; map = map })
+        answer report count ⌝ }
 {
     let core = core_of(place, bugs, records, entries, counts, setup);
     let state = State {
@@ -177,8 +178,13 @@ pub fn walk(
     limit: u64,
     judged: bool,
 ) -> Walked
-    requires { ⌜ (isWidth width ≡ true) × (1 ≤ limit) × (lengthFits (now table) ≡ true) × (judged ≡ true → checked width (now table) ≡ Lowest 0) × (isFinished (core .place) ≡ false) × (sound width (record { table = now table; input = now input; output = now output }) (record { state = record { width = width; core = core; map = first }; storage = now storage }) ≡ true) ⌝ }
-    ensures { λ r. ⌜ record { walked = r; storage = now (storage .exit); output = now (output .exit) } ≡ walkFrom 0 (limit - 1) (record { table = now (table .entry); input = now (input .entry); output = now (output .entry) }) (record { state = record { width = width; core = core; map = first }; storage = now (storage .entry) }) ⌝ }
+    requires { ⌜ (isWidth width ≡ true) × (1 ≤ limit) × (lengthFits (now table) ≡ true)
+        × (judged ≡ true → checked width (now table) ≡ Lowest 0) × (isFinished (core .place) ≡ false)
+        × (sound width (lends (now table) (now input) (now output))
+        (engineOn (record { width = width; core = core; map = first }) (now storage)) ≡ true) ⌝ }
+    ensures { λ r. ⌜ record { walked = r; storage = now (storage .exit); output = now (output .exit) }
+        ≡ walkFrom 0 (limit - 1) (lends (now (table .entry)) (now (input .entry)) (now (output .entry)))
+        (engineOn (record { width = width; core = core; map = first }) (now (storage .entry))) ⌝ }
 {
     let contents = core.contents;
     let mut place = core.place;

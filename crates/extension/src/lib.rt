@@ -23,8 +23,10 @@ use word::is_width;
 
 // The engine with the words up to a new last address: free blocks, all zero.
 fn grown(width: u8, core: Core, first: [u8; 4096], storage: &mut [u64], last: u16) -> State
-    requires { ⌜ (fitting (length (now storage)) (core .setup) ≡ true) × (extending (length (now storage)) last (core .setup) ≡ true) × (keeps (core .setup) first ≡ true) ⌝ }
-    ensures { λ r. ⌜ record { state = r; storage = now (storage .exit) } ≡ engineExtended last (record { state = record { width = width; core = core; map = first }; storage = now (storage .entry) }) ⌝ }
+    requires { ⌜ (fitting (length (now storage)) (core .setup) ≡ true)
+        × (extending (length (now storage)) last (core .setup) ≡ true) × (keeps (core .setup) first ≡ true) ⌝ }
+    ensures { λ r. ⌜ record { state = r; storage = now (storage .exit) }
+        ≡ engineExtended last (engineOn (record { width = width; core = core; map = first }) (now (storage .entry))) ⌝ }
 {
     let setup = core.setup;
     let mut map = first;

@@ -162,7 +162,8 @@ fn seek_line(b: u64, s: &[u8], sought: &mut [u64], m: usize, n: usize) -> usize
 fn seek(b: u64, text: &[u8], sought: &mut [u64], n: usize) -> usize
     requires { ⌜ (b ≤ 48) × (n ≤ length (now sought)) ⌝ }
     ensures { λ r. ⌜ (r ≤ length (now (sought .exit)))
-        × ((length (now (sought .exit)) ≡ length (now (sought .entry))) × Found b (now (text .entry)) (take r (now (sought .exit)))) ⌝ }
+        × ((length (now (sought .exit)) ≡ length (now (sought .entry)))
+        × Found b (now (text .entry)) (take r (now (sought .exit)))) ⌝ }
 {
     let mut from = 0;
     let mut m = 0;
@@ -189,7 +190,8 @@ pub fn resolve(
 ) -> usize
     requires { ⌜ (b ≤ 48) × (length (now keys) ≤ length (now rows)) ⌝ }
     ensures { λ r. ⌜ (r ≤ length (now (found .exit)))
-        × ((length (now (found .exit)) ≡ length (now (found .entry))) × Found b (now (text .entry)) (take r (now (found .exit)))) ⌝ }
+        × ((length (now (found .exit)) ≡ length (now (found .entry)))
+        × Found b (now (text .entry)) (take r (now (found .exit)))) ⌝ }
 {
     let n = gather(part, keys, rows, found);
     seek(b, text, found, n)
@@ -227,7 +229,8 @@ pub fn renew(
     requires { ⌜ ((b ≤ 48) × (length (now keys) ≤ length (now rows))) × ((1 ≤ close) × ((close < length (now part))
         × (n ≤ length (now found)))) ⌝ }
     ensures { λ r. ⌜ (r ≤ length (now (found .exit)))
-        × ((length (now (found .exit)) ≡ length (now (found .entry))) × Kept b (now (text .entry)) n (now (found .entry)) r (now (found .exit))) ⌝ }
+        × ((length (now (found .exit)) ≡ length (now (found .entry)))
+        × Kept b (now (text .entry)) n (now (found .entry)) r (now (found .exit))) ⌝ }
 {
     if !is_new(keys, rows, &found[0..n], &part[1..close]) {
         return n;
@@ -265,7 +268,8 @@ pub fn no_labels() -> [u64; 800] {
 pub fn learn(b: u64, text: &[u8], keys: &mut [u64], rows: &mut [u64]) -> usize
     requires { ⌜ (b ≤ 48) × ((800 ≤ length (now keys)) × (length (now keys) ≡ length (now rows))) ⌝ }
     ensures { λ r. ⌜ (r ≤ length (now (keys .exit)))
-        × ((r ≤ length (now (rows .exit))) × Known b (now (text .entry)) (take r (now (keys .exit))) (take r (now (rows .exit)))) ⌝ }
+        × ((r ≤ length (now (rows .exit))) × Known b (now (text .entry)) (take r (now (keys .exit)))
+        (take r (now (rows .exit)))) ⌝ }
 {
     let n = names::collect(b, text, keys, rows);
     if n < 800 {

@@ -71,7 +71,8 @@ fn put_bytes(bytes: &mut [u8], at: usize, map: &[u8])
 // The fields' definitions, and after them those saved.
 fn put_definitions(bytes: &mut [u8], current: [Definition; 36], saved: [Definition; 128])
     requires { ⌜ length (now bytes) ≡ stateLength ⌝ }
-    ensures { λ _. ⌜ now (bytes .exit) ≡ placed 1283 (bytesOfAll bytesOfDefinition current ++ bytesOfAll bytesOfDefinition saved) (now (bytes .entry)) ⌝ }
+    ensures { λ _. ⌜ now (bytes .exit) ≡ placed 1283 (bytesOfAll bytesOfDefinition current ++ bytesOfAll bytesOfDefinition saved)
+        (now (bytes .entry)) ⌝ }
     ensures ranged { λ _. ⌜ Array RangedDefinition undefined 36 current × Array RangedDefinition undefined 128 saved ⌝ }
 {
     let mut i = 0;
@@ -98,7 +99,8 @@ fn put_calls(bytes: &mut [u8], entries: [Place; 128])
 // The place, and how much is taken and written.
 fn put_streams(bytes: &mut [u8], place: Place, taken: usize, written: usize)
     requires { ⌜ length (now bytes) ≡ stateLength ⌝ }
-    ensures { λ _. ⌜ now (bytes .exit) ≡ placed 0 (bytesOfPlace place ++ (bytesOf 8 taken ++ bytesOf 8 written)) (now (bytes .entry)) ⌝ }
+    ensures { λ _. ⌜ now (bytes .exit) ≡ placed 0 (bytesOfPlace place ++ (bytesOf 8 taken ++ bytesOf 8 written))
+        (now (bytes .entry)) ⌝ }
     ensures ranged { λ _. ⌜ RangedPlace place × Bytes 8 taken × Bytes 8 written ⌝ }
 {
     put_place(bytes, 0, place);
@@ -109,7 +111,8 @@ fn put_streams(bytes: &mut [u8], place: Place, taken: usize, written: usize)
 // The set-up's numbers.
 fn put_setup(bytes: &mut [u8], setup: SetUp)
     requires { ⌜ length (now bytes) ≡ stateLength ⌝ }
-    ensures { λ _. ⌜ now (bytes .exit) ≡ placed 21 (bytesOf 2 (setup .d) ++ (bytesOf 2 (setup .s1) ++ bytesOf 2 (setup .s2))) (now (bytes .entry)) ⌝ }
+    ensures { λ _. ⌜ now (bytes .exit) ≡ placed 21 (bytesOf 2 (setup .d) ++ (bytesOf 2 (setup .s1) ++ bytesOf 2 (setup .s2)))
+        (now (bytes .entry)) ⌝ }
     ensures ranged { λ _. ⌜ Bytes 2 (setup .d) × Bytes 2 (setup .s1) × Bytes 2 (setup .s2) ⌝ }
 {
     put_number(bytes, 21, 2, setup.d as u64);
@@ -120,7 +123,8 @@ fn put_setup(bytes: &mut [u8], setup: SetUp)
 // The stacks' counts.
 fn put_counts(bytes: &mut [u8], contents: usize, saved: usize, calls: usize)
     requires { ⌜ length (now bytes) ≡ stateLength ⌝ }
-    ensures { λ _. ⌜ now (bytes .exit) ≡ placed 27 (bytesOf 8 contents ++ (bytesOf 8 saved ++ bytesOf 8 calls)) (now (bytes .entry)) ⌝ }
+    ensures { λ _. ⌜ now (bytes .exit) ≡ placed 27 (bytesOf 8 contents ++ (bytesOf 8 saved ++ bytesOf 8 calls))
+        (now (bytes .entry)) ⌝ }
     ensures ranged { λ _. ⌜ Bytes 8 contents × Bytes 8 saved × Bytes 8 calls ⌝ }
 {
     put_number(bytes, 27, 8, contents as u64);

@@ -72,7 +72,8 @@ pub fn names_at(s: &[u8]) -> usize
 // Where the label begins that an operation calls; 0 where it calls none.
 pub fn call_at(s: &[u8]) -> usize
     requires { ⌜ length (now s) + 1 < 2 ^ 64 ⌝ }
-    ensures { λ r. ⌜ (r ≤ length (now (s .entry))) × ((b : ℕ) → isOperation b (split (now (s .entry))) ≡ true → callsAt (now (s .entry)) r ≡ callsIn b (split (now (s .entry)))) ⌝ }
+    ensures { λ r. ⌜ (r ≤ length (now (s .entry))) × ((b : ℕ) → isOperation b (split (now (s .entry))) ≡ true
+        → callsAt (now (s .entry)) r ≡ callsIn b (split (now (s .entry)))) ⌝ }
 {
     let first = comma_end(s, 0);
     if s.len() <= first {
@@ -90,7 +91,8 @@ pub fn call_at(s: &[u8]) -> usize
 // An argument by its number.
 pub fn argument_at(s: &[u8], i: usize) -> Part
     requires { ⌜ (length (now s) + 1 < 2 ^ 64) × (i < length (split (now s))) ⌝ }
-    ensures { λ r. ⌜ (r .from ≤ r .to) × ((r .to ≤ length (now (s .entry))) × (slice (r .from) (r .to) (now (s .entry)) ≡ getD (split (now (s .entry))) i [])) ⌝ }
+    ensures { λ r. ⌜ (r .from ≤ r .to) × ((r .to ≤ length (now (s .entry)))
+        × (slice (r .from) (r .to) (now (s .entry)) ≡ getD (split (now (s .entry))) i [])) ⌝ }
 {
     let mut left = i;
     let mut at = 0;

@@ -62,7 +62,8 @@ fn put_block(list: &mut [u64], n: usize, asked: bool, address: u64, size: u64) -
 
 // Puts address and size of each live block, or of each free one, lowest first.
 pub fn list_blocks(live: bool, setup: SetUp, map: &[u8], list: &mut [u64])
-    requires { ⌜ (words setup % size (top (setup .d)) ≡ 0) × (keeps setup (now map) ≡ true) × (length (now list) ≡ length (numbersOf (blocks live setup (now map)))) ⌝ }
+    requires { ⌜ (words setup % size (top (setup .d)) ≡ 0) × (keeps setup (now map) ≡ true)
+        × (length (now list) ≡ length (numbersOf (blocks live setup (now map)))) ⌝ }
     ensures { λ _. ⌜ now (list .exit) ≡ numbersOf (blocks live setup (now (map .entry))) ⌝ }
 {
     let end = words_of(setup);

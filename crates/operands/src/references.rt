@@ -98,8 +98,10 @@ fn word_after(
     at: Location,
     address: u64,
 ) -> u64
-    requires { ⌜ (b ≤ 48) × (s1 ≤ from) × (from - s1 + n ≤ length (now storage)) × Reached b s1 (now storage) at × (s1 ≤ address) × (address < s1 + length (now storage)) ⌝ }
-    ensures { λ r. ⌜ r ≡ wordAt s1 address (wordsStored b s1 at from (placed (from - s1) (replicate n 0) (now (storage .entry)))) ⌝ }
+    requires { ⌜ (b ≤ 48) × (s1 ≤ from) × (from - s1 + n ≤ length (now storage)) × Reached b s1 (now storage) at × (s1 ≤ address)
+        × (address < s1 + length (now storage)) ⌝ }
+    ensures { λ r. ⌜ r ≡ wordAt s1 address (wordsStored b s1 at from
+        (placed (from - s1) (replicate n 0) (now (storage .entry)))) ⌝ }
 {
     let word = word_delivered(s1, storage, from, n, address);
     match at {
@@ -124,8 +126,10 @@ fn contents_after(
     at: Location,
     place: Location,
 ) -> u64
-    requires { ⌜ (b ≤ 48) × (s1 ≤ from) × (from - s1 + n ≤ length (now storage)) × Reached b s1 (now storage) at × Reached b s1 (now storage) place ⌝ }
-    ensures { λ r. ⌜ r ≡ contentsOf b (now (bugs .entry)) s1 (wordsStored b s1 at from (placed (from - s1) (replicate n 0) (now (storage .entry)))) place ⌝ }
+    requires { ⌜ (b ≤ 48) × (s1 ≤ from) × (from - s1 + n ≤ length (now storage)) × Reached b s1 (now storage) at
+        × Reached b s1 (now storage) place ⌝ }
+    ensures { λ r. ⌜ r ≡ contentsOf b (now (bugs .entry)) s1
+        (wordsStored b s1 at from (placed (from - s1) (replicate n 0) (now (storage .entry)))) place ⌝ }
 {
     match place {
         Location::Bug(x) => {
@@ -150,8 +154,11 @@ fn contents_through(
     pending: Pending,
     place: Location,
 ) -> u64
-    requires { ⌜ Readable b (seen (now bugs) definitions setup (now map) (now storage)) × Ahead b (seen (now bugs) definitions setup (now map) (now storage)) pending × Reached b (setup .s1) (now storage) place ⌝ }
-    ensures { λ r. ⌜ r ≡ contents b (through b pending (seen (now (bugs .entry)) definitions setup (now (map .entry)) (now (storage .entry)))) place ⌝ }
+    requires { ⌜ Readable b (seen (now bugs) definitions setup (now map) (now storage))
+        × Ahead b (seen (now bugs) definitions setup (now map) (now storage)) pending
+        × Reached b (setup .s1) (now storage) place ⌝ }
+    ensures { λ r. ⌜ r ≡ contents b (through b pending (seen (now (bugs .entry)) definitions setup (now (map .entry))
+        (now (storage .entry)))) place ⌝ }
 {
     match pending {
         Pending::Nothing => contents(b, bugs, setup.s1, storage, place),
@@ -172,8 +179,10 @@ fn size_through(
     pending: Pending,
     pointer: u64,
 ) -> u64
-    requires { ⌜ Readable b (seen (now bugs) definitions setup (now map) (now storage)) × Ahead b (seen (now bugs) definitions setup (now map) (now storage)) pending ⌝ }
-    ensures { λ r. ⌜ r ≡ sizeAt pointer (live setup (through b pending (seen (now (bugs .entry)) definitions setup (now (map .entry)) (now (storage .entry))) .map)) ⌝ }
+    requires { ⌜ Readable b (seen (now bugs) definitions setup (now map) (now storage))
+        × Ahead b (seen (now bugs) definitions setup (now map) (now storage)) pending ⌝ }
+    ensures { λ r. ⌜ r ≡ sizeAt pointer (live setup (through b pending
+        (seen (now (bugs .entry)) definitions setup (now (map .entry)) (now (storage .entry))) .map)) ⌝ }
 {
     match pending {
         Pending::Nothing => live_size(setup, map, pointer),
@@ -198,8 +207,13 @@ fn link_from(
     place: Location,
     field: FieldName,
 ) -> Linked
-    requires { ⌜ Readable b (seen (now bugs) definitions setup (now map) (now storage)) × Ahead b (seen (now bugs) definitions setup (now map) (now storage)) pending × Reached b (setup .s1) (now storage) place × (field .0 < 36) ⌝ }
-    ensures { λ r. ⌜ toldLinked r ≡ told (linkOf (through b pending (seen (now (bugs .entry)) definitions setup (now (map .entry)) (now (storage .entry)))) (contents b (through b pending (seen (now (bugs .entry)) definitions setup (now (map .entry)) (now (storage .entry)))) place) field) ⌝ }
+    requires { ⌜ Readable b (seen (now bugs) definitions setup (now map) (now storage))
+        × Ahead b (seen (now bugs) definitions setup (now map) (now storage)) pending × Reached b (setup .s1) (now storage) place
+        × (field .0 < 36) ⌝ }
+    ensures { λ r. ⌜ toldLinked r ≡ told (linkOf (through b pending
+        (seen (now (bugs .entry)) definitions setup (now (map .entry)) (now (storage .entry))))
+        (contents b (through b pending (seen (now (bugs .entry)) definitions setup (now (map .entry)) (now (storage .entry))))
+        place) field) ⌝ }
 {
     let pointer = contents_through(b, bugs, definitions, setup, map, storage, pending, place);
     let size = size_through(b, bugs, definitions, setup, map, storage, pending, pointer);
@@ -218,8 +232,10 @@ pub fn locate_through(
     pending: Pending,
     operand: Pair,
 ) -> Linked
-    requires { ⌜ Readable b (seen (now bugs) definitions setup (now map) (now storage)) × Ahead b (seen (now bugs) definitions setup (now map) (now storage)) pending × (isReference (operand .value) ≡ true) ⌝ }
-    ensures { λ r. ⌜ toldLinked r ≡ told (locationOf b (through b pending (seen (now (bugs .entry)) definitions setup (now (map .entry)) (now (storage .entry)))) operand) ⌝ }
+    requires { ⌜ Readable b (seen (now bugs) definitions setup (now map) (now storage))
+        × Ahead b (seen (now bugs) definitions setup (now map) (now storage)) pending × (isReference (operand .value) ≡ true) ⌝ }
+    ensures { λ r. ⌜ toldLinked r ≡ told (locationOf b (through b pending
+        (seen (now (bugs .entry)) definitions setup (now (map .entry)) (now (storage .entry)))) operand) ⌝ }
 {
     let found = names_in(operand.value);
     let fields = found.fields;
@@ -258,7 +274,8 @@ pub fn locate(
     operand: Pair,
 ) -> Linked
     requires { ⌜ Readable b (seen (now bugs) definitions setup (now map) (now storage)) × (isReference (operand .value) ≡ true) ⌝ }
-    ensures { λ r. ⌜ toldLinked r ≡ told (locationOf b (seen (now (bugs .entry)) definitions setup (now (map .entry)) (now (storage .entry))) operand) ⌝ }
+    ensures { λ r. ⌜ toldLinked r ≡ told (locationOf b (seen (now (bugs .entry)) definitions setup (now (map .entry))
+        (now (storage .entry))) operand) ⌝ }
 {
     if operand.value < 64 {
         return Linked::At(Location::Bug(BugLetter((operand.value - 11) as u8)));
@@ -297,7 +314,8 @@ pub fn operand(
     p: Pair,
 ) -> Got
     requires { ⌜ Readable b (seen (now bugs) definitions setup (now map) (now storage)) × Taken b p ⌝ }
-    ensures { λ r. ⌜ toldGot r ≡ told (operandOf b (seen (now (bugs .entry)) definitions setup (now (map .entry)) (now (storage .entry))) p) ⌝ }
+    ensures { λ r. ⌜ toldGot r ≡ told (operandOf b (seen (now (bugs .entry)) definitions setup (now (map .entry))
+        (now (storage .entry))) p) ⌝ }
 {
     if p.form == 1 {
         return Got::Value(p.value, b);

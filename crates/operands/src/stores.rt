@@ -26,7 +26,8 @@ pub fn bugs_after(b: u64, bugs: &[u64; 26], at: Location, v: u64) -> [u64; 26]
 // A store: a bug's word is replaced, or a field's bits in its word.
 pub fn store(b: u64, bugs: &mut [u64; 26], s1: u16, storage: &mut [u64], at: Location, v: u64)
     requires { ⌜ (b ≤ 48) × Reached b s1 (now storage) at ⌝ }
-    ensures { λ _. ⌜ (now (bugs .exit) ≡ bugsStored b at v (now (bugs .entry))) × (now (storage .exit) ≡ wordsStored b s1 at v (now (storage .entry))) ⌝ }
+    ensures { λ _. ⌜ (now (bugs .exit) ≡ bugsStored b at v (now (bugs .entry)))
+        × (now (storage .exit) ≡ wordsStored b s1 at v (now (storage .entry))) ⌝ }
 {
     match at {
         Location::Bug(x) => {

@@ -82,7 +82,8 @@ pub fn plan_define(
     storage: &[u64],
     row: Row,
 ) -> Planned
-    requires { ⌜ Readable b (seen (now bugs) definitions setup (now map) (now storage)) × Taken b (row .first) × Taken b (row .second) × Taken b (row .third) × (row .name < 36) ⌝ }
+    requires { ⌜ Readable b (seen (now bugs) definitions setup (now map) (now storage)) × Taken b (row .first)
+        × Taken b (row .second) × Taken b (row .third) × (row .name < 36) ⌝ }
     ensures { λ r. ⌜ toldPlanned r ≡ told (planned to
         (definePlan b (seen (now (bugs .entry)) definitions setup (now (map .entry)) (now (storage .entry))) row)) ⌝ }
 {
@@ -157,9 +158,12 @@ fn act(
     x: u64,
     xw: u64,
 ) -> Planned
-    requires { ⌜ Readable b (seen (now bugs) definitions setup (now map) (now storage)) × (taken ≤ length (now input)) × Reached b (setup .s1) (now storage) at × (x < 2 ^ b) × (xw ≤ b) × Acts code × ((third .form ≡ 0 → ⊥) → isReference (third .value) ≡ true) ⌝ }
+    requires { ⌜ Readable b (seen (now bugs) definitions setup (now map) (now storage)) × (taken ≤ length (now input))
+        × Reached b (setup .s1) (now storage) at × (x < 2 ^ b) × (xw ≤ b) × Acts code
+        × ((third .form ≡ 0 → ⊥) → isReference (third .value) ≡ true) ⌝ }
     ensures { λ r. ⌜ toldPlanned r ≡ told (planned to
-        (acting code b (seen (now (bugs .entry)) definitions setup (now (map .entry)) (now (storage .entry))) taken (now (input .entry)) third at (valued x xw))) ⌝ }
+        (acting code b (seen (now (bugs .entry)) definitions setup (now (map .entry)) (now (storage .entry))) taken
+        (now (input .entry)) third at (valued x xw))) ⌝ }
 {
     match code {
         3 => get(b, to, bugs, definitions, setup, map, storage, third, at, x),
@@ -199,9 +203,12 @@ pub fn plan_two(
     input: &[u8],
     row: Row,
 ) -> Planned
-    requires { ⌜ Readable b (seen (now bugs) definitions setup (now map) (now storage)) × (taken ≤ length (now input)) × Acts (row .code) × (isReference (row .first .value) ≡ true) × Taken b (row .second) × ((row .third .form ≡ 0 → ⊥) → isReference (row .third .value) ≡ true) ⌝ }
+    requires { ⌜ Readable b (seen (now bugs) definitions setup (now map) (now storage)) × (taken ≤ length (now input))
+        × Acts (row .code) × (isReference (row .first .value) ≡ true) × Taken b (row .second)
+        × ((row .third .form ≡ 0 → ⊥) → isReference (row .third .value) ≡ true) ⌝ }
     ensures { λ r. ⌜ toldPlanned r ≡ told (planned to
-        (twoPlan b (seen (now (bugs .entry)) definitions setup (now (map .entry)) (now (storage .entry))) taken (now (input .entry)) row)) ⌝ }
+        (twoPlan b (seen (now (bugs .entry)) definitions setup (now (map .entry)) (now (storage .entry))) taken (now (input .entry))
+        row)) ⌝ }
 {
     let first = row.first;
     let second = row.second;
@@ -244,7 +251,8 @@ pub fn plan_swap(
     storage: &[u64],
     row: Row,
 ) -> Planned
-    requires { ⌜ Readable b (seen (now bugs) definitions setup (now map) (now storage)) × (isReference (row .first .value) ≡ true) × (isReference (row .second .value) ≡ true) ⌝ }
+    requires { ⌜ Readable b (seen (now bugs) definitions setup (now map) (now storage)) × (isReference (row .first .value) ≡ true)
+        × (isReference (row .second .value) ≡ true) ⌝ }
     ensures { λ r. ⌜ toldPlanned r ≡ told (planned to
         (swapPlan b (seen (now (bugs .entry)) definitions setup (now (map .entry)) (now (storage .entry))) row)) ⌝ }
 {
@@ -294,7 +302,8 @@ pub fn plan_print(
     room: usize,
     row: Row,
 ) -> Planned
-    requires { ⌜ Readable b (seen (now bugs) definitions setup (now map) (now storage)) × (written ≤ room) × Taken b (row .first) × Taken b (row .second) ⌝ }
+    requires { ⌜ Readable b (seen (now bugs) definitions setup (now map) (now storage)) × (written ≤ room) × Taken b (row .first)
+        × Taken b (row .second) ⌝ }
     ensures { λ r. ⌜ toldPlanned r ≡ told (planned to
         (printPlan b (seen (now (bugs .entry)) definitions setup (now (map .entry)) (now (storage .entry))) written room row)) ⌝ }
 {
@@ -325,9 +334,11 @@ pub fn plan_contents(
     entries: &[u64; 128],
     row: Row,
 ) -> Planned
-    requires { ⌜ Readable b (seen (now bugs) definitions setup (now map) (now storage)) × (count ≤ 128) × (isReference (row .first .value) ≡ true) ⌝ }
+    requires { ⌜ Readable b (seen (now bugs) definitions setup (now map) (now storage)) × (count ≤ 128)
+        × (isReference (row .first .value) ≡ true) ⌝ }
     ensures { λ r. ⌜ toldPlanned r ≡ told (planned to
-        (contentsPlan b (seen (now (bugs .entry)) definitions setup (now (map .entry)) (now (storage .entry))) count (now (entries .entry)) row)) ⌝ }
+        (contentsPlan b (seen (now (bugs .entry)) definitions setup (now (map .entry)) (now (storage .entry))) count
+        (now (entries .entry)) row)) ⌝ }
 {
     let first = row.first;
     let found = locate(b, bugs, definitions, setup, map, storage, first);

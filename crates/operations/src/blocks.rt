@@ -59,9 +59,12 @@ fn deliver(
     address: u64,
     n: u64,
 ) -> Planned
-    requires { ⌜ Readable b (seen (now bugs) definitions setup (now map) (now storage)) × Deliverable b (seen (now bugs) definitions setup (now map) (now storage)) address n at × ((third .form ≡ 0 → ⊥) → isReference (third .value) ≡ true) ⌝ }
+    requires { ⌜ Readable b (seen (now bugs) definitions setup (now map) (now storage))
+        × Deliverable b (seen (now bugs) definitions setup (now map) (now storage)) address n at
+        × ((third .form ≡ 0 → ⊥) → isReference (third .value) ≡ true) ⌝ }
     ensures { λ r. ⌜ toldPlanned r ≡ told (planned to
-        (delivering b (seen (now (bugs .entry)) definitions setup (now (map .entry)) (now (storage .entry))) third at address n)) ⌝ }
+        (delivering b (seen (now (bugs .entry)) definitions setup (now (map .entry)) (now (storage .entry))) third at address
+        n)) ⌝ }
 {
     if third.form == 0 {
         return Planned::Does(to, Action::Deliver(address, n, 0, at));
@@ -89,7 +92,8 @@ pub fn get(
     at: Location,
     wanted: u64,
 ) -> Planned
-    requires { ⌜ Readable b (seen (now bugs) definitions setup (now map) (now storage)) × Reached b (setup .s1) (now storage) at × ((third .form ≡ 0 → ⊥) → isReference (third .value) ≡ true) ⌝ }
+    requires { ⌜ Readable b (seen (now bugs) definitions setup (now map) (now storage)) × Reached b (setup .s1) (now storage) at
+        × ((third .form ≡ 0 → ⊥) → isReference (third .value) ≡ true) ⌝ }
     ensures { λ r. ⌜ toldPlanned r ≡ told (planned to
         (getting b (seen (now (bugs .entry)) definitions setup (now (map .entry)) (now (storage .entry))) third at wanted)) ⌝ }
 {

@@ -47,9 +47,11 @@ fn plan_tests(
     table: &[u64],
     judged: bool,
 ) -> Planned
-    requires { ⌜ Readable b (seen (now bugs) definitions setup (now map) (now storage)) × (lengthFits (now table) ≡ true) × (judged ≡ true → checked b (now table) ≡ Lowest 0) ⌝ }
+    requires { ⌜ Readable b (seen (now bugs) definitions setup (now map) (now storage)) × (lengthFits (now table) ≡ true)
+        × (judged ≡ true → checked b (now table) ≡ Lowest 0) ⌝ }
     ensures { λ r. ⌜ toldPlanned r ≡ told
-        (testsPlan b (seen (now (bugs .entry)) definitions setup (now (map .entry)) (now (storage .entry))) (now (table .entry)) line) ⌝ }
+        (testsPlan b (seen (now (bugs .entry)) definitions setup (now (map .entry)) (now (storage .entry))) (now (table .entry))
+        line) ⌝ }
 {
     let i = line as usize;
     if !can_use(1, b, table, i, judged) {
@@ -95,7 +97,8 @@ fn plan_stacks(
 ) -> Planned
     requires { ⌜ Readable b (seen (now bugs) definitions setup (now map) (now storage)) × (counts .contents ≤ 128) × Stacked row ⌝ }
     ensures { λ r. ⌜ toldPlanned r ≡ told (planned to
-        (stackPlan b (seen (now (bugs .entry)) definitions setup (now (map .entry)) (now (storage .entry))) counts (now (entries .entry)) row)) ⌝ }
+        (stackPlan b (seen (now (bugs .entry)) definitions setup (now (map .entry)) (now (storage .entry))) counts
+        (now (entries .entry)) row)) ⌝ }
 {
     if 33 < row.code {
         return plan_records(to, counts.saved, counts.calls, row);
@@ -129,9 +132,11 @@ fn plan_by_code(
     room: usize,
     row: Row,
 ) -> Planned
-    requires { ⌜ Ready b (sees (now bugs) definitions setup (now map) (now storage) counts (now entries) (now input) room) × Operates b row ⌝ }
+    requires { ⌜ Ready b (sees (now bugs) definitions setup (now map) (now storage) counts (now entries) (now input) room)
+        × Operates b row ⌝ }
     ensures { λ r. ⌜ toldPlanned r ≡ told (planned to
-        (planOf b (sees (now (bugs .entry)) definitions setup (now (map .entry)) (now (storage .entry)) counts (now (entries .entry)) (now (input .entry)) room) row)) ⌝ }
+        (planOf b (sees (now (bugs .entry)) definitions setup (now (map .entry)) (now (storage .entry)) counts
+        (now (entries .entry)) (now (input .entry)) room) row)) ⌝ }
 {
     let code = row.code;
     if 31 < code {
@@ -194,9 +199,11 @@ fn plan_operation(
     table: &[u64],
     judged: bool,
 ) -> Planned
-    requires { ⌜ Ready b (sees (now bugs) definitions setup (now map) (now storage) counts (now entries) (now input) room) × (lengthFits (now table) ≡ true) × (judged ≡ true → checked b (now table) ≡ Lowest 0) ⌝ }
+    requires { ⌜ Ready b (sees (now bugs) definitions setup (now map) (now storage) counts (now entries) (now input) room)
+        × (lengthFits (now table) ≡ true) × (judged ≡ true → checked b (now table) ≡ Lowest 0) ⌝ }
     ensures { λ r. ⌜ toldPlanned r ≡ told
-        (operationPlan b (sees (now (bugs .entry)) definitions setup (now (map .entry)) (now (storage .entry)) counts (now (entries .entry)) (now (input .entry)) room) (now (table .entry)) place) ⌝ }
+        (operationPlan b (sees (now (bugs .entry)) definitions setup (now (map .entry)) (now (storage .entry)) counts
+        (now (entries .entry)) (now (input .entry)) room) (now (table .entry)) place) ⌝ }
 {
     let i = place.row as usize;
     if !can_use(3, b, table, i, judged) {
@@ -269,9 +276,11 @@ pub fn plan_step(
     table: &[u64],
     judged: bool,
 ) -> Planned
-    requires { ⌜ Ready b (sees (now bugs) definitions setup (now map) (now storage) counts (now entries) (now input) room) × (lengthFits (now table) ≡ true) × (judged ≡ true → checked b (now table) ≡ Lowest 0) ⌝ }
+    requires { ⌜ Ready b (sees (now bugs) definitions setup (now map) (now storage) counts (now entries) (now input) room)
+        × (lengthFits (now table) ≡ true) × (judged ≡ true → checked b (now table) ≡ Lowest 0) ⌝ }
     ensures { λ r. ⌜ toldPlanned r ≡ told
-        (stepPlan b (sees (now (bugs .entry)) definitions setup (now (map .entry)) (now (storage .entry)) counts (now (entries .entry)) (now (input .entry)) room) (now (table .entry)) place) ⌝ }
+        (stepPlan b (sees (now (bugs .entry)) definitions setup (now (map .entry)) (now (storage .entry)) counts
+        (now (entries .entry)) (now (input .entry)) room) (now (table .entry)) place) ⌝ }
 {
     let kind = place.kind;
     match kind {

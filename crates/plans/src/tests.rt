@@ -79,9 +79,11 @@ fn test_at(
     judged: bool,
     r: u64,
 ) -> Tested
-    requires { ⌜ Readable b (seen (now bugs) definitions setup (now map) (now storage)) × (judged ≡ true → checked b (now table) ≡ Lowest 0) ⌝ }
+    requires { ⌜ Readable b (seen (now bugs) definitions setup (now map) (now storage))
+        × (judged ≡ true → checked b (now table) ≡ Lowest 0) ⌝ }
     ensures { λ x. ⌜ toldTested x ≡ told
-        (testing b (now (table .entry)) (seen (now (bugs .entry)) definitions setup (now (map .entry)) (now (storage .entry))) r) ⌝ }
+        (testing b (now (table .entry)) (seen (now (bugs .entry)) definitions setup (now (map .entry)) (now (storage .entry)))
+        r) ⌝ }
 {
     let i = r as usize;
     if !can_use(2, b, table, i, judged) {
@@ -115,9 +117,11 @@ pub fn satisfied(
     mode: u64,
     first: u64,
 ) -> Settled
-    requires { ⌜ Readable b (seen (now bugs) definitions setup (now map) (now storage)) × (judged ≡ true → checked b (now table) ≡ Lowest 0) × (1 ≤ rows (now table)) ⌝ }
+    requires { ⌜ Readable b (seen (now bugs) definitions setup (now map) (now storage))
+        × (judged ≡ true → checked b (now table) ≡ Lowest 0) × (1 ≤ rows (now table)) ⌝ }
     ensures { λ x. ⌜ toldSettled x ≡ told
-        (satisfiedBy b (now (table .entry)) (seen (now (bugs .entry)) definitions setup (now (map .entry)) (now (storage .entry))) mode (rows (now (table .entry))) first) ⌝ }
+        (satisfiedBy b (now (table .entry)) (seen (now (bugs .entry)) definitions setup (now (map .entry)) (now (storage .entry)))
+        mode (rows (now (table .entry))) first) ⌝ }
 {
     let mut r = first;
     let outcome = loop {

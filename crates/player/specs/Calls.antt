@@ -92,6 +92,10 @@ pub record StepLeft : Type 0 where
   pub state : List ℕ
   pub report : List ℕ
 
+abbrev pub stepLeaves : ℕ → List ℕ → List ℕ → List ℕ → List ℕ → StepLeft
+stepLeaves answer storage output state report =
+    record { answer = answer; storage = storage; output = output; state = state; report = report }
+
 -- a step is left so: a refused one reports zeros, as the engine's does
 unfoldable pub afterStep : List ℕ → Outcome → StepLeft
 afterStep bytes o =
@@ -125,6 +129,10 @@ pub record RunLeft : Type 0 where
   pub output : List ℕ
   pub state : List ℕ
   pub count : ℕ
+
+abbrev pub runLeaves : ℕ → List ℕ → List ℕ → List ℕ → ℕ → RunLeft
+runLeaves answer storage output state count =
+    record { answer = answer; storage = storage; output = output; state = state; count = count }
 
 unfoldable pub afterRun : List ℕ → RunOutcome → RunLeft
 afterRun bytes r =

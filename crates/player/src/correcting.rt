@@ -7,7 +7,8 @@ use recordings::write_standing;
 // Stop and recording of each record of a list that stands, and how many they are.
 #[no_mangle]
 pub extern "C" fn l6_recordings(list: &[u64], output: &mut [u64], count: &mut u64) -> u64
-    ensures { λ r. ⌜ record { answer = r; output = now (output .exit); count = now (count .exit) } ≡ recordingsLeft (now (list .entry)) (now (output .entry)) (now (count .entry)) ⌝ }
+    ensures { λ r. ⌜ record { answer = r; output = now (output .exit); count = now (count .exit) }
+        ≡ recordingsLeft (now (list .entry)) (now (output .entry)) (now (count .entry)) ⌝ }
 {
     let written = write_standing(list, output);
     match written {

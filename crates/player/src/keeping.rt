@@ -36,7 +36,8 @@ fn count_of(answer: Kept, before: u64) -> u64
 // Saves words as bytes, and says how many bytes they are.
 #[no_mangle]
 pub extern "C" fn l6_save(width: u64, words: &[u64], bytes: &mut [u8], count: &mut u64) -> u64
-    ensures { λ r. ⌜ record { answer = r; bytes = now (bytes .exit); count = now (count .exit) } ≡ saveLeft width (now (words .entry)) (now (bytes .entry)) (now (count .entry)) ⌝ }
+    ensures { λ r. ⌜ record { answer = r; bytes = now (bytes .exit); count = now (count .exit) }
+        ≡ saveLeft width (now (words .entry)) (now (bytes .entry)) (now (count .entry)) ⌝ }
 {
     let kept = save(width, words, bytes);
     *count = count_of(kept, *count);
@@ -46,7 +47,8 @@ pub extern "C" fn l6_save(width: u64, words: &[u64], bytes: &mut [u8], count: &m
 // Loads n words from bytes.
 #[no_mangle]
 pub extern "C" fn l6_load(width: u64, bytes: &[u8], n: usize, words: &mut [u64]) -> u64
-    ensures { λ r. ⌜ record { answer = r; words = now (words .exit) } ≡ loadLeft width (now (bytes .entry)) n (now (words .entry)) ⌝ }
+    ensures { λ r. ⌜ record { answer = r; words = now (words .exit) }
+        ≡ loadLeft width (now (bytes .entry)) n (now (words .entry)) ⌝ }
 {
     number_of(load(width, bytes, n, words))
 }

@@ -14,11 +14,12 @@ ghost use mathlib.Core.Path.{_≡_};
 ghost use lib.Dec.{eqb};
 ghost use lib.ListN.{length};
 ghost use Rattle.word.specs.Word.{isWidth};
+ghost use Rattle.machine.specs.Sound.{lends};
 ghost use Rattle.machine.specs.State.{fresh as freshState};
 ghost use Rattle.machine.specs.Step.{step as stepOf, run as runOf};
 ghost use Rattle.machine.specs.Storage.{placed};
 ghost use Rattle.layout.specs.Layout.{stateLength, bytesOfState, stateOf};
-ghost use Rattle.player.specs.Calls.{version, code, moved, numbersOfStore, numbersOfReport, engineAt, freshLeft, unreported as unreportedOf, stepLeft, runLeft, checkLeft, stateFault, countsLeft, blocksLeft};
+ghost use Rattle.player.specs.Calls.{version, code, moved, numbersOfStore, numbersOfReport, engineAt, freshLeft, unreported as unreportedOf, stepLeaves, stepLeft, runLeaves, runLeft, checkLeft, stateFault, countsLeft, blocksLeft};
 use engine::answers::refusal_number;
 use engine::fresh;
 use engine::run;
@@ -135,7 +136,8 @@ pub extern "C" fn l6_version() -> u64
 #[no_mangle]
 pub extern "C" fn l6_fresh(width: u64, state: &mut [u8]) -> u64
     ensures { λ r. ⌜ record { answer = r; state = now (state .exit) } ≡ freshLeft width (now (state .entry)) ⌝ }
-    ensures back { λ _. ⌜ (isWidth width ≡ true → length (now (state .entry)) ≡ stateLength → stateOf (now (state .exit)) ≡ freshState width) ⌝ }
+    ensures back { λ _. ⌜ (isWidth width ≡ true → length (now (state .entry)) ≡ stateLength → stateOf (now (state .exit))
+        ≡ freshState width) ⌝ }
 {
     if !is_width(width) {
         return 31;
@@ -169,8 +171,12 @@ pub extern "C" fn l6_step(
     state: &mut [u8],
     report: &mut [u64],
 ) -> u64
-    ensures { λ r. ⌜ record { answer = r; storage = now (storage .exit); output = now (output .exit); state = now (state .exit); report = now (report .exit) } ≡ stepLeft (record { table = now (table .entry); input = now (input .entry); output = now (output .entry) }) (now (storage .entry)) (now (state .entry)) (now (report .entry)) ⌝ }
-    ensures back { λ _. ⌜ (length (now (state .entry)) ≡ stateLength → length (now (report .entry)) ≡ 12 → stateOf (now (state .exit)) ≡ stepOf (record { table = now (table .entry); input = now (input .entry); output = now (output .entry) }) (engineAt (now (state .entry)) (now (storage .entry))) .stepped .state) ⌝ }
+    ensures { λ r. ⌜ stepLeaves r (now (storage .exit)) (now (output .exit)) (now (state .exit)) (now (report .exit))
+        ≡ stepLeft (lends (now (table .entry)) (now (input .entry)) (now (output .entry))) (now (storage .entry))
+        (now (state .entry)) (now (report .entry)) ⌝ }
+    ensures back { λ _. ⌜ (length (now (state .entry)) ≡ stateLength → length (now (report .entry)) ≡ 12
+        → stateOf (now (state .exit)) ≡ stepOf (lends (now (table .entry)) (now (input .entry)) (now (output .entry)))
+        (engineAt (now (state .entry)) (now (storage .entry))) .stepped .state) ⌝ }
 {
     if state.len() != STATE {
         return 101;
@@ -200,8 +206,12 @@ pub extern "C" fn l6_run(
     limit: u64,
     count: &mut u64,
 ) -> u64
-    ensures { λ r. ⌜ record { answer = r; storage = now (storage .exit); output = now (output .exit); state = now (state .exit); count = now (count .exit) } ≡ runLeft limit (record { table = now (table .entry); input = now (input .entry); output = now (output .entry) }) (now (storage .entry)) (now (state .entry)) (now (count .entry)) ⌝ }
-    ensures back { λ _. ⌜ (length (now (state .entry)) ≡ stateLength → stateOf (now (state .exit)) ≡ runOf limit (record { table = now (table .entry); input = now (input .entry); output = now (output .entry) }) (engineAt (now (state .entry)) (now (storage .entry))) .ran .state) ⌝ }
+    ensures { λ r. ⌜ runLeaves r (now (storage .exit)) (now (output .exit)) (now (state .exit)) (now (count .exit))
+        ≡ runLeft limit (lends (now (table .entry)) (now (input .entry)) (now (output .entry))) (now (storage .entry))
+        (now (state .entry)) (now (count .entry)) ⌝ }
+    ensures back { λ _. ⌜ (length (now (state .entry)) ≡ stateLength → stateOf (now (state .exit))
+        ≡ runOf limit (lends (now (table .entry)) (now (input .entry)) (now (output .entry)))
+        (engineAt (now (state .entry)) (now (storage .entry))) .ran .state) ⌝ }
 {
     if state.len() != STATE {
         return 101;

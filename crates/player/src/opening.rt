@@ -13,7 +13,8 @@ pub extern "C" fn l6_hours(
     minute: u64,
     row: &mut u64,
 ) -> u64
-    ensures { λ r. ⌜ record { answer = r; row = now (row .exit) } ≡ hoursLeft (now (windows .entry)) (now (exceptions .entry)) day minute (now (row .entry)) ⌝ }
+    ensures { λ r. ⌜ record { answer = r; row = now (row .exit) }
+        ≡ hoursLeft (now (windows .entry)) (now (exceptions .entry)) day minute (now (row .entry)) ⌝ }
 {
     let found = open_at(windows, exceptions, day, minute);
     match found {

@@ -6,7 +6,7 @@ ghost use Prim.Native.Nat.{ℕ, _^_, _≤_, _<_};
 ghost use lib.Dec.{eqb, ltb};
 ghost use lib.ListN.{length, take};
 ghost use Rattle.block.specs.SetUp.{words};
-ghost use Rattle.machine.specs.Sound.{every, isRow, isPlace, isDefinition, soundPlace, soundStack, soundStacks, soundCore, soundStorage, soundEngine, sound};
+ghost use Rattle.machine.specs.Sound.{engineOn, every, isRow, isPlace, isDefinition, soundPlace, soundStack, soundStacks, soundCore, soundStorage, soundEngine, sound};
 use block::SetUp;
 use buddy::section::keeps_section;
 use buddy::section::words_of;
@@ -202,7 +202,8 @@ fn is_sound_storage(b: u64, setup: SetUp, map: &[u8], storage: &[u64]) -> bool
 // What of soundness no lent input or output bears on: core and storage.
 pub fn is_sound_engine(b: u64, core: Core, map: &[u8], storage: &[u64]) -> bool
     requires { ⌜ b < 64 ⌝ }
-    ensures { λ r. ⌜ r ≡ soundEngine b (record { state = record { width = b; core = core; map = now (map .entry) }; storage = now (storage .entry) }) ⌝ }
+    ensures { λ r. ⌜ r
+        ≡ soundEngine b (engineOn (record { width = b; core = core; map = now (map .entry) }) (now (storage .entry))) ⌝ }
 {
     let setup = core.setup;
     is_sound_core(b, core) & is_sound_storage(b, setup, map, storage)
@@ -218,7 +219,8 @@ pub fn is_sound(
     output: &[u8],
 ) -> bool
     requires { ⌜ b < 64 ⌝ }
-    ensures { λ r. ⌜ r ≡ sound b (record { table = []; input = now (input .entry); output = now (output .entry) }) (record { state = record { width = b; core = core; map = now (map .entry) }; storage = now (storage .entry) }) ⌝ }
+    ensures { λ r. ⌜ r ≡ sound b (record { table = []; input = now (input .entry); output = now (output .entry) })
+        (record { state = record { width = b; core = core; map = now (map .entry) }; storage = now (storage .entry) }) ⌝ }
 {
     is_sound_engine(b, core, map, storage)
         & (core.taken <= input.len())

@@ -136,7 +136,8 @@ fn put_last_line(text: &mut [u8], at: usize, answer: Answer, count: u64) -> usiz
 pub fn put_lines(text: &mut [u8], codes: &[u8], answer: Answer, count: u64) -> usize
     requires { ⌜ 3 * length (now codes) + 43 ≤ length (now text) ⌝ }
     ensures { λ r. ⌜ r + length (lines (now (codes .entry)) answer count) ≡ length (now (text .entry)) ⌝ }
-    ensures { λ _. ⌜ now (text .exit) ≡ putBefore (length (now (text .entry))) (lines (now (codes .entry)) answer count) (now (text .entry)) ⌝ }
+    ensures { λ _. ⌜ now (text .exit) ≡ putBefore (length (now (text .entry))) (lines (now (codes .entry)) answer count)
+        (now (text .entry)) ⌝ }
 {
     let last = put_last_line(text, text.len(), answer, count);
     put_codes_line(text, last, codes)

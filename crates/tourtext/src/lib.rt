@@ -104,8 +104,10 @@ fn no_width(printed: &mut [u8; 128]) -> Translated
 
 // Reads a text for words of b bits: the bytes of tour.tab at the start of tab, and what is printed at the end of printed.
 pub fn translate(b: u64, text: &[u8], tab: &mut [u8; 64000], printed: &mut [u8; 128]) -> Translated
-    ensures { λ r. ⌜ (r .bytes ≡ length (fileOf b (now (text .entry)))) × (r .start + length (printedOf b (now (text .entry))) ≡ 128) ⌝ }
-    ensures { λ _. ⌜ now (tab .exit) ≡ fileOf b (now (text .entry)) ++ drop (length (fileOf b (now (text .entry)))) (now (tab .entry)) ⌝ }
+    ensures { λ r. ⌜ (r .bytes ≡ length (fileOf b (now (text .entry))))
+        × (r .start + length (printedOf b (now (text .entry))) ≡ 128) ⌝ }
+    ensures { λ _. ⌜ now (tab .exit) ≡ fileOf b (now (text .entry)) ++ drop (length (fileOf b (now (text .entry))))
+        (now (tab .entry)) ⌝ }
     ensures { λ _. ⌜ now (printed .exit) ≡ putBefore 128 (printedOf b (now (text .entry))) (now (printed .entry)) ⌝ }
     ensures within { λ r. ⌜ r .bytes ≤ length (now (tab .exit)) ⌝ }
 {

@@ -36,8 +36,10 @@ pub fn operand(
     s: &[u8],
     k: usize,
 ) -> Pair
-    requires { ⌜ Ready b (now text) (now keys) (now rows) × ((length (now s) + 1 < 2 ^ 64) × ((form < length (formsOf tests)) × ((k < 3) × (fits b (split (now s)) (getD (formsOf tests) form noForm) ≡ true)))) ⌝ }
-    ensures { λ r. ⌜ r ≡ getD (pairsOf (labelRow b (now (text .entry))) (getD (formsOf tests) form noForm) (split (now (s .entry)))) k absentPair ⌝ }
+    requires { ⌜ Ready b (now text) (now keys) (now rows) × ((length (now s) + 1 < 2 ^ 64)
+        × ((form < length (formsOf tests)) × ((k < 3) × (fits b (split (now s)) (getD (formsOf tests) form noForm) ≡ true)))) ⌝ }
+    ensures { λ r. ⌜ r ≡ getD (pairsOf (labelRow b (now (text .entry))) (getD (formsOf tests) form noForm) (split (now (s .entry))))
+        k absentPair ⌝ }
 {
     let n = fitting::form_number(tests, form, k + 5);
     if n == 0 {
@@ -94,8 +96,10 @@ pub fn row_in(
     kind: u64,
     next: u64,
 ) -> Row
-    requires { ⌜ Ready b (now text) (now keys) (now rows) × ((length (now s) + 1 < 2 ^ 64) × (any (fits b (split (now s))) (formsOf tests) ≡ true)) ⌝ }
-    ensures { λ r. ⌜ r ≡ rowIn (labelRow b (now (text .entry))) kind next (formOf b (split (now (s .entry))) (formsOf tests)) (split (now (s .entry))) ⌝ }
+    requires { ⌜ Ready b (now text) (now keys) (now rows) × ((length (now s) + 1 < 2 ^ 64)
+        × (any (fits b (split (now s))) (formsOf tests) ≡ true)) ⌝ }
+    ensures { λ r. ⌜ r ≡ rowIn (labelRow b (now (text .entry))) kind next (formOf b (split (now (s .entry))) (formsOf tests))
+        (split (now (s .entry))) ⌝ }
 {
     let form = fitting::form_at(b, tests, s);
     let code = fitting::form_number(tests, form, 0);
@@ -148,7 +152,8 @@ fn moved_row(a: &[u8], names: &[u8], next: u64) -> Row
 
 // The row of an operation.
 pub fn operation_row(b: u64, text: &[u8], keys: &[u64], rows: &[u64], s: &[u8], next: u64) -> Row
-    requires { ⌜ Ready b (now text) (now keys) (now rows) × ((length (now s) + 1 < 2 ^ 64) × (isOperation b (split (now s)) ≡ true)) ⌝ }
+    requires { ⌜ Ready b (now text) (now keys) (now rows) × ((length (now s) + 1 < 2 ^ 64)
+        × (isOperation b (split (now s)) ≡ true)) ⌝ }
     ensures { λ r. ⌜ r ≡ operationRow b (labelRow b (now (text .entry))) next (split (now (s .entry))) ⌝ }
 {
     let n = arguments::names_at(s);

@@ -121,7 +121,8 @@ fn valued(form: u64, kind: u64, w: &[u8]) -> Pair
 // The pair of a field designator or a literal.
 fn either(kind: u64, w: &[u8]) -> Pair
     requires { ⌜ (isField (now w) ≡ false → valueFrom kind 0 (now w) < 2 ^ 48) ⌝ }
-    ensures { λ r. ⌜ r ≡ cond (isField (now (w .entry))) (fieldPair (now (w .entry))) (literalPair (valueFrom kind 0 (now (w .entry)))) ⌝ }
+    ensures { λ r. ⌜ r ≡ cond (isField (now (w .entry))) (fieldPair (now (w .entry)))
+        (literalPair (valueFrom kind 0 (now (w .entry)))) ⌝ }
 {
     if kinds::is_field(w) {
         valued(2, 1, w)

@@ -34,7 +34,8 @@ fn group_row(
     s: &[u8],
     next: u64,
 ) -> Row
-    requires { ⌜ Ready b (now text) (now keys) (now rows) × ((length (now s) + 1 < 2 ^ 64) × (isGroup b tests (split (now s)) ≡ true)) ⌝ }
+    requires { ⌜ Ready b (now text) (now keys) (now rows) × ((length (now s) + 1 < 2 ^ 64)
+        × (isGroup b tests (split (now s)) ≡ true)) ⌝ }
     ensures { λ r. ⌜ r ≡ groupRow b (labelRow b (now (text .entry))) tests next (split (now (s .entry))) ⌝ }
 {
     if tests {
@@ -87,7 +88,8 @@ fn unless_none(left: usize, row: usize) -> u64
 // The rows of tests or operations.
 fn put_group(b: u64, text: &[u8], keys: &[u64], rows: &[u64], s: &[u8], g: Group, table: &mut [u64])
     requires { ⌜ Ready b (now text) (now keys) (now rows) × Grouped b (now s) g (now table) ⌝ }
-    ensures { λ _. ⌜ now (table .exit) ≡ putRows (g .row) (groupRows b (labelRow b (now (text .entry))) (now (s .entry)) g) (now (table .entry)) ⌝ }
+    ensures { λ _. ⌜ now (table .exit) ≡ putRows (g .row) (groupRows b (labelRow b (now (text .entry))) (now (s .entry)) g)
+        (now (table .entry)) ⌝ }
 {
     let tests = g.tests;
     let mut place = g.from;
@@ -156,8 +158,10 @@ fn put_scanned(
     next: u64,
     table: &mut [u64],
 )
-    requires { ⌜ Ready b (now text) (now keys) (now rows) × (Laid b (now s) c × (10 * (row + (1 + c .tests + c .operations)) ≤ length (now table))) ⌝ }
-    ensures { λ _. ⌜ now (table .exit) ≡ putRows row (lineRows b (labelRow b (now (text .entry))) row next (lineAt (now (s .entry)) c)) (now (table .entry)) ⌝ }
+    requires { ⌜ Ready b (now text) (now keys) (now rows) × (Laid b (now s) c
+        × (10 * (row + (1 + c .tests + c .operations)) ≤ length (now table))) ⌝ }
+    ensures { λ _. ⌜ now (table .exit) ≡ putRows row (lineRows b (labelRow b (now (text .entry))) row next
+        (lineAt (now (s .entry)) c)) (now (table .entry)) ⌝ }
 {
     let goes = c.goes;
     let ends = c.ends;
@@ -211,8 +215,11 @@ fn put_line(
     row: usize,
     table: &mut [u64],
 ) -> usize
-    requires { ⌜ Ready b (now text) (now keys) (now rows) × (10 * (row + sizeOf (lineRead (readLine b (now s)))) ≤ length (now table)) ⌝ }
-    ensures { λ r. ⌜ (r ≡ row + sizeOf (lineRead (readLine b (now (s .entry))))) × (now (table .exit) ≡ putRows row (readRows b (labelRow b (now (text .entry))) row last (lineRead (readLine b (now (s .entry))))) (now (table .entry))) ⌝ }
+    requires { ⌜ Ready b (now text) (now keys) (now rows) × (10 * (row + sizeOf (lineRead (readLine b (now s)))) ≤ length
+        (now table)) ⌝ }
+    ensures { λ r. ⌜ (r ≡ row + sizeOf (lineRead (readLine b (now (s .entry)))))
+        × (now (table .exit) ≡ putRows row (readRows b (labelRow b (now (text .entry))) row last
+        (lineRead (readLine b (now (s .entry))))) (now (table .entry))) ⌝ }
 {
     let scanned = line::scan(b, s);
     let Scanned::Good(c) = scanned else {
@@ -236,7 +243,8 @@ fn put_line(
 // The rows of all lines.
 fn put_lines(b: u64, text: &[u8], keys: &[u64], rows: &[u64], table: &mut [u64])
     requires { ⌜ Ready b (now text) (now keys) (now rows) × Roomy b (now text) (now table) ⌝ }
-    ensures { λ _. ⌜ now (table .exit) ≡ putRows 1 (rowsFrom b (labelRow b (now (text .entry))) 1 (linesIn b (now (text .entry)))) (now (table .entry)) ⌝ }
+    ensures { λ _. ⌜ now (table .exit) ≡ putRows 1 (rowsFrom b (labelRow b (now (text .entry))) 1 (linesIn b (now (text .entry))))
+        (now (table .entry)) ⌝ }
 {
     let mut from = 0;
     let mut row = 1;
@@ -266,7 +274,8 @@ fn zero_row() -> Row
 // The table of a text.
 pub fn put_text(b: u64, text: &[u8], keys: &[u64], rows: &[u64], table: &mut [u64])
     requires { ⌜ Ready b (now text) (now keys) (now rows) × Roomy b (now text) (now table) ⌝ }
-    ensures { λ _. ⌜ now (table .exit) ≡ tableOf b (linesIn b (now (text .entry))) ++ drop (10 * rowCount (linesIn b (now (text .entry)))) (now (table .entry)) ⌝ }
+    ensures { λ _. ⌜ now (table .exit) ≡ tableOf b (linesIn b (now (text .entry))) ++ drop
+        (10 * rowCount (linesIn b (now (text .entry)))) (now (table .entry)) ⌝ }
 {
     put_row(table, 0, zero_row());
     put_lines(b, text, keys, rows, table);
