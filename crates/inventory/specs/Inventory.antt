@@ -1,6 +1,7 @@
 -- tourlist: the listing that it prints of the bytes of tour.tab and stops.in: the storage that the tour leaves. Text is ASCII.
 -- Assumes nothing.
 use Prim.Native.Nat.{ℕ, zero, suc, _+_, _-_, _/_, _%_, min}
+use Prim.Native.String.{String}
 use mathlib.Core.Bool.{Bool, not, _&&_, cond}
 use mathlib.Core.List.{List, [], _∷_, _++_}
 use lib.Dec.{eqb}
@@ -29,9 +30,12 @@ octal (suc k) n = octal k (n / 8) ++ ((nought + n % 8) ∷ [])
 unfoldable pub wordEnd : ℕ → List ℕ
 wordEnd w = blank ∷ (octal 12 w ++ (newline ∷ []))
 
--- three numbers at the end of a line, in decimal
+-- a number in decimal after a blank, and three of them at the end of a line
+unfoldable pub numberText : ℕ → List ℕ
+numberText n = blank ∷ decimal n
+
 unfoldable pub threeEnd : ℕ → ℕ → ℕ → List ℕ
-threeEnd x y z = blank ∷ (decimal x ++ (blank ∷ (decimal y ++ (blank ∷ (decimal z ++ (newline ∷ []))))))
+threeEnd x y z = numberText x ++ (numberText y ++ (numberText z ++ (newline ∷ [])))
 
 -- the texts of n places from place i on, one after the other
 unfoldable pub texts : (ℕ → List ℕ) → ℕ → ℕ → List ℕ
@@ -46,18 +50,18 @@ bugText i w = cond (eqb w 0) [] (spelled "bug " ++ ((65 + i) ∷ wordEnd w))
 unfoldable pub fieldText : ℕ → Definition → List ℕ
 fieldText i x = cond (x .defined) (spelled "field " ++ (fieldCharacter i ∷ threeEnd (x .word) (x .left) (x .right))) []
 
--- where a block starts: first and last address, and size. A live block's tag is even, a free one's odd, and other words have 0
-unfoldable pub blockEnd : ℕ → ℕ → List ℕ
-blockEnd address tag =
+-- a block's line: first and last address, and size. A live block's tag is even, a free one's odd, and other words have 0
+unfoldable pub blockLine : String → ℕ → ℕ → List ℕ
+blockLine word address tag =
     let n : ℕ = size ((tag - 1) / 2 % 8) in
-    threeEnd address (address + n - 1) n
+    spelled word ++ threeEnd address (address + n - 1) n
 
 unfoldable pub isLive : ℕ → Bool
 isLive tag = not (eqb tag 0) && eqb (tag % 2) 0
 
+-- where a block starts
 unfoldable pub startText : ℕ → ℕ → List ℕ
-startText address tag =
-    cond (eqb tag 0) [] (cond (eqb (tag % 2) 0) (spelled "block" ++ blockEnd address tag) (spelled "free" ++ blockEnd address tag))
+startText address tag = cond (eqb tag 0) [] (cond (eqb (tag % 2) 0) (blockLine "block" address tag) (blockLine "free" address tag))
 
 -- the tag of the block that the word at a place lies in: the last one up to there that is not 0
 unfoldable pub owner : List ℕ → ℕ → ℕ
@@ -87,9 +91,8 @@ placeText p = spelled "place" ++ threeEnd (p .kind) (p .row) (p .line)
 -- set-up, bugs and fields
 unfoldable pub headText : Core → List ℕ
 headText c =
-    spelled "set-up"
-    ++ (threeEnd (c .setup .d) (c .setup .s1) (c .setup .s2)
-    ++ (texts (λ i. bugText i (getD (c .bugs) i 0)) 0 26 ++ texts (λ i. fieldText i (getD (c .definitions) i undefined)) 0 36))
+    (spelled "set-up" ++ threeEnd (c .setup .d) (c .setup .s1) (c .setup .s2))
+    ++ (texts (λ i. bugText i (getD (c .bugs) i 0)) 0 26 ++ texts (λ i. fieldText i (getD (c .definitions) i undefined)) 0 36)
 
 -- the blocks by their addresses, of the words set up
 unfoldable pub storageText : SetUp → List ℕ → List ℕ → List ℕ

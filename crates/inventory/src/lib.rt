@@ -1,5 +1,6 @@
 // tourlist over slices: the listing that it prints of the bytes that it reads, put at the end of a text, last character first. Each
 // function returns where its text starts; no line has more than 96 characters.
+ghost use mathlib.Core.List.{_++_};
 ghost use mathlib.Core.Path.{_≡_};
 ghost use Prim.Native.Nat.{_+_, _*_, _≤_, _<_, min};
 ghost use lib.ListN.{length, getD};
@@ -7,9 +8,9 @@ ghost use Rattle.block.specs.SetUp.{words};
 ghost use Rattle.machine.specs.State.{undefined, testsOf};
 ghost use Rattle.tour.specs.Put.{putBefore};
 ghost use Rattle.inventory.specs.Puts.{Puts};
-ghost use Rattle.inventory.specs.Inventory.{octal, wordEnd, threeEnd, texts, bugText, fieldText, blockEnd, startText, owner};
-ghost use Rattle.inventory.specs.Inventory.{contentText, storedText, savedText, definitionText, placeText, headText};
-ghost use Rattle.inventory.specs.Inventory.{countsLine, stacksText, listing, printed};
+ghost use Rattle.inventory.specs.Inventory.{octal, wordEnd, numberText, threeEnd, texts, bugText, fieldText};
+ghost use Rattle.inventory.specs.Inventory.{startText, owner, contentText, storedText, savedText, definitionText};
+ghost use Rattle.inventory.specs.Inventory.{placeText, headText, countsLine, stacksText, listing, printed};
 use block::SetUp;
 use buddy::section::words_of;
 use buddy::sizes::size_of;
@@ -57,18 +58,33 @@ fn put_word_end(text: &mut [u8], at: usize, w: u64) -> usize
     put(text, digits, BLANK)
 }
 
+// A number after a blank.
+fn put_number(text: &mut [u8], at: usize, n: u64) -> usize
+    requires { ⌜ (21 ≤ at) × (at ≤ length (now text)) ⌝ }
+    ensures { λ r. ⌜ Puts (numberText n) 21 at (now (text .entry)) r (now (text .exit)) ⌝ }
+{
+    let digits = put_decimal(text, at, n);
+    put(text, digits, BLANK)
+}
+
 // Three numbers at the end of a line.
 fn put_three_end(text: &mut [u8], at: usize, x: u64, y: u64, z: u64) -> usize
     requires { ⌜ (64 ≤ at) × (at ≤ length (now text)) ⌝ }
     ensures { λ r. ⌜ Puts (threeEnd x y z) 64 at (now (text .entry)) r (now (text .exit)) ⌝ }
 {
     let end = put(text, at, NEWLINE);
-    let last = put_decimal(text, end, z);
-    let after = put(text, last, BLANK);
-    let middle = put_decimal(text, after, y);
-    let before = put(text, middle, BLANK);
-    let first = put_decimal(text, before, x);
-    put(text, first, BLANK)
+    let last = put_number(text, end, z);
+    let middle = put_number(text, last, y);
+    put_number(text, middle, x)
+}
+
+// A line of a word and three numbers.
+fn put_line(text: &mut [u8], at: usize, word: &[u8], x: u64, y: u64, z: u64) -> usize
+    requires { ⌜ (length (now word) ≤ 11) × (75 ≤ at) × (at ≤ length (now text)) ⌝ }
+    ensures { λ r. ⌜ Puts (now (word .entry) ++ threeEnd x y z) 75 at (now (text .entry)) r (now (text .exit)) ⌝ }
+{
+    let end = put_three_end(text, at, x, y, z);
+    put_word(text, end, word)
 }
 
 // A bug that is not zero.
@@ -97,14 +113,6 @@ fn wider(x: u16) -> u64
     x as u64
 }
 
-// Word, left and right bit of a definition at the end of a line.
-fn put_definition_end(text: &mut [u8], at: usize, x: Definition) -> usize
-    requires { ⌜ (64 ≤ at) × (at ≤ length (now text)) ⌝ }
-    ensures { λ r. ⌜ Puts (threeEnd (x .word) (x .left) (x .right)) 64 at (now (text .entry)) r (now (text .exit)) ⌝ }
-{
-    put_three_end(text, at, wide(x.word), wide(x.left), wide(x.right))
-}
-
 // A field that is defined.
 fn put_field(text: &mut [u8], at: usize, i: usize, x: Definition) -> usize
     requires { ⌜ (96 ≤ at) × (at ≤ length (now text)) ⌝ }
@@ -113,7 +121,7 @@ fn put_field(text: &mut [u8], at: usize, i: usize, x: Definition) -> usize
     if !x.defined {
         return at;
     }
-    let end = put_definition_end(text, at, x);
+    let end = put_three_end(text, at, wide(x.word), wide(x.left), wide(x.right));
     let name = put(text, end, field_character(i as u64));
     put_word(text, name, b"field ")
 }
@@ -126,8 +134,14 @@ fn put_definition(text: &mut [u8], at: usize, x: Definition) -> usize
     if !x.defined {
         return put_word(text, at, b"definition undefined\n");
     }
-    let end = put_definition_end(text, at, x);
-    put_word(text, end, b"definition")
+    put_line(
+        text,
+        at,
+        b"definition",
+        wide(x.word),
+        wide(x.left),
+        wide(x.right),
+    )
 }
 
 // A saved place.
@@ -135,8 +149,14 @@ fn put_place(text: &mut [u8], at: usize, p: Place) -> usize
     requires { ⌜ (96 ≤ at) × (at ≤ length (now text)) ⌝ }
     ensures { λ r. ⌜ Puts (placeText p) 96 at (now (text .entry)) r (now (text .exit)) ⌝ }
 {
-    let end = put_three_end(text, at, wide(p.kind), wider(p.row), wider(p.line));
-    put_word(text, end, b"place")
+    put_line(
+        text,
+        at,
+        b"place",
+        wide(p.kind),
+        wider(p.row),
+        wider(p.line),
+    )
 }
 
 // Saved contents.
@@ -163,28 +183,20 @@ fn owner_of(map: &[u8; 4096], i: usize) -> u8
     map[0]
 }
 
-// First and last address and size of a block at the end of a line.
-fn put_block_end(text: &mut [u8], at: usize, address: u64, tag: u8) -> usize
-    requires { ⌜ (address < 131072) × (0 < tag) × (64 ≤ at) × (at ≤ length (now text)) ⌝ }
-    ensures { λ r. ⌜ Puts (blockEnd address tag) 64 at (now (text .entry)) r (now (text .exit)) ⌝ }
-{
-    let n = size_of((tag - 1) / 2 % 8) as u64;
-    put_three_end(text, at, address, address + n - 1, n)
-}
-
 // Where a block starts.
 fn put_start(text: &mut [u8], at: usize, address: u64, tag: u8) -> usize
-    requires { ⌜ (address < 131072) × (72 ≤ at) × (at ≤ length (now text)) ⌝ }
-    ensures { λ r. ⌜ Puts (startText address tag) 72 at (now (text .entry)) r (now (text .exit)) ⌝ }
+    requires { ⌜ (address < 131072) × (75 ≤ at) × (at ≤ length (now text)) ⌝ }
+    ensures { λ r. ⌜ Puts (startText address tag) 75 at (now (text .entry)) r (now (text .exit)) ⌝ }
 {
     if tag == 0 {
         return at;
     }
-    let end = put_block_end(text, at, address, tag);
+    let n = size_of((tag - 1) / 2 % 8) as u64;
+    let last = address + n - 1;
     if tag % 2 == 0 {
-        return put_word(text, end, b"block");
+        return put_line(text, at, b"block", address, last, n);
     }
-    put_word(text, end, b"free")
+    put_line(text, at, b"free", address, last, n)
 }
 
 // A word of a live block.
@@ -327,14 +339,14 @@ fn put_head(text: &mut [u8], at: usize, core: Core) -> usize
     let definitions = core.definitions;
     let fields = put_fields(text, at, definitions);
     let letters = put_bugs(text, fields, &bugs);
-    let end = put_three_end(
+    put_line(
         text,
         letters,
+        b"set-up",
         wider(setup.d),
         wider(setup.s1),
         wider(setup.s2),
-    );
-    put_word(text, end, b"set-up")
+    )
 }
 
 // How many entries the stacks have.
@@ -342,8 +354,14 @@ fn put_counts(text: &mut [u8], at: usize, contents: usize, saved: usize, calls: 
     requires { ⌜ (96 ≤ at) × (at ≤ length (now text)) ⌝ }
     ensures { λ r. ⌜ Puts (countsLine contents saved calls) 96 at (now (text .entry)) r (now (text .exit)) ⌝ }
 {
-    let end = put_three_end(text, at, contents as u64, saved as u64, calls as u64);
-    put_word(text, end, b"stacks")
+    put_line(
+        text,
+        at,
+        b"stacks",
+        contents as u64,
+        saved as u64,
+        calls as u64,
+    )
 }
 
 // The stacks.

@@ -1,5 +1,5 @@
 -- `inventory::list_tour` meets its contract. Assumes nothing.
-use mathlib.Core.Path.{_≡_, refl, sym, ap}
+use mathlib.Core.Path.{refl, ap}
 use Rattle.machine.specs.Step.{RunOutcome}
 use Rattle.inventory.specs.Inventory.{listing, printed}
 use Rattle.inventory.proofs.Pieces.{puts-as}
@@ -23,7 +23,7 @@ returns : tie.Need-returns
 unfolding printed
 returns c =
     let at-run-tour = c .before .before .before .before .before .before in
-    puts-as (ap (λ (r : RunOutcome). listing (r .ran .state) (r .storage)) (at-run-tour .run-tour .ensures)) (c .put-listing .ensures)
+    puts-as (c .put-listing .ensures) (ap (λ (r : RunOutcome). listing (r .ran .state) (r .storage)) (at-run-tour .run-tour .ensures))
 
 pub list-tour-spec : {M : Type 1} → statement M
 list-tour-spec =

@@ -2,10 +2,9 @@
 use mathlib.Core.List.{_∷_, []}
 use native.Mathlib.Omega.{arith}
 use borrow.Author.Tests.{eq-eqb, ne-eqb}
-use Rattle.tour.proofs.Putting.{more}
 use Rattle.diagnosis.specs.Diagnosis.{spelled}
 use Rattle.inventory.specs.Inventory.{bugText}
-use Rattle.inventory.proofs.Pieces.{puts-none, puts-all, puts-first}
+use Rattle.inventory.proofs.Pieces.{puts-none, puts-of, puts-join, puts-room, puts-wider}
 use borrow.Author.Needs.{needs}
 use Rattle.inventory.proofs.put_bug.Statement.{statement}
 use Rattle.inventory.proofs.put_bug.Tie as tie
@@ -27,7 +26,7 @@ put-requires : tie.Need-put-requires
 put-requires c κs =
     let at-put-word-end = c .before .before .before in
     let entry = at-put-word-end .before .before .before .before in
-    (omega (arith, at-put-word-end .put-word-end .ensures .starts, at-put-word-end .put-word-end .ensures .few, entry .pre .1), search needs)
+    (puts-room (at-put-word-end .put-word-end .ensures) 1 (omega (arith, entry .pre .1)), search needs)
 
 slice-aggregate-put-word : tie.Need-slice-aggregate-put-word
 slice-aggregate-put-word c = search needs
@@ -36,16 +35,8 @@ put-word-requires : tie.Need-put-word-requires
 put-word-requires c κs =
     let at-put = c .before .before .before .before in
     let at-put-word-end = at-put .before .before .before .before in
-    let entry = at-put-word-end .before .before .before .before in (
-      omega (
-        arith,
-        at-put .put .ensures .0,
-        at-put-word-end .put-word-end .ensures .starts,
-        at-put-word-end .put-word-end .ensures .few,
-        entry .pre .1,
-      ),
-      search needs,
-    )
+    let entry = at-put-word-end .before .before .before .before in
+    (omega (arith, at-put .put .ensures .0, puts-room (at-put-word-end .put-word-end .ensures) 5 (omega (arith, entry .pre .1))), search needs)
 
 same-length : tie.Need-same-length
 same-length c = search needs
@@ -58,17 +49,10 @@ returns-2 c =
     let at-put-word-end = at-put .before .before .before .before in
     let at-if1 = at-put-word-end .before .before in
     let entry = at-if1 .before .before in
-    let one = puts-first (at-put-word-end .put-word-end .ensures) (entry .pre .2) in
-    let two = more one (_ ∷ []) (at-put .put .ensures .0) (at-put .put .ensures .1) in
-    let three = more two _ (at-put-word .put-word .ensures .0) (at-put-word .put-word .ensures .1) in
-    rw (ne-eqb _ _ (at-if1 .if1 .left)) (puts-all 96 three (omega (
-      arith,
-      three .starts,
-      at-put-word .put-word .ensures .0,
-      at-put .put .ensures .0,
-      at-put-word-end .put-word-end .ensures .starts,
-      at-put-word-end .put-word-end .ensures .few,
-    )))
+    let two = puts-join (at-put-word-end .put-word-end .ensures) (entry .pre .2) (puts-of (_ ∷ []) (at-put .put .ensures .0)
+    (at-put .put .ensures .1)) in
+    let three = puts-join two (entry .pre .2) (puts-of _ (at-put-word .put-word .ensures .0) (at-put-word .put-word .ensures .1)) in
+    rw (ne-eqb _ _ (at-if1 .if1 .left)) (puts-wider three 96 (omega arith))
 
 pub put-bug-spec : {M : Type 1} → statement M
 put-bug-spec =

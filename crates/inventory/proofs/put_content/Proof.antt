@@ -2,7 +2,7 @@
 use native.Mathlib.Omega.{arith}
 use borrow.Author.Tests.{eq-eqb, ne-eqb}
 use Rattle.inventory.specs.Inventory.{isLive, contentText}
-use Rattle.inventory.proofs.Pieces.{puts-none, puts-all, puts-first, puts-more}
+use Rattle.inventory.proofs.Pieces.{puts-none, puts-join, puts-room}
 use borrow.Author.Needs.{needs}
 use Rattle.inventory.proofs.put_content.Statement.{statement}
 use Rattle.inventory.proofs.put_content.Tie as tie
@@ -22,7 +22,7 @@ put-octal-requires : tie.Need-put-octal-requires
 put-octal-requires c κs =
     let at-put-word-end = c .before .before .before in
     let entry = at-put-word-end .before .before .before .before .before in
-    (omega (arith, at-put-word-end .put-word-end .ensures .starts, at-put-word-end .put-word-end .ensures .few, entry .pre .0), search needs)
+    (puts-room (at-put-word-end .put-word-end .ensures) 5 (entry .pre .0), search needs)
 
 same-length : tie.Need-same-length
 same-length c = search needs
@@ -35,17 +35,8 @@ returns-3 c =
     let at-if2 = at-put-word-end .before .before in
     let at-if1 = at-if2 .before in
     let entry = at-if1 .before .before in
-    let one = puts-first (at-put-word-end .put-word-end .ensures) (entry .pre .1) in
-    let two = puts-more one (at-put-octal .put-octal .ensures) in
-    rw (ne-eqb _ _ (at-if1 .if1 .left), eq-eqb _ _ (at-if2 .if2 .left))
-    (puts-all 19 two (omega (
-      arith,
-      two .starts,
-      at-put-octal .put-octal .ensures .starts,
-      at-put-octal .put-octal .ensures .few,
-      at-put-word-end .put-word-end .ensures .starts,
-      at-put-word-end .put-word-end .ensures .few,
-    )))
+    rw (ne-eqb _ _ (at-if1 .if1 .left), eq-eqb _ _ (at-if2 .if2 .left)) (puts-join (at-put-word-end .put-word-end .ensures) (entry .pre .1)
+    (at-put-octal .put-octal .ensures))
 
 pub put-content-spec : {M : Type 1} → statement M
 put-content-spec =

@@ -1,50 +1,30 @@
 -- `inventory::put_counts` meets its contract. Assumes nothing.
 use native.Mathlib.Omega.{arith}
-use Rattle.tour.proofs.Putting.{more}
 use Rattle.diagnosis.specs.Diagnosis.{spelled}
 use Rattle.inventory.specs.Inventory.{countsLine}
-use Rattle.inventory.proofs.Pieces.{puts-all, puts-first}
+use Rattle.inventory.proofs.Pieces.{puts-wider}
 use borrow.Author.Needs.{needs}
 use Rattle.inventory.proofs.put_counts.Statement.{statement}
 use Rattle.inventory.proofs.put_counts.Tie as tie
 
-put-three-end-requires : tie.Need-put-three-end-requires
-put-three-end-requires c κs = (omega (arith, c .before .before .pre .0), search needs)
+slice-aggregate-put-line : tie.Need-slice-aggregate-put-line
+slice-aggregate-put-line c = search needs
 
-slice-aggregate-put-word : tie.Need-slice-aggregate-put-word
-slice-aggregate-put-word c = search needs
-
-put-word-requires : tie.Need-put-word-requires
-put-word-requires c κs =
-    let at-put-three-end = c .before .before .before .before in
-    let entry = at-put-three-end .before .before .before in
-    (omega (arith, at-put-three-end .put-three-end .ensures .starts, at-put-three-end .put-three-end .ensures .few, entry .pre .0), search needs)
+put-line-requires : tie.Need-put-line-requires
+put-line-requires c κs = (omega arith, omega (arith, c .before .before .before .pre .0), search needs)
 
 same-length : tie.Need-same-length
 same-length c = search needs
 
 returns : tie.Need-returns
 unfolding countsLine spelled
-returns c =
-    let at-put-word = c .before .before in
-    let at-put-three-end = at-put-word .before .before .before .before .before in
-    let entry = at-put-three-end .before .before .before in
-    let one = puts-first (at-put-three-end .put-three-end .ensures) (entry .pre .1) in
-    let two = more one _ (at-put-word .put-word .ensures .0) (at-put-word .put-word .ensures .1) in
-    puts-all 96 two (omega (
-      arith,
-      two .starts,
-      at-put-word .put-word .ensures .0,
-      at-put-three-end .put-three-end .ensures .starts,
-      at-put-three-end .put-three-end .ensures .few,
-    ))
+returns c = puts-wider (c .before .before .put-line .ensures) 96 (omega arith)
 
 pub put-counts-spec : {M : Type 1} → statement M
 put-counts-spec =
     tie.close
     (tie.spec
-    put-three-end-requires
-    slice-aggregate-put-word
-    put-word-requires
+    slice-aggregate-put-line
+    put-line-requires
     same-length
     returns)

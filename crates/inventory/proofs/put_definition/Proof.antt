@@ -1,10 +1,9 @@
 -- `inventory::put_definition` meets its contract. Assumes nothing.
 use native.Mathlib.Omega.{arith}
 use borrow.Author.Tests.{not-true, not-false}
-use Rattle.tour.proofs.Putting.{more}
 use Rattle.diagnosis.specs.Diagnosis.{spelled}
 use Rattle.inventory.specs.Inventory.{definitionText}
-use Rattle.inventory.proofs.Pieces.{puts-all, puts-first}
+use Rattle.inventory.proofs.Pieces.{puts-of, puts-wider}
 use borrow.Author.Needs.{needs}
 use Rattle.inventory.proofs.put_definition.Statement.{statement}
 use Rattle.inventory.proofs.put_definition.Tie as tie
@@ -26,34 +25,25 @@ returns c =
     let at-put-word = c .before .before in
     let at-if1 = at-put-word .before .before .before in
     let entry = at-if1 .before .before .before in
-    rw (not-true (entry .args .x .defined) (at-if1 .if1 .taken))
-    (record {
-      starts = at-put-word .put-word .ensures .0;
-      buffer = at-put-word .put-word .ensures .1;
-      few = omega (
-        arith,
-        at-put-word .put-word .ensures .0,
-      );
-    })
+    rw (not-true (entry .args .x .defined) (at-if1 .if1 .taken)) (puts-wider (puts-of _ (at-put-word .put-word .ensures .0)
+    (at-put-word .put-word .ensures .1)) 96 (omega arith))
 
-put-definition-end-requires : tie.Need-put-definition-end-requires
-put-definition-end-requires c κs = (omega (arith, c .before .before .before .before .pre .0), search needs)
+slice-aggregate-put-line : tie.Need-slice-aggregate-put-line
+slice-aggregate-put-line c = search needs
 
-slice-aggregate-put-word-2 : tie.Need-slice-aggregate-put-word-2
-slice-aggregate-put-word-2 c = search needs
+wide-requires : tie.Need-wide-requires
+wide-requires c κs = search needs
 
-put-word-requires-2 : tie.Need-put-word-requires-2
-put-word-requires-2 c κs =
-    let at-put-definition-end = c .before .before .before .before in
-    let entry = at-put-definition-end .before .before .before .before .before in (
-      omega (
-        arith,
-        at-put-definition-end .put-definition-end .ensures .starts,
-        at-put-definition-end .put-definition-end .ensures .few,
-        entry .pre .0,
-      ),
-      search needs,
-    )
+wide-requires-2 : tie.Need-wide-requires-2
+wide-requires-2 c κs = search needs
+
+wide-requires-3 : tie.Need-wide-requires-3
+wide-requires-3 c κs = search needs
+
+put-line-requires : tie.Need-put-line-requires
+put-line-requires c κs =
+    let entry = c .before .before .before .before .before .before .before .before in
+    (omega arith, omega (arith, entry .pre .0), search needs)
 
 same-length-2 : tie.Need-same-length-2
 same-length-2 c = search needs
@@ -61,20 +51,14 @@ same-length-2 c = search needs
 returns-2 : tie.Need-returns-2
 unfolding definitionText spelled
 returns-2 c =
-    let at-put-word2 = c .before .before in
-    let at-put-definition-end = at-put-word2 .before .before .before .before .before in
-    let at-if1 = at-put-definition-end .before .before in
+    let at-put-line = c .before .before in
+    let at-wide3 = at-put-line .before in
+    let at-wide2 = at-wide3 .before in
+    let at-wide = at-wide2 .before in
+    let at-if1 = at-wide .before .before .before in
     let entry = at-if1 .before .before .before in
-    let one = puts-first (at-put-definition-end .put-definition-end .ensures) (entry .pre .1) in
-    let two = more one _ (at-put-word2 .put-word2 .ensures .0) (at-put-word2 .put-word2 .ensures .1) in
-    rw (not-false (entry .args .x .defined) (at-if1 .if1 .left))
-    (puts-all 96 two (omega (
-      arith,
-      two .starts,
-      at-put-word2 .put-word2 .ensures .0,
-      at-put-definition-end .put-definition-end .ensures .starts,
-      at-put-definition-end .put-definition-end .ensures .few,
-    )))
+    let line = rw (at-wide .wide .ensures, at-wide2 .wide2 .ensures, at-wide3 .wide3 .ensures) at (at-put-line .put-line .ensures) in
+    rw (not-false (entry .args .x .defined) (at-if1 .if1 .left)) (puts-wider line 96 (omega arith))
 
 pub put-definition-spec : {M : Type 1} → statement M
 put-definition-spec =
@@ -84,8 +68,10 @@ put-definition-spec =
     put-word-requires
     same-length
     returns
-    put-definition-end-requires
-    slice-aggregate-put-word-2
-    put-word-requires-2
+    slice-aggregate-put-line
+    wide-requires
+    wide-requires-2
+    wide-requires-3
+    put-line-requires
     same-length-2
     returns-2)

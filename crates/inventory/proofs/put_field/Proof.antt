@@ -2,10 +2,9 @@
 use mathlib.Core.List.{_∷_, []}
 use native.Mathlib.Omega.{arith}
 use borrow.Author.Tests.{not-true, not-false}
-use Rattle.tour.proofs.Putting.{more}
 use Rattle.diagnosis.specs.Diagnosis.{spelled}
 use Rattle.inventory.specs.Inventory.{fieldText}
-use Rattle.inventory.proofs.Pieces.{puts-none, puts-all, puts-first}
+use Rattle.inventory.proofs.Pieces.{puts-none, puts-of, puts-join, puts-room, puts-wider}
 use borrow.Author.Needs.{needs}
 use Rattle.inventory.proofs.put_field.Statement.{statement}
 use Rattle.inventory.proofs.put_field.Tie as tie
@@ -14,24 +13,28 @@ returns : tie.Need-returns
 unfolding fieldText
 returns c = rw (not-true (c .before .before .before .args .x .defined) (c .if1 .taken)) (puts-none _ _ _)
 
-put-definition-end-requires : tie.Need-put-definition-end-requires
-put-definition-end-requires c κs = (omega (arith, c .before .before .before .before .pre .0), search needs)
+wide-requires : tie.Need-wide-requires
+wide-requires c κs = search needs
+
+wide-requires-2 : tie.Need-wide-requires-2
+wide-requires-2 c κs = search needs
+
+wide-requires-3 : tie.Need-wide-requires-3
+wide-requires-3 c κs = search needs
+
+put-three-end-requires : tie.Need-put-three-end-requires
+put-three-end-requires c κs =
+    let entry = c .before .before .before .before .before .before .before in
+    (omega (arith, entry .pre .0), search needs)
 
 field-character-requires : tie.Need-field-character-requires
 field-character-requires c κs = search needs
 
 put-requires : tie.Need-put-requires
 put-requires c κs =
-    let at-put-definition-end = c .before .before .before .before in
-    let entry = at-put-definition-end .before .before .before .before .before in (
-      omega (
-        arith,
-        at-put-definition-end .put-definition-end .ensures .starts,
-        at-put-definition-end .put-definition-end .ensures .few,
-        entry .pre .0,
-      ),
-      search needs,
-    )
+    let at-put-three-end = c .before .before .before .before in
+    let entry = at-put-three-end .before .before .before .before .before .before .before .before in
+    (puts-room (at-put-three-end .put-three-end .ensures) 1 (omega (arith, entry .pre .0)), search needs)
 
 slice-aggregate-put-word : tie.Need-slice-aggregate-put-word
 slice-aggregate-put-word c = search needs
@@ -39,17 +42,9 @@ slice-aggregate-put-word c = search needs
 put-word-requires : tie.Need-put-word-requires
 put-word-requires c κs =
     let at-put = c .before .before .before .before in
-    let at-put-definition-end = at-put .before .before .before .before .before in
-    let entry = at-put-definition-end .before .before .before .before .before in (
-      omega (
-        arith,
-        at-put .put .ensures .0,
-        at-put-definition-end .put-definition-end .ensures .starts,
-        at-put-definition-end .put-definition-end .ensures .few,
-        entry .pre .0,
-      ),
-      search needs,
-    )
+    let at-put-three-end = at-put .before .before .before .before .before in
+    let entry = at-put-three-end .before .before .before .before .before .before .before .before in
+    (omega (arith, at-put .put .ensures .0, puts-room (at-put-three-end .put-three-end .ensures) 7 (omega (arith, entry .pre .0))), search needs)
 
 same-length : tie.Need-same-length
 same-length c = search needs
@@ -60,28 +55,26 @@ returns-2 c =
     let at-put-word = c .before .before in
     let at-put = at-put-word .before .before .before .before .before in
     let at-field-character = at-put .before in
-    let at-put-definition-end = at-field-character .before .before .before .before in
-    let at-if1 = at-put-definition-end .before .before in
+    let at-put-three-end = at-field-character .before .before .before .before in
+    let at-wide3 = at-put-three-end .before in
+    let at-wide2 = at-wide3 .before in
+    let at-wide = at-wide2 .before in
+    let at-if1 = at-wide .before .before in
     let entry = at-if1 .before .before .before in
-    let one = puts-first (at-put-definition-end .put-definition-end .ensures) (entry .pre .1) in
-    let two = more one (_ ∷ []) (at-put .put .ensures .0) (at-put .put .ensures .1) in
-    let three = more two _ (at-put-word .put-word .ensures .0) (at-put-word .put-word .ensures .1) in
-    rw (not-false (entry .args .x .defined) (at-if1 .if1 .left), ← (at-field-character .field-character .ensures))
-    (puts-all 96 three (omega (
-      arith,
-      three .starts,
-      at-put-word .put-word .ensures .0,
-      at-put .put .ensures .0,
-      at-put-definition-end .put-definition-end .ensures .starts,
-      at-put-definition-end .put-definition-end .ensures .few,
-    )))
+    let one = rw (at-wide .wide .ensures, at-wide2 .wide2 .ensures, at-wide3 .wide3 .ensures) at (at-put-three-end .put-three-end .ensures) in
+    let two = puts-join one (entry .pre .1) (puts-of (_ ∷ []) (at-put .put .ensures .0) (at-put .put .ensures .1)) in
+    let three = puts-join two (entry .pre .1) (puts-of _ (at-put-word .put-word .ensures .0) (at-put-word .put-word .ensures .1)) in
+    rw (not-false (entry .args .x .defined) (at-if1 .if1 .left), ← (at-field-character .field-character .ensures)) (puts-wider three 96 (omega arith))
 
 pub put-field-spec : {M : Type 1} → statement M
 put-field-spec =
     tie.close
     (tie.spec
     returns
-    put-definition-end-requires
+    wide-requires
+    wide-requires-2
+    wide-requires-3
+    put-three-end-requires
     field-character-requires
     put-requires
     slice-aggregate-put-word

@@ -1,7 +1,7 @@
 -- `inventory::put_listing` meets its contract: its parts, the last first. Assumes nothing.
 use native.Mathlib.Omega.{arith}
 use Rattle.inventory.specs.Inventory.{storageText, listing}
-use Rattle.inventory.proofs.Pieces.{puts-all, puts-first, puts-more}
+use Rattle.inventory.proofs.Pieces.{puts-join, puts-room, puts-wider}
 use borrow.Author.Needs.{needs}
 use Rattle.inventory.proofs.put_listing.Statement.{statement}
 use Rattle.inventory.proofs.put_listing.Tie as tie
@@ -21,35 +21,18 @@ put-storage-requires : tie.Need-put-storage-requires
 put-storage-requires c κs =
     let at-least = c .before .before in
     let at-put-stacks = at-least .before .before .before .before in
-    let entry = at-put-stacks .before .before .before .before .before .before in (
-      omega (arith, at-least .least .ensures),
-      omega (
-        arith,
-        at-least .least .ensures,
-        at-put-stacks .put-stacks .ensures .starts,
-        at-put-stacks .put-stacks .ensures .few,
-        entry .pre .0,
-      ),
-      search needs,
-    )
+    let entry = at-put-stacks .before .before .before .before .before .before in
+    let room = puts-room (at-put-stacks .put-stacks .ensures) 400000 (omega (arith, entry .pre .0)) in
+    (omega (arith, at-least .least .ensures), omega (arith, at-least .least .ensures), search needs)
 
 put-head-requires : tie.Need-put-head-requires
 put-head-requires c κs =
     let at-put-storage = c .before .before .before in
     let at-least = at-put-storage .before .before .before in
     let at-put-stacks = at-least .before .before .before .before in
-    let entry = at-put-stacks .before .before .before .before .before .before in (
-      omega (
-        arith,
-        at-least .least .ensures,
-        at-put-stacks .put-stacks .ensures .starts,
-        at-put-stacks .put-stacks .ensures .few,
-        at-put-storage .put-storage .ensures .starts,
-        at-put-storage .put-storage .ensures .few,
-        entry .pre .0,
-      ),
-      search needs,
-    )
+    let entry = at-put-stacks .before .before .before .before .before .before in
+    let first = puts-room (at-put-stacks .put-stacks .ensures) 400000 (omega (arith, entry .pre .0)) in
+    (puts-room (at-put-storage .put-storage .ensures) 6048 (omega (arith, at-least .least .ensures)), search needs)
 
 same-length : tie.Need-same-length
 same-length c = search needs
@@ -63,21 +46,9 @@ returns c =
     let at-words-of = at-least .before in
     let at-put-stacks = at-words-of .before .before .before in
     let entry = at-put-stacks .before .before .before .before .before .before in
-    let one = puts-first (at-put-stacks .put-stacks .ensures) (entry .pre .1) in
-    let two = puts-more one (at-put-storage .put-storage .ensures) in
-    let three = puts-more two (at-put-head .put-head .ensures) in
-    rw (← (at-words-of .words-of .ensures), ← (at-least .least .ensures))
-    (puts-all 440000 three (omega (
-      arith,
-      three .starts,
-      at-least .least .ensures,
-      at-put-stacks .put-stacks .ensures .starts,
-      at-put-stacks .put-stacks .ensures .few,
-      at-put-storage .put-storage .ensures .starts,
-      at-put-storage .put-storage .ensures .few,
-      at-put-head .put-head .ensures .starts,
-      at-put-head .put-head .ensures .few,
-    )))
+    let two = puts-join (at-put-stacks .put-stacks .ensures) (entry .pre .1) (at-put-storage .put-storage .ensures) in
+    let all = puts-wider (puts-join two (entry .pre .1) (at-put-head .put-head .ensures)) 440000 (omega (arith, at-least .least .ensures)) in
+    rw (← (at-words-of .words-of .ensures), ← (at-least .least .ensures)) all
 
 pub put-listing-spec : {M : Type 1} → statement M
 put-listing-spec =

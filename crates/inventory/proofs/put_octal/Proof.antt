@@ -53,7 +53,7 @@ returns : tie.Need-returns Inv-loop μ-loop
 returns c =
     let (xs, ends, p) = c .before .loop .inv in
     let none : c .before .loop .left ≡ 0 = omega arith in
-    puts-as (sym (ends-last ends none)) (puts-all _ p (omega (arith, ends .long)))
+    puts-as (puts-all _ p (omega (arith, ends .long))) (sym (ends-last ends none))
 
 pub put-octal-spec : {M : Type 1} → statement M
 put-octal-spec =

@@ -1,9 +1,8 @@
 -- `inventory::put_saved` meets its contract. Assumes nothing.
 use native.Mathlib.Omega.{arith}
-use Rattle.tour.proofs.Putting.{more}
 use Rattle.diagnosis.specs.Diagnosis.{spelled}
 use Rattle.inventory.specs.Inventory.{savedText}
-use Rattle.inventory.proofs.Pieces.{puts-all, puts-first}
+use Rattle.inventory.proofs.Pieces.{puts-of, puts-join, puts-room, puts-wider}
 use borrow.Author.Needs.{needs}
 use Rattle.inventory.proofs.put_saved.Statement.{statement}
 use Rattle.inventory.proofs.put_saved.Tie as tie
@@ -18,7 +17,7 @@ put-word-requires : tie.Need-put-word-requires
 put-word-requires c κs =
     let at-put-word-end = c .before .before .before .before in
     let entry = at-put-word-end .before .before .before in
-    (omega (arith, at-put-word-end .put-word-end .ensures .starts, at-put-word-end .put-word-end .ensures .few, entry .pre .0), search needs)
+    (puts-room (at-put-word-end .put-word-end .ensures) 8 (omega (arith, entry .pre .0)), search needs)
 
 same-length : tie.Need-same-length
 same-length c = search needs
@@ -29,15 +28,8 @@ returns c =
     let at-put-word = c .before .before in
     let at-put-word-end = at-put-word .before .before .before .before .before in
     let entry = at-put-word-end .before .before .before in
-    let one = puts-first (at-put-word-end .put-word-end .ensures) (entry .pre .1) in
-    let two = more one _ (at-put-word .put-word .ensures .0) (at-put-word .put-word .ensures .1) in
-    puts-all 96 two (omega (
-      arith,
-      two .starts,
-      at-put-word .put-word .ensures .0,
-      at-put-word-end .put-word-end .ensures .starts,
-      at-put-word-end .put-word-end .ensures .few,
-    ))
+    puts-wider (puts-join (at-put-word-end .put-word-end .ensures) (entry .pre .1) (puts-of _ (at-put-word .put-word .ensures .0)
+    (at-put-word .put-word .ensures .1))) 96 (omega arith)
 
 pub put-saved-spec : {M : Type 1} → statement M
 put-saved-spec =

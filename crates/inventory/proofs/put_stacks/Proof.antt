@@ -1,7 +1,8 @@
 -- `inventory::put_stacks` meets its contract: its parts, the last first. Assumes nothing.
 use native.Mathlib.Omega.{arith}
+use Prim.Native.Nat.{_*_, _+_}
 use Rattle.inventory.specs.Inventory.{stacksText}
-use Rattle.inventory.proofs.Pieces.{puts-all, puts-first, puts-more}
+use Rattle.inventory.proofs.Pieces.{puts-join, puts-room, puts-wider}
 use borrow.Author.Needs.{needs}
 use Rattle.inventory.proofs.put_stacks.Statement.{statement}
 use Rattle.inventory.proofs.put_stacks.Tie as tie
@@ -21,18 +22,9 @@ put-definitions-requires : tie.Need-put-definitions-requires
 put-definitions-requires c κs =
     let at-put-places = c .before .before .before .before in
     let at-least = at-put-places .before in
-    let entry = at-least .before .before .before .before .before .before in (
-      omega (arith, c .least2 .ensures),
-      omega (
-        arith,
-        at-least .least .ensures,
-        c .least2 .ensures,
-        at-put-places .put-places .ensures .starts,
-        at-put-places .put-places .ensures .few,
-        entry .pre .0,
-      ),
-      search needs,
-    )
+    let entry = at-least .before .before .before .before .before .before in
+    let room = puts-room (at-put-places .put-places .ensures) (12288 + 12288 + 96) (omega (arith, at-least .least .ensures, entry .pre .0)) in
+    (omega (arith, c .least2 .ensures), omega (arith, c .least2 .ensures), search needs)
 
 least-requires-3 : tie.Need-least-requires-3
 least-requires-3 c κs = search needs
@@ -43,21 +35,10 @@ put-contents-requires c κs =
     let at-least2 = at-put-definitions .before in
     let at-put-places = at-least2 .before .before .before .before in
     let at-least = at-put-places .before in
-    let entry = at-least .before .before .before .before .before .before in (
-      omega (arith, c .least3 .ensures),
-      omega (
-        arith,
-        at-least .least .ensures,
-        at-least2 .least2 .ensures,
-        c .least3 .ensures,
-        at-put-places .put-places .ensures .starts,
-        at-put-places .put-places .ensures .few,
-        at-put-definitions .put-definitions .ensures .starts,
-        at-put-definitions .put-definitions .ensures .few,
-        entry .pre .0,
-      ),
-      search needs,
-    )
+    let entry = at-least .before .before .before .before .before .before in
+    let first = puts-room (at-put-places .put-places .ensures) (12288 + 12288 + 96) (omega (arith, at-least .least .ensures, entry .pre .0)) in
+    let room = puts-room (at-put-definitions .put-definitions .ensures) (12288 + 96) (omega (arith, at-least2 .least2 .ensures)) in
+    (omega (arith, c .least3 .ensures), omega (arith, c .least3 .ensures), search needs)
 
 put-counts-requires : tie.Need-put-counts-requires
 put-counts-requires c κs =
@@ -67,22 +48,10 @@ put-counts-requires c κs =
     let at-least2 = at-put-definitions .before in
     let at-put-places = at-least2 .before .before .before .before in
     let at-least = at-put-places .before in
-    let entry = at-least .before .before .before .before .before .before in (
-      omega (
-        arith,
-        at-least .least .ensures,
-        at-least2 .least2 .ensures,
-        at-least3 .least3 .ensures,
-        at-put-places .put-places .ensures .starts,
-        at-put-places .put-places .ensures .few,
-        at-put-definitions .put-definitions .ensures .starts,
-        at-put-definitions .put-definitions .ensures .few,
-        at-put-contents .put-contents .ensures .starts,
-        at-put-contents .put-contents .ensures .few,
-        entry .pre .0,
-      ),
-      search needs,
-    )
+    let entry = at-least .before .before .before .before .before .before in
+    let first = puts-room (at-put-places .put-places .ensures) (12288 + 12288 + 96) (omega (arith, at-least .least .ensures, entry .pre .0)) in
+    let second = puts-room (at-put-definitions .put-definitions .ensures) (12288 + 96) (omega (arith, at-least2 .least2 .ensures)) in
+    (puts-room (at-put-contents .put-contents .ensures) 96 (omega (arith, at-least3 .least3 .ensures)), search needs)
 
 same-length : tie.Need-same-length
 same-length c = search needs
@@ -98,26 +67,11 @@ returns c =
     let at-put-places = at-least2 .before .before .before .before in
     let at-least = at-put-places .before in
     let entry = at-least .before .before .before .before .before .before in
-    let one = puts-first (at-put-places .put-places .ensures) (entry .pre .1) in
-    let two = puts-more one (at-put-definitions .put-definitions .ensures) in
-    let three = puts-more two (at-put-contents .put-contents .ensures) in
-    let four = puts-more three (at-put-counts .put-counts .ensures) in
-    rw (← (at-least .least .ensures), ← (at-least2 .least2 .ensures), ← (at-least3 .least3 .ensures))
-    (puts-all 36960 four (omega (
-      arith,
-      four .starts,
-      at-least .least .ensures,
-      at-least2 .least2 .ensures,
-      at-least3 .least3 .ensures,
-      at-put-places .put-places .ensures .starts,
-      at-put-places .put-places .ensures .few,
-      at-put-definitions .put-definitions .ensures .starts,
-      at-put-definitions .put-definitions .ensures .few,
-      at-put-contents .put-contents .ensures .starts,
-      at-put-contents .put-contents .ensures .few,
-      at-put-counts .put-counts .ensures .starts,
-      at-put-counts .put-counts .ensures .few,
-    )))
+    let two = puts-join (at-put-places .put-places .ensures) (entry .pre .1) (at-put-definitions .put-definitions .ensures) in
+    let four = puts-join (puts-join two (entry .pre .1) (at-put-contents .put-contents .ensures)) (entry .pre .1)
+    (at-put-counts .put-counts .ensures) in
+    let all = puts-wider four 36960 (omega (arith, at-least .least .ensures, at-least2 .least2 .ensures, at-least3 .least3 .ensures)) in
+    rw (← (at-least .least .ensures), ← (at-least2 .least2 .ensures), ← (at-least3 .least3 .ensures)) all
 
 pub put-stacks-spec : {M : Type 1} → statement M
 put-stacks-spec =

@@ -1,10 +1,11 @@
 -- `inventory::put_start` meets its contract: by the tag. Assumes nothing.
+use Prim.Native.Nat.{_-_, _/_, _%_}
 use native.Mathlib.Omega.{arith}
 use borrow.Author.Tests.{eq-eqb, ne-eqb}
-use Rattle.tour.proofs.Putting.{more}
+use Rattle.block.proofs.Size.{size-pos, size-small}
 use Rattle.diagnosis.specs.Diagnosis.{spelled}
-use Rattle.inventory.specs.Inventory.{startText}
-use Rattle.inventory.proofs.Pieces.{puts-none, puts-all, puts-first}
+use Rattle.inventory.specs.Inventory.{blockLine, startText}
+use Rattle.inventory.proofs.Pieces.{puts-none}
 use borrow.Author.Needs.{needs}
 use Rattle.inventory.proofs.put_start.Statement.{statement}
 use Rattle.inventory.proofs.put_start.Tie as tie
@@ -13,84 +14,74 @@ returns : tie.Need-returns
 unfolding startText
 returns c = rw (eq-eqb _ _ (c .if1 .taken)) (puts-none _ _ _)
 
-put-block-end-requires : tie.Need-put-block-end-requires
-put-block-end-requires c κs =
+sub-size-of : tie.Need-sub-size-of
+sub-size-of c = search needs
+
+size-of-requires : tie.Need-size-of-requires
+size-of-requires c κs = search needs
+
+add-last : tie.Need-add-last
+add-last c =
     let entry = c .before .before .before in
-    (entry .pre .0, omega arith, omega (arith, entry .pre .1), search needs)
+    record { fits = omega (arith, c .size-of .ensures, size-small ((entry .args .tag - 1) / 2 % 8) (omega arith), entry .pre .0) }
 
-slice-aggregate-put-word : tie.Need-slice-aggregate-put-word
-slice-aggregate-put-word c = search needs
+sub-last : tie.Need-sub-last
+sub-last c = omega (arith, c .size-of .ensures, size-pos ((c .before .before .before .args .tag - 1) / 2 % 8))
 
-put-word-requires : tie.Need-put-word-requires
-put-word-requires c κs =
-    let at-put-block-end = c .before .before .before .before .before in
-    let entry = at-put-block-end .before .before .before .before in
-    (omega (arith, at-put-block-end .put-block-end .ensures .starts, at-put-block-end .put-block-end .ensures .few, entry .pre .1), search needs)
+slice-aggregate-put-line : tie.Need-slice-aggregate-put-line
+slice-aggregate-put-line c = search needs
+
+put-line-requires : tie.Need-put-line-requires
+put-line-requires c κs =
+    let entry = c .before .before .before .before .before .before in
+    (omega arith, entry .pre .1, search needs)
 
 same-length : tie.Need-same-length
 same-length c = search needs
 
 returns-2 : tie.Need-returns-2
-unfolding startText spelled
+unfolding startText blockLine spelled
 returns-2 c =
-    let at-put-word = c .before .before in
-    let at-if2 = at-put-word .before .before .before in
-    let at-put-block-end = at-if2 .before .before .before in
-    let at-if1 = at-put-block-end .before .before in
-    let entry = at-if1 .before .before in
-    let one = puts-first (at-put-block-end .put-block-end .ensures) (entry .pre .2) in
-    let two = more one _ (at-put-word .put-word .ensures .0) (at-put-word .put-word .ensures .1) in
-    rw (ne-eqb _ _ (at-if1 .if1 .left), eq-eqb _ _ (at-if2 .if2 .taken))
-    (puts-all 72 two (omega (
-      arith,
-      two .starts,
-      at-put-word .put-word .ensures .0,
-      at-put-block-end .put-block-end .ensures .starts,
-      at-put-block-end .put-block-end .ensures .few,
-    )))
+    let at-put-line = c .before .before in
+    let at-if2 = at-put-line .before .before .before in
+    let at-size-of = at-if2 .before in
+    let at-if1 = at-size-of .before in
+    rw (ne-eqb _ _ (at-if1 .if1 .left), eq-eqb _ _ (at-if2 .if2 .taken)) (rw (at-size-of .size-of .ensures) at (at-put-line .put-line .ensures))
 
-slice-aggregate-put-word-2 : tie.Need-slice-aggregate-put-word-2
-slice-aggregate-put-word-2 c = search needs
+slice-aggregate-put-line-2 : tie.Need-slice-aggregate-put-line-2
+slice-aggregate-put-line-2 c = search needs
 
-put-word-requires-2 : tie.Need-put-word-requires-2
-put-word-requires-2 c κs =
-    let at-put-block-end = c .before .before .before .before .before in
-    let entry = at-put-block-end .before .before .before .before in
-    (omega (arith, at-put-block-end .put-block-end .ensures .starts, at-put-block-end .put-block-end .ensures .few, entry .pre .1), search needs)
+put-line-requires-2 : tie.Need-put-line-requires-2
+put-line-requires-2 c κs =
+    let entry = c .before .before .before .before .before .before in
+    (omega arith, entry .pre .1, search needs)
 
 same-length-2 : tie.Need-same-length-2
 same-length-2 c = search needs
 
 returns-3 : tie.Need-returns-3
-unfolding startText spelled
+unfolding startText blockLine spelled
 returns-3 c =
-    let at-put-word2 = c .before .before in
-    let at-if2 = at-put-word2 .before .before .before in
-    let at-put-block-end = at-if2 .before .before .before in
-    let at-if1 = at-put-block-end .before .before in
-    let entry = at-if1 .before .before in
-    let one = puts-first (at-put-block-end .put-block-end .ensures) (entry .pre .2) in
-    let two = more one _ (at-put-word2 .put-word2 .ensures .0) (at-put-word2 .put-word2 .ensures .1) in
-    rw (ne-eqb _ _ (at-if1 .if1 .left), ne-eqb _ _ (at-if2 .if2 .left))
-    (puts-all 72 two (omega (
-      arith,
-      two .starts,
-      at-put-word2 .put-word2 .ensures .0,
-      at-put-block-end .put-block-end .ensures .starts,
-      at-put-block-end .put-block-end .ensures .few,
-    )))
+    let at-put-line2 = c .before .before in
+    let at-if2 = at-put-line2 .before .before .before in
+    let at-size-of = at-if2 .before in
+    let at-if1 = at-size-of .before in
+    rw (ne-eqb _ _ (at-if1 .if1 .left), ne-eqb _ _ (at-if2 .if2 .left)) (rw (at-size-of .size-of .ensures) at (at-put-line2 .put-line2 .ensures))
 
 pub put-start-spec : {M : Type 1} → statement M
 put-start-spec =
     tie.close
     (tie.spec
     returns
-    put-block-end-requires
-    slice-aggregate-put-word
-    put-word-requires
+    sub-size-of
+    size-of-requires
+    add-last
+    sub-last
+    slice-aggregate-put-line
+    put-line-requires
     same-length
     returns-2
-    slice-aggregate-put-word-2
-    put-word-requires-2
+    slice-aggregate-put-line-2
+    put-line-requires-2
     same-length-2
     returns-3)

@@ -1,7 +1,7 @@
 -- `inventory::put_stored` meets its contract. Assumes nothing.
 use native.Mathlib.Omega.{arith}
 use Rattle.inventory.specs.Inventory.{storedText}
-use Rattle.inventory.proofs.Pieces.{puts-all, puts-first, puts-more}
+use Rattle.inventory.proofs.Pieces.{puts-join, puts-room, puts-wider}
 use borrow.Author.Needs.{needs}
 use Rattle.inventory.proofs.put_stored.Statement.{statement}
 use Rattle.inventory.proofs.put_stored.Tie as tie
@@ -35,12 +35,8 @@ put-start-requires c κs =
     let at-wider = at-put-content .before .before .before .before in
     let entry = at-wider .before .before in (
       omega (arith, at-wider .wider .ensures .1, entry .pre .0),
-      omega (
-        arith,
-        at-put-content .put-content .ensures .starts,
-        at-put-content .put-content .ensures .few,
-        entry .pre .1,
-      ),
+      puts-room (at-put-content .put-content .ensures) 75 (omega
+          (arith, entry .pre .1)),
       search needs,
     )
 
@@ -55,17 +51,8 @@ returns c =
     let at-owner-of = at-put-content .before .before in
     let at-wider = at-owner-of .before .before in
     let entry = at-wider .before .before in
-    let one = puts-first (at-put-content .put-content .ensures) (entry .pre .2) in
-    let two = puts-more one (at-put-start .put-start .ensures) in
-    rw (← (at-wider .wider .ensures .0), ← (at-owner-of .owner-of .ensures))
-    (puts-all 96 two (omega (
-      arith,
-      two .starts,
-      at-put-content .put-content .ensures .starts,
-      at-put-content .put-content .ensures .few,
-      at-put-start .put-start .ensures .starts,
-      at-put-start .put-start .ensures .few,
-    )))
+    rw (← (at-wider .wider .ensures .0), ← (at-owner-of .owner-of .ensures)) (puts-wider (puts-join (at-put-content .put-content .ensures)
+    (entry .pre .2) (at-put-start .put-start .ensures)) 96 (omega arith))
 
 pub put-stored-spec : {M : Type 1} → statement M
 put-stored-spec =

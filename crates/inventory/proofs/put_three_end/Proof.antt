@@ -1,11 +1,8 @@
 -- `inventory::put_three_end` meets its contract: its parts, the last first. Assumes nothing.
 use mathlib.Core.List.{_∷_, []}
 use native.Mathlib.Omega.{arith}
-use Rattle.tour.specs.Tour.{decimal}
-use Rattle.tour.proofs.Putting.{start, more}
-use Rattle.tour.proofs.Digits.{decimal-few}
 use Rattle.inventory.specs.Inventory.{threeEnd}
-use Rattle.inventory.proofs.Pieces.{puts-all}
+use Rattle.inventory.proofs.Pieces.{puts-of, puts-join, puts-room}
 use borrow.Author.Needs.{needs}
 use Rattle.inventory.proofs.put_three_end.Statement.{statement}
 use Rattle.inventory.proofs.put_three_end.Tie as tie
@@ -13,96 +10,27 @@ use Rattle.inventory.proofs.put_three_end.Tie as tie
 put-requires : tie.Need-put-requires
 put-requires c κs = search needs
 
-put-decimal-requires : tie.Need-put-decimal-requires
-put-decimal-requires c κs =
+put-number-requires : tie.Need-put-number-requires
+put-number-requires c κs =
     let at-put = c .before .before .before in
     let entry = at-put .before .before .before in
-    let few = decimal-few 19 (entry .args .z) (search needs) in
     (omega (arith, at-put .put .ensures .0, entry .pre .0), search needs)
 
-put-requires-2 : tie.Need-put-requires-2
-put-requires-2 c κs =
-    let at-put-decimal = c .before .before .before in
-    let at-put = at-put-decimal .before .before .before .before in
+put-number-requires-2 : tie.Need-put-number-requires-2
+put-number-requires-2 c κs =
+    let at-put-number = c .before .before .before in
+    let at-put = at-put-number .before .before .before .before in
     let entry = at-put .before .before .before in
-    let few = decimal-few 19 (entry .args .z) (search needs) in
-    (omega (arith, at-put .put .ensures .0, at-put-decimal .put-decimal .ensures .0, entry .pre .0), search needs)
+    (puts-room (at-put-number .put-number .ensures) 21 (omega (arith, at-put .put .ensures .0, entry .pre .0)), search needs)
 
-put-decimal-requires-2 : tie.Need-put-decimal-requires-2
-put-decimal-requires-2 c κs =
-    let at-put2 = c .before .before .before in
-    let at-put-decimal = at-put2 .before .before .before .before in
-    let at-put = at-put-decimal .before .before .before .before in
-    let entry = at-put .before .before .before in
-    let few = decimal-few 19 (entry .args .z) (search needs) in
-    let few2 = decimal-few 19 (entry .args .y) (search needs) in
-    (omega (arith, at-put .put .ensures .0, at-put-decimal .put-decimal .ensures .0, at-put2 .put2 .ensures .0, entry .pre .0), search needs)
-
-put-requires-3 : tie.Need-put-requires-3
-put-requires-3 c κs =
-    let at-put-decimal2 = c .before .before .before in
-    let at-put2 = at-put-decimal2 .before .before .before .before in
-    let at-put-decimal = at-put2 .before .before .before .before in
-    let at-put = at-put-decimal .before .before .before .before in
-    let entry = at-put .before .before .before in
-    let few = decimal-few 19 (entry .args .z) (search needs) in
-    let few2 = decimal-few 19 (entry .args .y) (search needs) in (
-      omega (
-        arith,
-        at-put .put .ensures .0,
-        at-put-decimal .put-decimal .ensures .0,
-        at-put2 .put2 .ensures .0,
-        at-put-decimal2 .put-decimal2 .ensures .0,
-        entry .pre .0,
-      ),
-      search needs,
-    )
-
-put-decimal-requires-3 : tie.Need-put-decimal-requires-3
-put-decimal-requires-3 c κs =
-    let at-put3 = c .before .before .before in
-    let at-put-decimal2 = at-put3 .before .before .before .before in
-    let at-put2 = at-put-decimal2 .before .before .before .before in
-    let at-put-decimal = at-put2 .before .before .before .before in
-    let at-put = at-put-decimal .before .before .before .before in
-    let entry = at-put .before .before .before in
-    let few = decimal-few 19 (entry .args .z) (search needs) in
-    let few2 = decimal-few 19 (entry .args .y) (search needs) in
-    let few3 = decimal-few 19 (entry .args .x) (search needs) in (
-      omega (
-        arith,
-        at-put .put .ensures .0,
-        at-put-decimal .put-decimal .ensures .0,
-        at-put2 .put2 .ensures .0,
-        at-put-decimal2 .put-decimal2 .ensures .0,
-        at-put3 .put3 .ensures .0,
-        entry .pre .0,
-      ),
-      search needs,
-    )
-
-put-requires-4 : tie.Need-put-requires-4
-put-requires-4 c κs =
-    let at-put-decimal3 = c .before .before .before in
-    let at-put3 = at-put-decimal3 .before .before .before .before in
-    let at-put-decimal2 = at-put3 .before .before .before .before in
-    let at-put2 = at-put-decimal2 .before .before .before .before in
-    let at-put-decimal = at-put2 .before .before .before .before in
-    let at-put = at-put-decimal .before .before .before .before in
-    let entry = at-put .before .before .before in
-    let few = decimal-few 19 (entry .args .z) (search needs) in
-    let few2 = decimal-few 19 (entry .args .y) (search needs) in
-    let few3 = decimal-few 19 (entry .args .x) (search needs) in (
-      omega (
-        arith,
-        at-put .put .ensures .0,
-        at-put-decimal .put-decimal .ensures .0,
-        at-put2 .put2 .ensures .0,
-        at-put-decimal2 .put-decimal2 .ensures .0,
-        at-put3 .put3 .ensures .0,
-        at-put-decimal3 .put-decimal3 .ensures .0,
-        entry .pre .0,
-      ),
+put-number-requires-3 : tie.Need-put-number-requires-3
+put-number-requires-3 c κs =
+    let at-put-number2 = c .before .before .before in
+    let at-put-number = at-put-number2 .before .before .before .before in
+    let at-put = at-put-number .before .before .before .before in
+    let entry = at-put .before .before .before in (
+      puts-room (at-put-number2 .put-number2 .ensures) 21 (puts-room (at-put-number .put-number .ensures) 42 (omega
+          (arith, at-put .put .ensures .0, entry .pre .0))),
       search needs,
     )
 
@@ -112,46 +40,23 @@ same-length c = search needs
 returns : tie.Need-returns
 unfolding threeEnd
 returns c =
-    let at-put4 = c .before .before in
-    let at-put-decimal3 = at-put4 .before .before .before .before in
-    let at-put3 = at-put-decimal3 .before .before .before .before in
-    let at-put-decimal2 = at-put3 .before .before .before .before in
-    let at-put2 = at-put-decimal2 .before .before .before .before in
-    let at-put-decimal = at-put2 .before .before .before .before in
-    let at-put = at-put-decimal .before .before .before .before in
+    let at-put-number3 = c .before .before in
+    let at-put-number2 = at-put-number3 .before .before .before .before in
+    let at-put-number = at-put-number2 .before .before .before .before in
+    let at-put = at-put-number .before .before .before .before in
     let entry = at-put .before .before .before in
-    let few = decimal-few 19 (entry .args .z) (search needs) in
-    let few2 = decimal-few 19 (entry .args .y) (search needs) in
-    let few3 = decimal-few 19 (entry .args .x) (search needs) in
-    let one = more (start (entry .args .at) (entry .args .text .now) (entry .pre .1)) (_ ∷ []) (at-put .put .ensures .0) (at-put .put .ensures .1) in
-    let two = more one (decimal (entry .args .z)) (at-put-decimal .put-decimal .ensures .0) (at-put-decimal .put-decimal .ensures .1) in
-    let three = more two (_ ∷ []) (at-put2 .put2 .ensures .0) (at-put2 .put2 .ensures .1) in
-    let four = more three (decimal (entry .args .y)) (at-put-decimal2 .put-decimal2 .ensures .0) (at-put-decimal2 .put-decimal2 .ensures .1) in
-    let five = more four (_ ∷ []) (at-put3 .put3 .ensures .0) (at-put3 .put3 .ensures .1) in
-    let six = more five (decimal (entry .args .x)) (at-put-decimal3 .put-decimal3 .ensures .0) (at-put-decimal3 .put-decimal3 .ensures .1) in
-    let seven = more six (_ ∷ []) (at-put4 .put4 .ensures .0) (at-put4 .put4 .ensures .1) in
-    puts-all 64 seven (omega (
-      arith,
-      seven .starts,
-      at-put .put .ensures .0,
-      at-put-decimal .put-decimal .ensures .0,
-      at-put2 .put2 .ensures .0,
-      at-put-decimal2 .put-decimal2 .ensures .0,
-      at-put3 .put3 .ensures .0,
-      at-put-decimal3 .put-decimal3 .ensures .0,
-      at-put4 .put4 .ensures .0,
-    ))
+    let one = puts-of (_ ∷ []) (at-put .put .ensures .0) (at-put .put .ensures .1) in
+    let two = puts-join one (entry .pre .1) (at-put-number .put-number .ensures) in
+    let three = puts-join two (entry .pre .1) (at-put-number2 .put-number2 .ensures) in
+    puts-join three (entry .pre .1) (at-put-number3 .put-number3 .ensures)
 
 pub put-three-end-spec : {M : Type 1} → statement M
 put-three-end-spec =
     tie.close
     (tie.spec
     put-requires
-    put-decimal-requires
-    put-requires-2
-    put-decimal-requires-2
-    put-requires-3
-    put-decimal-requires-3
-    put-requires-4
+    put-number-requires
+    put-number-requires-2
+    put-number-requires-3
     same-length
     returns)

@@ -1,9 +1,8 @@
 -- `inventory::put_word_end` meets its contract: its parts, the last first. Assumes nothing.
 use mathlib.Core.List.{_∷_, []}
 use native.Mathlib.Omega.{arith}
-use Rattle.tour.proofs.Putting.{start, more}
 use Rattle.inventory.specs.Inventory.{wordEnd}
-use Rattle.inventory.proofs.Pieces.{puts-all, puts-more}
+use Rattle.inventory.proofs.Pieces.{puts-of, puts-join, puts-room}
 use borrow.Author.Needs.{needs}
 use Rattle.inventory.proofs.put_word_end.Statement.{statement}
 use Rattle.inventory.proofs.put_word_end.Tie as tie
@@ -21,10 +20,8 @@ put-requires-2 : tie.Need-put-requires-2
 put-requires-2 c κs =
     let at-put-octal = c .before .before .before in
     let at-put = at-put-octal .before .before .before .before in
-    let entry = at-put .before .before .before in (
-      omega (arith, at-put .put .ensures .0, at-put-octal .put-octal .ensures .starts, at-put-octal .put-octal .ensures .few, entry .pre .0),
-      search needs,
-    )
+    let entry = at-put .before .before .before in
+    (puts-room (at-put-octal .put-octal .ensures) 1 (omega (arith, at-put .put .ensures .0, entry .pre .0)), search needs)
 
 same-length : tie.Need-same-length
 same-length c = search needs
@@ -36,17 +33,9 @@ returns c =
     let at-put-octal = at-put2 .before .before .before .before in
     let at-put = at-put-octal .before .before .before .before in
     let entry = at-put .before .before .before in
-    let one = more (start (entry .args .at) (entry .args .text .now) (entry .pre .1)) (_ ∷ []) (at-put .put .ensures .0) (at-put .put .ensures .1) in
-    let two = puts-more one (at-put-octal .put-octal .ensures) in
-    let three = more two (_ ∷ []) (at-put2 .put2 .ensures .0) (at-put2 .put2 .ensures .1) in
-    puts-all 14 three (omega (
-      arith,
-      three .starts,
-      at-put .put .ensures .0,
-      at-put-octal .put-octal .ensures .starts,
-      at-put-octal .put-octal .ensures .few,
-      at-put2 .put2 .ensures .0,
-    ))
+    let one = puts-of (_ ∷ []) (at-put .put .ensures .0) (at-put .put .ensures .1) in
+    let two = puts-join one (entry .pre .1) (at-put-octal .put-octal .ensures) in
+    puts-join two (entry .pre .1) (puts-of (_ ∷ []) (at-put2 .put2 .ensures .0) (at-put2 .put2 .ensures .1))
 
 pub put-word-end-spec : {M : Type 1} → statement M
 put-word-end-spec =
