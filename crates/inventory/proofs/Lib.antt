@@ -3,3 +3,5 @@ pub mod Octal
 pub mod Pieces
 pub mod Texts
 pub mod Owners
+pub mod Trees
+pub mod Sound
