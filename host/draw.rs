@@ -196,7 +196,7 @@ fn boxed(picture: &Picture, block: u64, x: u64, y: u64, tall: u64, colour: &dyn 
 }
 
 /// An arrow from the right side of a box at a height: to the left side of the next box of its row, to the top of one below, and by a lane of
-/// its own below the boxes into any other.
+/// its own below the row of any other into that.
 fn arrow((x, y): (u64, u64), boxes: &Boxes, block: u64, target: u64, colour: &str, marker: usize, lanes: &mut u64) -> String {
     let ((left, top, tall), (own, own_top, own_tall)) = (boxes[&target], boxes[&block]);
     let next = top == own_top && left > own && !boxes.values().any(|&(between, row, _)| row == top && between > own && between < left);
@@ -209,9 +209,11 @@ fn arrow((x, y): (u64, u64), boxes: &Boxes, block: u64, target: u64, colour: &st
         let lane = *lanes;
         *lanes += 1;
         let (down, up) = (x + 16 + 7 * (lane % 5), left + WIDE - 20 - 18 * (lane % 5));
-        let (low, deep) = (top + tall, (own_top + own_tall).max(top + tall) + 20 + 11 * (lane % 5));
+        let bottom = |row: u64| boxes.values().filter(|(_, at, _)| *at == row).map(|(_, at, tall)| at + tall).max().unwrap_or(row);
+        let (low, deep) = (top + tall, bottom(top) + 20 + 11 * (lane % 5));
+        let (turned, on) = if top < own_top { (y - 6, deep + 8) } else { (y + 6, deep - 8) };
         let (leave, arrive) = if up < down { (down - 8, up + 8) } else { (down + 8, up - 8) };
-        format!("M{x},{y} H{} Q{down},{y} {down},{} V{} Q{down},{deep} {leave},{deep} H{arrive} Q{up},{deep} {up},{} V{low}", down - 6, y + 6, deep - 8, deep - 8)
+        format!("M{x},{y} H{} Q{down},{y} {down},{turned} V{on} Q{down},{deep} {leave},{deep} H{arrive} Q{up},{deep} {up},{} V{low}", down - 6, deep - 8)
     };
     format!("<path d=\"{path}\" fill=\"none\" stroke=\"{colour}\" stroke-width=\"1.4\" marker-end=\"url(#m{marker})\"/><circle cx=\"{x}\" cy=\"{y}\" r=\"2.4\" fill=\"{colour}\"/>\n")
 }
