@@ -12,7 +12,7 @@ use lib.ListN.{length, getD, take, drop, drop-of-length-le}
 use lib.Seq.{drop-cons, drop-drop}
 use Rattle.word.proofs.Bitwise.{or-below}
 use Rattle.buddy.proofs.Parts.{and-assoc}
-use Rattle.machine.specs.Sound.{every}
+use Rattle.machine.specs.Sound.{every, soundStack}
 use Rattle.machine.proofs.Every.{below}
 
 always : (t : Bool) → (t && true) ≡ t
@@ -28,6 +28,11 @@ module _ {A : Type 0} (f : A → Bool) (passed : Bool) (l : List A) (i : ℕ) wh
   pub also-end : length l ≤ i → (passed && every f (drop i l)) ≡ passed
   unfolding every
   also-end h = rw (drop-of-length-le l h) (always passed)
+
+-- an empty stack has nothing to test
+pub stack-none : {A : Type 0} (f : A → Bool) (n : ℕ) (l : List A) → n ≡ 0 → true ≡ soundStack f n l
+unfolding soundStack every
+stack-none f n l none = rw none
 
 -- those that are passed, joined, and those left
 abbrev pub parted : ℕ → ℕ → ℕ → List ℕ → Bool

@@ -12,8 +12,11 @@ use buddy::section::keeps_section;
 use buddy::section::words_of;
 use buddy::setup::fits;
 use buddy::setup::is_absent;
+use machine::CallStack;
+use machine::ContentsStack;
 use machine::Core;
 use machine::Definition;
+use machine::DefinitionStack;
 use machine::Place;
 use word::arithmetic::power;
 
@@ -30,15 +33,15 @@ fn joined(words: &[u64]) -> u64
     all
 }
 
-// Each of these words is below 2^b: so is what they are joined to, 64 at a time, a number of turns that the compiler knows.
+// Each of these words is below 2^b: so is what they are joined to, 128 at a time, a number of turns that the compiler knows.
 pub fn are_words(b: u64, words: &[u64]) -> bool
     requires { ⌜ b < 64 ⌝ }
     ensures { λ r. ⌜ r ≡ every (λ x. ltb x (2 ^ b)) (now (words .entry)) ⌝ }
 {
     let mut all: u64 = 0;
     let mut i = 0;
-    while 64 <= words.len() - i {
-        let end = i + 64;
+    while 128 <= words.len() - i {
+        let end = i + 128;
         all = all | joined(&words[i..end]);
         i = end;
     }
@@ -142,6 +145,40 @@ fn are_calls(entries: [Place; 128], count: usize) -> bool
     true
 }
 
+// The stack of contents as a whole. The entries of an empty stack are not copied, here and below.
+fn holds_words(b: u64, stack: ContentsStack) -> bool
+    requires { ⌜ b < 64 ⌝ }
+    ensures { λ r. ⌜ r ≡ soundStack (λ x. ltb x (2 ^ b)) (stack .count) (stack .entries) ⌝ }
+{
+    if stack.count == 0 {
+        return true;
+    }
+    let entries = stack.entries;
+    are_contents(b, entries, stack.count)
+}
+
+// The stack of definitions as a whole.
+fn holds_definitions(b: u64, stack: DefinitionStack) -> bool
+    ensures { λ r. ⌜ r ≡ soundStack (isDefinition b) (stack .count) (stack .entries) ⌝ }
+{
+    if stack.count == 0 {
+        return true;
+    }
+    let entries = stack.entries;
+    are_saved(b, entries, stack.count)
+}
+
+// The stack of calls as a whole.
+fn holds_places(stack: CallStack) -> bool
+    ensures { λ r. ⌜ r ≡ soundStack isPlace (stack .count) (stack .entries) ⌝ }
+{
+    if stack.count == 0 {
+        return true;
+    }
+    let entries = stack.entries;
+    are_calls(entries, stack.count)
+}
+
 // The three stacks.
 fn are_stacks(b: u64, core: Core) -> bool
     requires { ⌜ b < 64 ⌝ }
@@ -150,12 +187,7 @@ fn are_stacks(b: u64, core: Core) -> bool
     let contents = core.contents;
     let saved = core.saved;
     let calls = core.calls;
-    let words = contents.entries;
-    let definitions = saved.entries;
-    let places = calls.entries;
-    are_contents(b, words, contents.count)
-        & are_saved(b, definitions, saved.count)
-        & are_calls(places, calls.count)
+    holds_words(b, contents) & holds_definitions(b, saved) & holds_places(calls)
 }
 
 // Bugs, definitions, place and stacks in range.

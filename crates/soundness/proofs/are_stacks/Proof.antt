@@ -1,17 +1,18 @@
 -- `soundness::are_stacks` meets its contract: the three stacks joined. Assumes nothing.
 use borrow.Author.Needs.{needs}
 use Rattle.machine.specs.Sound.{soundStacks}
+use borrow.Author.Needs.{needs}
 use Rattle.soundness.proofs.are_stacks.Statement.{statement}
 use Rattle.soundness.proofs.are_stacks.Tie as tie
 
-are-contents-requires : tie.Need-are-contents-requires
-are-contents-requires c κs = search needs
+holds-words-requires : tie.Need-holds-words-requires
+holds-words-requires c κs = search needs
 
-are-saved-requires : tie.Need-are-saved-requires
-are-saved-requires c κs = search needs
+holds-definitions-requires : tie.Need-holds-definitions-requires
+holds-definitions-requires c κs = search needs
 
-are-calls-requires : tie.Need-are-calls-requires
-are-calls-requires c κs = search needs
+holds-places-requires : tie.Need-holds-places-requires
+holds-places-requires c κs = search needs
 
 returns : tie.Need-returns
 unfolding soundStacks
@@ -19,4 +20,9 @@ returns c = cc
 
 pub are-stacks-spec : {M : Type 1} → statement M
 are-stacks-spec =
-    tie.close (tie.spec are-contents-requires are-saved-requires are-calls-requires returns)
+    tie.close
+    (tie.spec
+    holds-words-requires
+    holds-definitions-requires
+    holds-places-requires
+    returns)

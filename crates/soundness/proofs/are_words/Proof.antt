@@ -51,7 +51,7 @@ loop-again : tie.Need-loop-again Inv-loop μ-loop
 loop-again c =
     let l = c .before .before .before in
     let start = l .before .before in
-    let on = part-on (start .args .b) (l .loop .all) (l .loop .i) (start .args .words .now) (l .loop .i + 64) in
+    let on = part-on (start .args .b) (l .loop .all) (l .loop .i) (start .args .words .now) (l .loop .i + 128) in
     (omega arith, l .loop .inv .1 ∙ on (c .joined .result) (omega arith) (c .joined .ensures (start .args .b)))
 
 mul-joined-2 : tie.Need-mul-joined-2 Inv-loop μ-loop
