@@ -1,9 +1,9 @@
--- A walk that stops at its first step: 11, finished, 1. Assumes nothing.
+-- A walk that stops at its first step: 31, 11, finished, 1. Assumes nothing.
 use Prim.Native.Nat.{ℕ, zero, suc, _-_, _≤_}
 use native.Mathlib.Omega.{arith}
 use mathlib.Core.Bool.{Bool, true, false}
 use mathlib.Core.List.{List, []}
-use mathlib.Core.Path.{_≡_, refl, sym, ap, _∙_}
+use mathlib.Core.Path.{_≡_, refl, sym, ap, subst, _∙_}
 use borrow.Author.Tests.{eq-eqb, ne-eqb, eqb-true}
 use lib.Dec.{eqb}
 use Rattle.word.specs.Word.{isWidth}
@@ -23,7 +23,10 @@ use Rattle.machine.specs.Storage.{noReport}
 use Rattle.machine.specs.Sound.{Lent, lends, Engine, sound}
 use Rattle.machine.specs.Step.{Outcome, RunOutcome, unchanged, outcome, plan, stepAt, step, ending as ends, runFrom, run}
 use Rattle.machine.proofs.Checks.{need-no}
+use Rattle.engine.specs.declared.Start.{Start}
+use Rattle.engine.specs.declared.Start.the-variants.{Goes, Stops}
 use Rattle.engine.specs.declared.Walked.{Walked}
+use Rattle.engine.specs.Starting.{Ready, Starting, goes, stops, stopOf}
 use Rattle.engine.specs.Walking.{Walk, walks, ending, walkFrom}
 use Rattle.engine.proofs.Turns.{walk-stops}
 use Rattle.engine.proofs.Now.{returning}
@@ -43,36 +46,43 @@ unfolding isFinished
 unfinished-is p z = ne-eqb (p .kind) 3 z
 
 -- a first step that leaves all as it was
-module _ (more : ℕ) (l : Lent) (e : Engine) where
+module _ (l : Lent) (e : Engine) where
   abbrev b : ℕ
   b = e .state .width
 
-  stays : (answer : Answer) → isRunning answer ≡ false → step l e ≡ unchanged answer l e → {r : Walked}
-      → r ≡ record { state = e .state; answer = answer; report = noReport; count = 1 } → returning r (e .storage) (l .output) ≡ walkFrom 0 more l e
+  stays : (answer : Answer) → isRunning answer ≡ false → step l e ≡ unchanged answer l e → Starting l e (Stops answer)
   unfolding unchanged ending
-  stays answer over is same = rw same (sym (walk-stops 0 l e is over more))
+  stays answer over is = stops (λ more. walk-stops 0 l e is over more)
 
-  pub first-no-width : isWidth b ≡ false → {r : Walked} → r ≡ record { state = e .state; answer = Refused NoWidth; report = noReport; count = 1 }
-      → returning r (e .storage) (l .output) ≡ walkFrom 0 more l e
+  pub first-no-width : isWidth b ≡ false → Starting l e (Stops (Refused NoWidth))
   unfolding step isRunning
   first-no-width k = stays (Refused NoWidth) refl (rw k)
 
   module _ (wide : isWidth b ≡ true) where
-    pub first-unsound : sound b l e ≡ false → {r : Walked} → r ≡ record { state = e .state; answer = Refused Unsound; report = noReport; count = 1 }
-        → returning r (e .storage) (l .output) ≡ walkFrom 0 more l e
+    pub first-unsound : sound b l e ≡ false → Starting l e (Stops (Refused Unsound))
     unfolding step stepAt isRunning
     first-unsound k = stays (Refused Unsound) refl (rw (wide, k))
 
     module _ (fine : sound b l e ≡ true) where
-      pub first-finished : isFinished (e .state .core .place) ≡ true → {r : Walked} → r ≡ record { state = e .state; answer = Finished; report = noReport; count = 1 }
-          → returning r (e .storage) (l .output) ≡ walkFrom 0 more l e
+      pub first-finished : isFinished (e .state .core .place) ≡ true → Starting l e (Stops Finished)
       unfolding step stepAt isRunning
       first-finished k = stays Finished refl (rw (wide, fine, k))
 
-      pub first-length : isFinished (e .state .core .place) ≡ false → lengthFits (l .table) ≡ false → {r : Walked}
-          → r ≡ record { state = e .state; answer = Refused TableLength; report = noReport; count = 1 } → returning r (e .storage) (l .output) ≡ walkFrom 0 more l e
+      pub first-length : isFinished (e .state .core .place) ≡ false → lengthFits (l .table) ≡ false → Starting l e (Stops (Refused TableLength))
       unfolding step stepAt outcome plan need _>>_ isRunning
       first-length on short = stays (Refused TableLength) refl (rw (wide, fine, on, short))
+
+-- what is judged before a walk, taken apart
+pub first-goes : {l : Lent} {e : Engine} {first : Start} {judged : Bool} → first ≡ Goes judged → Starting l e first → Ready judged l e
+first-goes {l = l} {e = e} {judged = judged} is (goes {judged = j} r) = let same : j ≡ judged = cc in subst (λ (t : Bool). Ready t l e) same r
+first-goes is (stops f) = (let never : _≡_ {A = ℕ} 0 1 = cc in absurd (omega arith))
+
+pub first-stops : {l : Lent} {e : Engine} {first : Start} {answer : Answer} → first ≡ Stops answer → Starting l e first → (more : ℕ)
+    → {told : Answer} → told ≡ stopOf first → {r : Walked} → r ≡ record { state = e .state; answer = told; report = noReport; count = 1 }
+    → returning r (e .storage) (l .output) ≡ walkFrom 0 more l e
+unfolding stopOf
+first-stops is (goes r) more so same = (let never : _≡_ {A = ℕ} 0 1 = cc in absurd (omega arith))
+first-stops is (stops f) more so same = rw (same, so) (sym (f more))
 
 -- a table that is checked, and has no ill-formed row
 pub judged-fine : {row : ℕ} {found : TableCheck} → Lowest row ≡ found → eqb row 0 ≡ true → found ≡ Lowest 0

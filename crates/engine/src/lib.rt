@@ -1,7 +1,6 @@
 // The L6 engine: a fresh state, one step, and a run. Any table, storage, input, output buffer and state may be lent.
 ghost use mathlib.Core.Bool.{true, cond};
 ghost use mathlib.Core.Path.{_≡_};
-ghost use Prim.Native.Nat.{_-_, _≤_};
 ghost use Rattle.word.specs.Word.{isWidth};
 ghost use Rattle.table.specs.declared.TableCheck.the-variants.{Lowest};
 ghost use Rattle.table.specs.Table.{checked};
@@ -9,9 +8,8 @@ ghost use Rattle.word.specs.Told.{gives, refuses};
 ghost use Rattle.machine.specs.Answer.{toldAnswer};
 ghost use Rattle.machine.specs.State.{fresh as freshState, freshOf, toldFresh};
 ghost use Rattle.machine.specs.Sound.{lends, engineOn};
-ghost use Rattle.machine.specs.Storage.{noReport};
 ghost use Rattle.machine.specs.Step.{step as stepOf, stepTold, run as runOf, runTold};
-ghost use Rattle.engine.specs.Walking.{walkFrom};
+ghost use Rattle.engine.specs.Starting.{Starting};
 
 pub mod answers;
 mod walks;
@@ -34,7 +32,6 @@ use machine::Stepped;
 use soundness::is_sound;
 use table::check::has_length;
 use table::check::lowest_ill_formed;
-use walks::no_report;
 use walks::walk;
 use word::is_width;
 
@@ -129,61 +126,41 @@ fn judge(b: u64, table: &[u64], limit: u64) -> bool
     lowest_ill_formed(b, table) == 0
 }
 
-// What a walk returns that stops at its first step.
-fn stopped(state: State, answer: Answer) -> Walked
-    ensures { λ r. ⌜ r ≡ record { state = state; answer = answer; report = noReport; count = 1 } ⌝ }
-{
-    let report = no_report();
-    Walked {
-        state: state,
-        answer: answer,
-        report: report,
-        count: 1,
-    }
+// Whether a walk takes its first step, and whether its table is then known to be well-formed; or what it answers.
+pub enum Start {
+    Goes(bool),
+    Stops(Answer),
 }
 
-// Up to limit steps of any engine: 31, 11, finished and 1 are judged once.
-fn walk_from(
+// What is judged once, before a walk: 31, 11, finished and 1.
+fn begin(
     state: State,
     table: &[u64],
-    storage: &mut [u64],
+    storage: &[u64],
     input: &[u8],
-    output: &mut [u8],
+    output: &[u8],
     limit: u64,
-) -> Walked
-    requires { ⌜ 1 ≤ limit ⌝ }
-    ensures { λ r. ⌜ record { walked = r; storage = now (storage .exit); output = now (output .exit) } ≡ walkFrom 0 (limit - 1)
-        (lends (now (table .entry)) (now (input .entry)) (now (output .entry))) (engineOn state (now (storage .entry))) ⌝ }
+) -> Start
+    ensures { λ r. ⌜ Starting (lends (now (table .entry)) (now (input .entry)) (now (output .entry)))
+        (engineOn state (now (storage .entry))) r ⌝ }
 {
-    let width = state.width;
     let core = state.core;
     let map = state.map;
     let place = core.place;
-    let b = width as u64;
+    let b = state.width as u64;
     if !is_width(b) {
-        return stopped(state, Answer::Refused(Refusal::NoWidth));
+        return Start::Stops(Answer::Refused(Refusal::NoWidth));
     }
-    if !is_sound(b, core, &map, &*storage, input, &*output) {
-        return stopped(state, Answer::Refused(Refusal::Unsound));
+    if !is_sound(b, core, &map, storage, input, output) {
+        return Start::Stops(Answer::Refused(Refusal::Unsound));
     }
     if place.kind == 3 {
-        return stopped(state, Answer::Finished);
+        return Start::Stops(Answer::Finished);
     }
     if !has_length(table) {
-        return stopped(state, Answer::Refused(Refusal::TableLength));
+        return Start::Stops(Answer::Refused(Refusal::TableLength));
     }
-    let judged = judge(b, table, limit);
-    walk(
-        width,
-        core,
-        map,
-        table,
-        storage,
-        input,
-        output,
-        limit,
-        judged,
-    )
+    Start::Goes(judge(b, table, limit))
 }
 
 // One step.
@@ -200,7 +177,8 @@ pub fn step(
         ≡ stepTold (lends (now (table .entry)) (now (input .entry)) (now (output .entry)))
         (engineOn state (now (storage .entry))) ⌝ }
 {
-    let last = walk_from(state, table, storage, input, output, 1);
+    let first = begin(state, table, &*storage, input, &*output, 1);
+    let last = walk(first, state, table, storage, input, output, 1);
     let after = last.state;
     let answer = last.answer;
     let report = last.report;
@@ -234,7 +212,8 @@ pub fn run(
             count: 0,
         };
     }
-    let last = walk_from(state, table, storage, input, output, limit);
+    let first = begin(state, table, &*storage, input, &*output, limit);
+    let last = walk(first, state, table, storage, input, output, limit);
     let after = last.state;
     let answer = last.answer;
     Ran {

@@ -1,18 +1,16 @@
 // Steps one after the other: each is planned over slices of local arrays and carried out in place.
-ghost use mathlib.Core.Bool.{true, false, cond};
+ghost use mathlib.Core.Bool.{cond};
 ghost use mathlib.Core.Path.{_≡_};
 ghost use Prim.Native.Nat.{_-_, _≤_};
-ghost use Rattle.word.specs.Word.{isWidth};
-ghost use Rattle.table.specs.declared.TableCheck.the-variants.{Lowest};
-ghost use Rattle.table.specs.Row.{lengthFits};
-ghost use Rattle.table.specs.Table.{checked};
 ghost use Rattle.machine.specs.declared.Answer.the-variants.{Running, Finished};
 ghost use Rattle.machine.specs.State.{isFinished};
 ghost use Rattle.machine.specs.Storage.{noReport};
-ghost use Rattle.machine.specs.Sound.{lends, engineOn, sound};
-ghost use Rattle.commit.specs.Then.{coreWith, recordsOf};
+ghost use Rattle.machine.specs.Sound.{lends, engineOn};
+ghost use Rattle.commit.specs.Then.{coreWith};
 ghost use Rattle.operations.specs.Seen.{countsOf};
+ghost use Rattle.engine.specs.Starting.{Starting, stopOf};
 ghost use Rattle.engine.specs.Walking.{walkedTo, walkFrom};
+use crate::Start;
 use crate::Walked;
 use block::SetUp;
 use commit::Records;
@@ -50,22 +48,6 @@ pub fn no_report() -> Report
         copied: 0,
         first: none,
         second: none,
-    }
-}
-
-// The core's arrays that no slice can lend.
-fn records_of(core: Core) -> Records
-    ensures { λ r. ⌜ r ≡ recordsOf core ⌝ }
-{
-    let definitions = core.definitions;
-    let saved = core.saved;
-    let kept = saved.entries;
-    let calls = core.calls;
-    let places = calls.entries;
-    Records {
-        definitions: definitions,
-        saved: kept,
-        calls: places,
     }
 }
 
@@ -166,34 +148,65 @@ fn answer_at(place: Place) -> Answer
     }
 }
 
-// A walk of a sound engine that is not finished, with a table of the right length: up to limit steps.
+// What a walk returns that stops at its first step.
+fn stopped(state: State, answer: Answer) -> Walked
+    ensures { λ r. ⌜ r ≡ record { state = state; answer = answer; report = noReport; count = 1 } ⌝ }
+{
+    let report = no_report();
+    Walked {
+        state: state,
+        answer: answer,
+        report: report,
+        count: 1,
+    }
+}
+
+// What it answers.
+fn stop_of(start: Start) -> Answer
+    ensures { λ r. ⌜ r ≡ stopOf start ⌝ }
+{
+    match start {
+        Start::Goes(_) => Answer::Running,
+        Start::Stops(answer) => answer,
+    }
+}
+
+// Up to limit steps of any engine, as it was judged.
 pub fn walk(
-    width: u8,
-    core: Core,
-    first: [u8; 4096],
+    first: Start,
+    state: State,
     table: &[u64],
     storage: &mut [u64],
     input: &[u8],
     output: &mut [u8],
     limit: u64,
-    judged: bool,
 ) -> Walked
-    requires { ⌜ (isWidth width ≡ true) × (1 ≤ limit) × (lengthFits (now table) ≡ true)
-        × (judged ≡ true → checked width (now table) ≡ Lowest 0) × (isFinished (core .place) ≡ false)
-        × (sound width (lends (now table) (now input) (now output))
-        (engineOn (record { width = width; core = core; map = first }) (now storage)) ≡ true) ⌝ }
-    ensures { λ r. ⌜ record { walked = r; storage = now (storage .exit); output = now (output .exit) }
-        ≡ walkFrom 0 (limit - 1) (lends (now (table .entry)) (now (input .entry)) (now (output .entry)))
-        (engineOn (record { width = width; core = core; map = first }) (now (storage .entry))) ⌝ }
+    requires { ⌜ (1 ≤ limit) × Starting (lends (now table) (now input) (now output)) (engineOn state (now storage)) first ⌝ }
+    ensures { λ r. ⌜ record { walked = r; storage = now (storage .exit); output = now (output .exit) } ≡ walkFrom 0 (limit - 1)
+        (lends (now (table .entry)) (now (input .entry)) (now (output .entry))) (engineOn state (now (storage .entry))) ⌝ }
 {
+    let Start::Goes(judged) = first else {
+        return stopped(state, stop_of(first));
+    };
+    let width = state.width;
+    let core = state.core;
     let contents = core.contents;
     let mut place = core.place;
     let mut bugs = core.bugs;
     let mut entries = contents.entries;
     let mut setup = core.setup;
-    let mut records = records_of(core);
+    let definitions = core.definitions;
+    let stack = core.saved;
+    let kept = stack.entries;
+    let places = core.calls;
+    let calls = places.entries;
+    let mut records = Records {
+        definitions: definitions,
+        saved: kept,
+        calls: calls,
+    };
     let mut counts = counts_of(core);
-    let mut map = first;
+    let mut map = state.map;
     let mut count: u64 = 0;
     loop {
         count += 1;

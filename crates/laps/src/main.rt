@@ -9,7 +9,7 @@ use engine::answers::refusal_number;
 use files::read_file;
 use libc::STDOUT_FILENO;
 use machine::Answer;
-use machine::Core;
+use machine::State;
 use states::checksums;
 use std::num;
 use tour::numbers::read_table;
@@ -48,7 +48,8 @@ fn at_most_4096(length: usize) -> usize
 }
 
 // What the steps leave folded: bugs and storage.
-fn fold_left(before: u64, core: Core, storage: &[u64]) -> u64 {
+fn fold_left(before: u64, state: State, storage: &[u64]) -> u64 {
+    let core = state.core;
     let bugs = core.bugs;
     fold_words(fold_words(before, &bugs), storage)
 }
@@ -89,11 +90,10 @@ fn run_all(
         count = num::wrapping_add_u64(count, ran.count);
         left = left_after(left, answer);
     }
-    let core = state.core;
     Ended {
         answer: answer,
         count: count,
-        sum: fold_left(1, core, storage),
+        sum: fold_left(1, state, storage),
     }
 }
 
@@ -120,11 +120,10 @@ fn step_all(
         count = num::wrapping_add_u64(count, 1);
         left = left_after(left, answer);
     }
-    let core = state.core;
     Ended {
         answer: answer,
         count: count,
-        sum: fold_left(sum, core, storage),
+        sum: fold_left(sum, state, storage),
     }
 }
 

@@ -15,8 +15,11 @@ returns c =
     let is = runs-none _ _ _ (c .if1 .taken) in
     (is, ap (λ (o : RunOutcome). toldAnswer (o .ran .answer)) is ∙ run-told 0 _ _ _)
 
-walk-from-requires : tie.Need-walk-from-requires
-walk-from-requires c κs = omega arith
+begin-requires : tie.Need-begin-requires
+begin-requires c κs = search needs
+
+walk-requires : tie.Need-walk-requires
+walk-requires c κs = (omega arith, c .before .before .begin .ensures)
 
 same-length : tie.Need-same-length
 same-length c = search needs
@@ -27,7 +30,9 @@ same-length-2 c = search needs
 returns-2 : tie.Need-returns-2
 unfolding run
 returns-2 c =
-    let is = runs-some _ _ _ (c .before .before .before .before .before .before .before .before .if1 .left) (c .before .before .before .before .before .walk-from .ensures) in
+    let at-walk = c .before .before .before .before .before in
+    let at-if1 = at-walk .before .before .before .before .before .before in
+    let is = runs-some _ _ _ (at-if1 .if1 .left) (at-walk .walk .ensures) in
     (is, ap (λ (o : RunOutcome). toldAnswer (o .ran .answer)) is ∙ run-told 0 _ _ _)
 
 pub run-spec : {M : Type 1} → statement M
@@ -35,7 +40,8 @@ run-spec =
     tie.close
     (tie.spec
     returns
-    walk-from-requires
+    begin-requires
+    walk-requires
     same-length
     same-length-2
     returns-2)

@@ -9,8 +9,11 @@ use borrow.Author.Needs.{needs}
 use Rattle.engine.proofs.step.Statement.{statement}
 use Rattle.engine.proofs.step.Tie as tie
 
-walk-from-requires : tie.Need-walk-from-requires
-walk-from-requires c κs = omega arith
+begin-requires : tie.Need-begin-requires
+begin-requires c κs = search needs
+
+walk-requires : tie.Need-walk-requires
+walk-requires c κs = (omega arith, c .before .before .begin .ensures)
 
 same-length : tie.Need-same-length
 same-length c = search needs
@@ -20,14 +23,16 @@ same-length-2 c = search needs
 
 returns : tie.Need-returns
 returns c =
-    let is = steps-once _ _ _ _ (c .before .before .before .before .before .before .walk-from .ensures) in
+    let at-walk = c .before .before .before .before .before .before in
+    let is = steps-once _ _ _ _ (at-walk .walk .ensures) in
     (is, ap (λ (o : Outcome). toldAnswer (o .stepped .answer)) is ∙ step-told _ _)
 
 pub step-spec : {M : Type 1} → statement M
 step-spec =
     tie.close
     (tie.spec
-    walk-from-requires
+    begin-requires
+    walk-requires
     same-length
     same-length-2
     returns)

@@ -1,8 +1,8 @@
--- `engine::stopped` meets its contract. Assumes nothing.
+-- `engine::walks::stopped` meets its contract. Assumes nothing.
 use Rattle.engine.proofs.Now.{with-report}
 use borrow.Author.Needs.{needs}
-use Rattle.engine.proofs.stopped.Statement.{statement}
-use Rattle.engine.proofs.stopped.Tie as tie
+use Rattle.engine.proofs.walks.stopped.Statement.{statement}
+use Rattle.engine.proofs.walks.stopped.Tie as tie
 
 no-report-requires : tie.Need-no-report-requires
 no-report-requires c κs = search needs
