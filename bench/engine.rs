@@ -269,9 +269,12 @@ fn are_words<const B: u32>(words: &[u64]) -> bool {
 fn are_zero(bytes: &[u8]) -> bool {
     bytes.iter().fold(0, |all, byte| all | byte) == 0
 }
+/// How many bytes are not zero, counted in parts of 128, which fit a byte.
 #[inline(always)]
-fn sum(bytes: &[u8]) -> u64 {
-    bytes.chunks(256).map(|part| u64::from(part.iter().map(|&byte| u16::from(byte)).sum::<u16>())).sum()
+fn marks(bytes: &[u8]) -> usize {
+    let count = |part: &[u8]| usize::from(part.iter().map(|&byte| u8::from(byte != 0)).sum::<u8>());
+    let (parts, rest) = bytes.as_chunks::<128>();
+    parts.iter().map(|part| count(part)).sum::<usize>() + count(rest)
 }
 fn is_field<const B: u32>(field: &Option<Field>) -> bool {
     field.is_none_or(|f| f.word <= 127 && u32::from(f.left) < B && u32::from(f.right) < B)
@@ -301,14 +304,14 @@ impl State {
     fn is_storage_sound<const B: u32>(&self, storage: &[u64]) -> bool {
         let Some(SetUp { d, s1, s2 }) = self.setup else { return are_zero(&self.map) };
         let Some(setup) = SetUp::new(d.into(), s1.into(), s2.into(), storage.len()) else { return false };
-        self.tags(setup) == Some(sum(&self.map)) && are_words::<B>(&storage[..setup.words()])
+        self.blocks(setup) == Some(marks(&self.map)) && are_words::<B>(&storage[..setup.words()])
     }
-    /// The sum of the tags of blocks of up to d words that tile the words, each on a place that its size divides, no two free halves
-    /// standing separately. It is the sum of the whole map exactly where every other byte is zero.
+    /// How many blocks of up to d words tile the words, each on a place that its size divides, no two free halves standing separately. It is
+    /// the number of bytes of the whole map that are not zero exactly where every other byte is zero.
     #[inline(always)]
-    fn tags(&self, setup: SetUp) -> Option<u64> {
+    fn blocks(&self, setup: SetUp) -> Option<usize> {
         let (largest, map) = (free_tag(u32::from(setup.d).ilog2()), &self.map[..setup.words()]);
-        let (mut i, mut tags) = (0, 0);
+        let (mut i, mut blocks) = (0, 0);
         while let Some(&tag) = map.get(i) {
             if tag.wrapping_sub(1) > largest {
                 return None;
@@ -318,10 +321,10 @@ impl State {
             if i & (size - 1) != 0 || halved {
                 return None;
             }
-            tags += u64::from(tag);
+            blocks += 1;
             i += size;
         }
-        Some(tags)
+        Some(blocks)
     }
 }
 
