@@ -264,7 +264,10 @@ fn is_table<const B: u32>(rows: &[Row]) -> bool {
 // ---------------------------------------------------------------- soundness
 
 fn are_words<const B: u32>(words: &[u64]) -> bool {
-    words.iter().fold(0, |all, word| all | word) <= ones(B)
+    let joined = |part: &[u64]| part.iter().fold(0, |all, word| all | word);
+    let parts = words.chunks_exact(64);
+    let rest = joined(parts.remainder());
+    parts.fold(rest, |all, part| all | joined(part)) <= ones(B)
 }
 fn are_zero(bytes: &[u8]) -> bool {
     bytes.iter().fold(0, |all, byte| all | byte) == 0
