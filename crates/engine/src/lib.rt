@@ -132,9 +132,11 @@ pub enum Start {
     Stops(Answer),
 }
 
-// What is judged once, before a walk: 31, 11, finished and 1.
+// What is judged once, before a walk: 31, 11, finished and 1. The map is lent: handed over in the state, it would be copied once more.
 fn begin(
-    state: State,
+    width: u8,
+    core: Core,
+    map: &[u8; 4096],
     table: &[u64],
     storage: &[u64],
     input: &[u8],
@@ -142,16 +144,14 @@ fn begin(
     limit: u64,
 ) -> Start
     ensures { λ r. ⌜ Starting (lends (now (table .entry)) (now (input .entry)) (now (output .entry)))
-        (engineOn state (now (storage .entry))) r ⌝ }
+        (engineOn (record { width = width; core = core; map = now (map .entry) }) (now (storage .entry))) r ⌝ }
 {
-    let core = state.core;
-    let map = state.map;
     let place = core.place;
-    let b = state.width as u64;
+    let b = width as u64;
     if !is_width(b) {
         return Start::Stops(Answer::Refused(Refusal::NoWidth));
     }
-    if !is_sound(b, core, &map, storage, input, output) {
+    if !is_sound(b, core, map, storage, input, output) {
         return Start::Stops(Answer::Refused(Refusal::Unsound));
     }
     if place.kind == 3 {
@@ -177,7 +177,18 @@ pub fn step(
         ≡ stepTold (lends (now (table .entry)) (now (input .entry)) (now (output .entry)))
         (engineOn state (now (storage .entry))) ⌝ }
 {
-    let first = begin(state, table, &*storage, input, &*output, 1);
+    let core = state.core;
+    let map = state.map;
+    let first = begin(
+        state.width,
+        core,
+        &map,
+        table,
+        &*storage,
+        input,
+        &*output,
+        1,
+    );
     let last = walk(first, state, table, storage, input, output, 1);
     let after = last.state;
     let answer = last.answer;
@@ -212,7 +223,18 @@ pub fn run(
             count: 0,
         };
     }
-    let first = begin(state, table, &*storage, input, &*output, limit);
+    let core = state.core;
+    let map = state.map;
+    let first = begin(
+        state.width,
+        core,
+        &map,
+        table,
+        &*storage,
+        input,
+        &*output,
+        limit,
+    );
     let last = walk(first, state, table, storage, input, output, limit);
     let after = last.state;
     let answer = last.answer;

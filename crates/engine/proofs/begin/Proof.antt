@@ -6,21 +6,14 @@ use Rattle.word.proofs.Width.{width-range}
 use Rattle.engine.specs.Starting.{goes}
 use Rattle.engine.proofs.First.{any-table, finished-is, unfinished-is, first-no-width, first-unsound, first-finished, first-length}
 use borrow.Author.Needs.{needs}
-use borrow.Author.Needs.{needs}
 use Rattle.engine.proofs.begin.Statement.{statement}
 use Rattle.engine.proofs.begin.Tie as tie
-
-cast-b : tie.Need-cast-b
-cast-b c = search needs
 
 is-width-requires : tie.Need-is-width-requires
 is-width-requires c κs = search needs
 
 returns : tie.Need-returns
 returns c = first-no-width _ _ (sym (c .before .is-width .ensures) ∙ not-true _ (c .if1 .taken))
-
-slice-aggregate-is-sound : tie.Need-slice-aggregate-is-sound
-slice-aggregate-is-sound c = search needs
 
 is-sound-requires : tie.Need-is-sound-requires
 is-sound-requires c κs =
@@ -85,10 +78,8 @@ pub begin-spec : {M : Type 1} → statement M
 begin-spec =
     tie.close
     (tie.spec
-    cast-b
     is-width-requires
     returns
-    slice-aggregate-is-sound
     is-sound-requires
     returns-2
     returns-3

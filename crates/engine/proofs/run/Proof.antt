@@ -31,7 +31,7 @@ returns-2 : tie.Need-returns-2
 unfolding run
 returns-2 c =
     let at-walk = c .before .before .before .before .before in
-    let at-if1 = at-walk .before .before .before .before .before .before in
+    let at-if1 = at-walk .before .before .before .before .before .before .before .before .before in
     let is = runs-some _ _ _ (at-if1 .if1 .left) (at-walk .walk .ensures) in
     (is, ap (λ (o : RunOutcome). toldAnswer (o .ran .answer)) is ∙ run-told 0 _ _ _)
 
