@@ -60,17 +60,19 @@ module _ (c : Core) where
     unfolding bytesOfArrays
     length-arrays = simp length-append (omega (arith, bugs-long, contents-long, definitions-long, saved-long, calls-long))
 
-    pub arrays-put : (t : List ℕ) {t₁ t₂ t₃ t₄ : List ℕ} → length t ≡ stateLength → t₁ ≡ placed 51 (bytesOfAll (bytesOf 8) (c .bugs)) t
+    pub arrays-put : (t : List ℕ) {t₁ t₂ t₃ t₄ t₅ : List ℕ} → length t ≡ stateLength → t₁ ≡ placed 51 (bytesOfAll (bytesOf 8) (c .bugs)) t
         → t₂ ≡ placed 259 (bytesOfAll (bytesOf 8) (c .contents .entries)) t₁
-        → t₃ ≡ placed 1283 (bytesOfAll bytesOfDefinition (c .definitions) ++ bytesOfAll bytesOfDefinition (c .saved .entries)) t₂
-        → t₄ ≡ placed 1939 (bytesOfAll bytesOfPlace (c .calls .entries)) t₃ → t₄ ≡ placed 51 (bytesOfArrays c) t
+        → t₃ ≡ placed 1283 (bytesOfAll bytesOfDefinition (c .definitions)) t₂
+        → t₄ ≡ placed 1427 (bytesOfAll bytesOfDefinition (c .saved .entries)) t₃
+        → t₅ ≡ placed 1939 (bytesOfAll bytesOfPlace (c .calls .entries)) t₄ → t₅ ≡ placed 51 (bytesOfArrays c) t
     unfolding bytesOfArrays
-    arrays-put t h e f g i =
+    arrays-put t h e f g i j =
         let one = row-first 51 208 (bytesOfAll (bytesOf 8) (c .bugs)) t e bugs-long (omega arith) in
         let two = row-more 1024 (bytesOfAll (bytesOf 8) (c .contents .entries)) one f contents-long (omega arith) in
-        let three = row-more 656 _ two g (simp length-append (omega (arith, definitions-long, saved-long))) (omega arith) in
-        let four = row-more 640 (bytesOfAll bytesOfPlace (c .calls .entries)) three i calls-long (omega arith) in
-        four .put .same ∙ ap (λ (xs : List ℕ). placed 51 xs t) (simp append-assoc)
+        let three = row-more 144 (bytesOfAll bytesOfDefinition (c .definitions)) two g definitions-long (omega arith) in
+        let four = row-more 512 (bytesOfAll bytesOfDefinition (c .saved .entries)) three i saved-long (omega arith) in
+        let five = row-more 640 (bytesOfAll bytesOfPlace (c .calls .entries)) four j calls-long (omega arith) in
+        five .put .same ∙ ap (λ (xs : List ℕ). placed 51 xs t) (simp append-assoc)
 
 -- a whole state
 module _ (s : State) (ok : Ranged s) where

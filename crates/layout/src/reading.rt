@@ -80,35 +80,32 @@ fn read_bytes(bytes: &[u8], at: usize, map: &mut [u8])
     }
 }
 
-// The fields' definitions, and those saved.
-struct Definitions {
-    current: [Definition; 36],
-    saved: [Definition; 128],
-}
-
-// They stand one after the other.
-fn definitions_at(bytes: &[u8]) -> Definitions
+// The fields' definitions. A loop for each array: one loop over both, with a branch, is read entry by entry.
+fn current_at(bytes: &[u8]) -> [Definition; 36]
     requires { ⌜ length (now bytes) ≡ stateLength ⌝ }
-    ensures current { λ r. ⌜ r .current ≡ recordsOf definitionOf 4 36 (drop 1283 (now (bytes .entry))) ⌝ }
-    ensures saved { λ r. ⌜ r .saved ≡ recordsOf definitionOf 4 128 (drop 1427 (now (bytes .entry))) ⌝ }
+    ensures { λ r. ⌜ r ≡ recordsOf definitionOf 4 36 (drop 1283 (now (bytes .entry))) ⌝ }
 {
-    let first = definition_at(bytes, 1283);
-    let mut current = [first; 36];
-    let mut saved = [first; 128];
+    let mut made = [definition_at(bytes, 1283); 36];
     let mut i = 0;
-    while i < 164 {
-        let one = definition_at(bytes, 1283 + 4 * i);
-        if i < 36 {
-            current[i] = one;
-        } else {
-            saved[i - 36] = one;
-        }
+    while i < 36 {
+        made[i] = definition_at(bytes, 1283 + 4 * i);
         i += 1;
     }
-    Definitions {
-        current: current,
-        saved: saved,
+    made
+}
+
+// The entries of the stack of definitions.
+fn saved_at(bytes: &[u8]) -> [Definition; 128]
+    requires { ⌜ length (now bytes) ≡ stateLength ⌝ }
+    ensures { λ r. ⌜ r ≡ recordsOf definitionOf 4 128 (drop 1427 (now (bytes .entry))) ⌝ }
+{
+    let mut made = [definition_at(bytes, 1427); 128];
+    let mut i = 0;
+    while i < 128 {
+        made[i] = definition_at(bytes, 1427 + 4 * i);
+        i += 1;
     }
+    made
 }
 
 // The entries of the stack of calls.
@@ -154,9 +151,8 @@ fn core_at(bytes: &[u8]) -> Core
     let mut words = [0u64; 128];
     read_words(bytes, 51, &mut bugs);
     read_words(bytes, 259, &mut words);
-    let definitions = definitions_at(bytes);
-    let current = definitions.current;
-    let saved = definitions.saved;
+    let current = current_at(bytes);
+    let saved = saved_at(bytes);
     let calls = calls_at(bytes);
     Core {
         place: place_at(bytes, 0),

@@ -30,16 +30,18 @@ fn put_place(bytes: &mut [u8], at: usize, p: Place)
     put_number(bytes, at + 3, 2, p.line as u64);
 }
 
-// A definition: whether it is defined, word, left and right.
-fn put_definition(bytes: &mut [u8], at: usize, x: Definition)
+// A definition: whether it is defined, word, left and right, each read where it stands, so that its four bytes are copied at once.
+fn put_definition(bytes: &mut [u8], at: usize, defined: bool, word: u8, left: u8, right: u8)
     requires { ⌜ at + 4 ≤ length (now bytes) ⌝ }
-    ensures { λ _. ⌜ now (bytes .exit) ≡ placed at (bytesOfDefinition x) (now (bytes .entry)) ⌝ }
-    ensures ranged { λ _. ⌜ RangedDefinition x ⌝ }
+    ensures { λ _. ⌜ now (bytes .exit)
+        ≡ placed at (bytesOfDefinition (record { defined = defined; word = word; left = left; right = right }))
+        (now (bytes .entry)) ⌝ }
+    ensures ranged { λ _. ⌜ RangedDefinition (record { defined = defined; word = word; left = left; right = right }) ⌝ }
 {
-    put_number(bytes, at, 1, x.defined as u64);
-    put_number(bytes, at + 1, 1, x.word as u64);
-    put_number(bytes, at + 2, 1, x.left as u64);
-    put_number(bytes, at + 3, 1, x.right as u64);
+    put_number(bytes, at, 1, defined as u64);
+    put_number(bytes, at + 1, 1, word as u64);
+    put_number(bytes, at + 2, 1, left as u64);
+    put_number(bytes, at + 3, 1, right as u64);
 }
 
 // Words one after the other.
@@ -68,17 +70,42 @@ fn put_bytes(bytes: &mut [u8], at: usize, map: &[u8])
     }
 }
 
-// The fields' definitions, and after them those saved.
-fn put_definitions(bytes: &mut [u8], current: [Definition; 36], saved: [Definition; 128])
+// The fields' definitions.
+fn put_current(bytes: &mut [u8], entries: [Definition; 36])
     requires { ⌜ length (now bytes) ≡ stateLength ⌝ }
-    ensures { λ _. ⌜ now (bytes .exit) ≡ placed 1283 (bytesOfAll bytesOfDefinition current ++ bytesOfAll bytesOfDefinition saved)
-        (now (bytes .entry)) ⌝ }
-    ensures ranged { λ _. ⌜ Array RangedDefinition undefined 36 current × Array RangedDefinition undefined 128 saved ⌝ }
+    ensures { λ _. ⌜ now (bytes .exit) ≡ placed 1283 (bytesOfAll bytesOfDefinition entries) (now (bytes .entry)) ⌝ }
+    ensures ranged { λ _. ⌜ Array RangedDefinition undefined 36 entries ⌝ }
 {
     let mut i = 0;
-    while i < 164 {
-        let one = if i < 36 { current[i] } else { saved[i - 36] };
-        put_definition(bytes, 1283 + 4 * i, one);
+    while i < 36 {
+        put_definition(
+            bytes,
+            1283 + 4 * i,
+            entries[i].defined,
+            entries[i].word,
+            entries[i].left,
+            entries[i].right,
+        );
+        i += 1;
+    }
+}
+
+// The entries of the stack of definitions.
+fn put_saved(bytes: &mut [u8], entries: [Definition; 128])
+    requires { ⌜ length (now bytes) ≡ stateLength ⌝ }
+    ensures { λ _. ⌜ now (bytes .exit) ≡ placed 1427 (bytesOfAll bytesOfDefinition entries) (now (bytes .entry)) ⌝ }
+    ensures ranged { λ _. ⌜ Array RangedDefinition undefined 128 entries ⌝ }
+{
+    let mut i = 0;
+    while i < 128 {
+        put_definition(
+            bytes,
+            1427 + 4 * i,
+            entries[i].defined,
+            entries[i].word,
+            entries[i].left,
+            entries[i].right,
+        );
         i += 1;
     }
 }
@@ -162,7 +189,8 @@ fn put_arrays(bytes: &mut [u8], core: Core)
     let places = calls.entries;
     put_words(bytes, 51, &bugs);
     put_words(bytes, 259, &words);
-    put_definitions(bytes, definitions, kept);
+    put_current(bytes, definitions);
+    put_saved(bytes, kept);
     put_calls(bytes, places);
 }
 

@@ -16,8 +16,11 @@ slice-aggregate-read-words-2 c = search needs
 read-words-requires-2 : tie.Need-read-words-requires-2
 read-words-requires-2 c κs = search needs
 
-definitions-at-requires : tie.Need-definitions-at-requires
-definitions-at-requires c κs = search needs
+current-at-requires : tie.Need-current-at-requires
+current-at-requires c κs = search needs
+
+saved-at-requires : tie.Need-saved-at-requires
+saved-at-requires c κs = search needs
 
 calls-at-requires : tie.Need-calls-at-requires
 calls-at-requires c κs = search needs
@@ -52,11 +55,12 @@ returns c =
     let at-count-at = at-count-at2 .before in
     let at-place-at = at-count-at .before in
     let at-calls-at = at-place-at .before in
-    let at-definitions-at = at-calls-at .before .before .before in
-    let at-read-words2 = at-definitions-at .before .before in
+    let at-saved-at = at-calls-at .before in
+    let at-current-at = at-saved-at .before in
+    let at-read-words2 = at-current-at .before .before in
     let at-read-words = at-read-words2 .before .before .before in
     let entry = at-read-words .before .before .before in
-    core-read (entry .args .bytes .now) (at-read-words .read-words .ensures) (at-read-words2 .read-words2 .ensures) (at-definitions-at .definitions-at .ensures .0) (at-definitions-at .definitions-at .ensures .1)
+    core-read (entry .args .bytes .now) (at-read-words .read-words .ensures) (at-read-words2 .read-words2 .ensures) (at-current-at .current-at .ensures) (at-saved-at .saved-at .ensures)
     (at-calls-at .calls-at .ensures) (at-place-at .place-at .ensures) (at-count-at .count-at .ensures) (at-count-at2 .count-at2 .ensures) (at-count-at3 .count-at3 .ensures) (at-setup-at .setup-at .ensures)
     (at-count-at4 .count-at4 .ensures) (c .count-at5 .ensures)
 
@@ -68,7 +72,8 @@ core-at-spec =
     read-words-requires
     slice-aggregate-read-words-2
     read-words-requires-2
-    definitions-at-requires
+    current-at-requires
+    saved-at-requires
     calls-at-requires
     place-at-requires
     count-at-requires

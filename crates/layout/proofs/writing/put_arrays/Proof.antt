@@ -24,8 +24,11 @@ put-words-requires-2 c κs =
     let entry = c .before .before .before .before .before .before .before .before .before .before .before .before .before .before .before .before in
     let long : length (entry .args .core .contents .entries) ≡ 128 = search needs in omega (arith, entry .pre)
 
-put-definitions-requires : tie.Need-put-definitions-requires
-put-definitions-requires c κs = search needs
+put-current-requires : tie.Need-put-current-requires
+put-current-requires c κs = search needs
+
+put-saved-requires : tie.Need-put-saved-requires
+put-saved-requires c κs = search needs
 
 put-calls-requires : tie.Need-put-calls-requires
 put-calls-requires c κs = search needs
@@ -36,8 +39,9 @@ same-length c = search needs
 returns : tie.Need-returns
 returns c =
     let at-put-calls = c .before .before in
-    let at-put-definitions = at-put-calls .before .before .before .before in
-    let at-put-words2 = at-put-definitions .before .before .before .before in
+    let at-put-saved = at-put-calls .before .before .before .before in
+    let at-put-current = at-put-saved .before .before .before .before in
+    let at-put-words2 = at-put-current .before .before .before .before in
     let at-words2 = at-put-words2 .before in
     let at-put-words = at-words2 .before .before .before .before in
     let at-bugs2 = at-put-words .before in
@@ -47,11 +51,13 @@ returns c =
     let ok : RangedArrays (entry .args .core) = record {
       bugs = rw bugs-long at (at-put-words .put-words .ensures .1);
       contents = rw words-long at (at-put-words2 .put-words2 .ensures .1);
-      definitions = at-put-definitions .put-definitions .ensures .1 .0;
-      saved = at-put-definitions .put-definitions .ensures .1 .1;
+      definitions = at-put-current .put-current .ensures .1;
+      saved = at-put-saved .put-saved .ensures .1;
       calls = at-put-calls .put-calls .ensures .1;
     } in (
-      arrays-put (entry .args .core) ok (entry .args .bytes .now) (entry .pre) (at-put-words .put-words .ensures .0) (at-put-words2 .put-words2 .ensures .0) (at-put-definitions .put-definitions .ensures .0)
+      arrays-put (entry .args .core) ok (entry .args .bytes .now) (entry .pre) (at-put-words .put-words .ensures .0)
+          (at-put-words2 .put-words2 .ensures .0) (at-put-current .put-current .ensures .0)
+          (at-put-saved .put-saved .ensures .0)
           (at-put-calls .put-calls .ensures .0),
       ok,
     )
@@ -64,7 +70,8 @@ put-arrays-spec =
     put-words-requires
     slice-aggregate-put-words-2
     put-words-requires-2
-    put-definitions-requires
+    put-current-requires
+    put-saved-requires
     put-calls-requires
     same-length
     returns)
