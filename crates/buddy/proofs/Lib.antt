@@ -16,6 +16,7 @@ pub mod Upward
 pub mod Scan
 pub mod Keeping
 pub mod Passing
+pub mod Whole
 pub mod Placed
 pub mod Address
 pub mod Count

@@ -11,7 +11,7 @@ use Rattle.word.proofs.Pred.{times-pred}
 use Rattle.word.proofs.Tests.{by-leb}
 use Rattle.block.specs.Blocks.{size}
 use Rattle.block.proofs.Size.{size-pos}
-use Rattle.buddy.specs.Marks.{isTag, counted, allCounted, Passing}
+use Rattle.buddy.specs.Marks.{isTag, counted, allCounted, Passing, WholeTrees}
 use Rattle.buddy.proofs.Parts.{count-block}
 use Rattle.buddy.proofs.Keeping.{count-on, count-off, count-end}
 
@@ -78,3 +78,25 @@ module _ {k : ℕ} {m : List ℕ} {end from before left at sum : ℕ} (p : Passi
       none =
           by-leb (λ _. p .rest ≡ 0) 1 (p .rest)
           (λ l. absurd (omega (arith, p .fills, size-pos k, times-pred (size k) (p .rest) l))) (λ l. omega arith)
+
+-- the same by other names
+pass-same : {k : ℕ} {m : List ℕ} {end from before left at sum at′ sum′ : ℕ} → at ≡ at′ → sum ≡ sum′ → Passing k m end from before at sum left
+    → Passing k m end from before at′ sum′ left
+pass-same e f p = rw (← e, ← f) p
+
+-- so many that are a block each
+every-block : (k : ℕ) {m : List ℕ} {end from before left at sum : ℕ} → Passing k m end from before at sum left → (many : ℕ) → WholeTrees k m end at many
+    → Passing k m end from before (at + many * size k) (sum + many) left
+every-block k {at = at} {sum = sum} p zero w =
+    let same : at ≡ at + 0 * size k = omega arith in
+    let none : sum ≡ sum + 0 = omega arith in
+    pass-same same none p
+every-block k {at = at} {sum = sum} p (suc many) w =
+    let so-far = every-block k p many (record { within = λ t h. w .within t (omega arith); whole = λ t h. w .whole t (omega arith) }) in
+    let there : at + many * size k + size k ≡ at + suc many * size k = omega arith in
+    let more : sum + many + 1 ≡ sum + suc many = omega arith in
+    pass-same there more (pass-block so-far (size k) refl (w .within many (omega arith)) (w .whole many (omega arith)))
+
+pub pass-blocks : (k : ℕ) {m : List ℕ} {end from before left at sum : ℕ} → Passing k m end from before at sum left → (many n : ℕ) → n ≡ size k
+    → WholeTrees k m end at many → Passing k m end from before (at + many * n) (sum + many) left
+pass-blocks k {at = at} {sum = sum} p many n e w = pass-same (ap (λ (x : ℕ). at + many * x) (sym e)) refl (every-block k p many w)

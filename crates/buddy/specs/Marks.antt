@@ -1,8 +1,8 @@
 -- What the check of a map counts: the blocks that its bytes tell, and all bytes that are not zero. Document 01, "Blocks", and of refusal 11
 -- "blocks breaking their section". Assumes nothing.
-use Prim.Native.Nat.{ℕ, zero, suc, _+_, _-_, _*_, _/_, _%_, _≤_}
+use Prim.Native.Nat.{ℕ, zero, suc, _+_, _-_, _*_, _/_, _%_, _≤_, _<_}
 use mathlib.Core.Path.{_≡_}
-use mathlib.Core.Bool.{Bool, not, _&&_, _||_, cond}
+use mathlib.Core.Bool.{Bool, true, not, _&&_, _||_, cond}
 use mathlib.Core.List.{List, [], _∷_}
 use lib.Dec.{eqb, leb, ltb}
 use lib.ListN.{getD, take, drop}
@@ -48,6 +48,15 @@ unfoldable pub allCounted : ℕ → ℕ → ℕ → List ℕ → ℕ
 allCounted k zero sum m = sum
 allCounted k (suc count) sum m =
     cond (eqb (counted k (take (size k) m)) 0) 0 (allCounted k count (sum + counted k (take (size k) m)) (drop (size k) m))
+
+-- the trees of the k-th size that start in the first so many bytes are one block each
+abbrev pub TagsAt : ℕ → List ℕ → ℕ → Type 0
+TagsAt k m bytes = (i : ℕ) → i < bytes → i % size k ≡ 0 → isTag k (getD m i 0) ≡ true
+
+-- so many trees of the k-th size from a place on start before an end and are one block each
+pub record WholeTrees (k : ℕ) (m : List ℕ) (end from many : ℕ) : Type 0 where
+  pub within : (t : ℕ) → t < many → from + t * size k < end
+  pub whole : (t : ℕ) → t < many → isTag k (getD m (from + t * size k) 0) ≡ true
 
 -- trees passed from a place on, up to an end: those left, and the number with the blocks of those passed, give what all of them gave
 pub record Passing (k : ℕ) (m : List ℕ) (end from before at sum left : ℕ) : Type 0 where

@@ -7,7 +7,7 @@ ghost use Rattle.buddy.specs.declared.Found.the-variants.{At};
 ghost use Rattle.block.specs.Blocks.{size, sizeAt};
 ghost use Rattle.block.specs.SetUp.{top, words, runs};
 ghost use Rattle.block.specs.Map.{keeps, live, freedMap, deliveredMap};
-ghost use Rattle.buddy.specs.Marks.{mark as markOf, marks, allCounted, PassedOver};
+ghost use Rattle.buddy.specs.Marks.{mark as markOf, marks, allCounted, PassedOver, isTag, TagsAt, WholeTrees};
 ghost use Rattle.buddy.specs.Lowest.{firstOf, toldFound, firstTold, Passed};
 ghost use Rattle.buddy.specs.Tag.{tagSize};
 use super::Found;
@@ -20,6 +20,7 @@ use super::tree::is_tag;
 use super::tree::split;
 use super::tree::zero_from;
 use block::SetUp;
+use std::num;
 
 // How many words are set up.
 pub fn words_of(setup: SetUp) -> usize
@@ -75,6 +76,53 @@ struct Whole {
     count: usize,
 }
 
+// A byte less the tag of a free block of the k-th size, which leaves 0 or 1 of a tag of that size; 0 where no tree of n bytes is.
+fn off_tag(k: u8, n: u8, i: u8, x: u8) -> u8
+    requires { ⌜ (k ≤ 7) × (0 < n) ⌝ }
+    ensures { λ r. ⌜ (r < 2 → i % n ≡ 0 → isTag k x ≡ true) ⌝ }
+{
+    if i % n != 0 {
+        return 0;
+    }
+    num::wrapping_sub_u8(x, free_tag(k))
+}
+
+// Whether the trees of the k-th size in a part of 128 bytes are one block each: what is left of their tags is joined by "or".
+fn whole_part(k: u8, part: &[u8]) -> bool
+    requires { ⌜ (k ≤ 7) × (length (now part) ≡ 128) ⌝ }
+    ensures { λ r. ⌜ (r ≡ true → TagsAt k (now (part .entry)) 128) ⌝ }
+{
+    let n: u8 = 1 << k;
+    let mut all: u8 = 0;
+    let mut i: u8 = 0;
+    while i < 128 {
+        all = all | off_tag(k, n, i, part[i as usize]);
+        i += 1;
+    }
+    all < 2
+}
+
+// How many trees from a place on are passed as one block each: all in 128 bytes where small ones fill them, otherwise one or none.
+fn whole_here(k: u8, i: usize, end: usize, map: &[u8]) -> usize
+    requires { ⌜ (k ≤ 7) × (i < end) × (end ≤ length (now map)) ⌝ }
+    ensures { λ r. ⌜ (r ≤ 128) × WholeTrees k (now (map .entry)) end i r ⌝ }
+{
+    if !is_tag(k, map[i]) {
+        return 0;
+    }
+    if (4 < k) | (i % 128 != 0) {
+        return 1;
+    }
+    if end - i < 128 {
+        return 1;
+    }
+    let past = i + 128;
+    if !whole_part(k, &map[i..past]) {
+        return 1;
+    }
+    128 / size_of(k)
+}
+
 // Passes trees of the k-th size that are one block each, up to the first that is not, or to the end.
 fn whole_trees(k: u8, before: usize, from: usize, end: usize, map: &[u8]) -> Whole
     requires { ⌜ (k ≤ 7) × (end ≤ length (now map)) × (end ≤ 65536) × (before ≤ 33554432) ⌝ }
@@ -84,14 +132,15 @@ fn whole_trees(k: u8, before: usize, from: usize, end: usize, map: &[u8]) -> Who
     let mut count = before;
     let mut i = from;
     while i < end {
-        if !is_tag(k, map[i]) {
+        let more = whole_here(k, i, end, map);
+        if more == 0 {
             return Whole {
                 at: i,
                 count: count,
             };
         }
-        count += 1;
-        i += n;
+        count += more;
+        i += more * n;
     }
     Whole {
         at: i,
