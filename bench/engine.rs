@@ -313,22 +313,56 @@ impl State {
     /// the number of bytes of the whole map that are not zero exactly where every other byte is zero.
     #[inline(always)]
     fn blocks(&self, setup: SetUp) -> Option<usize> {
-        let (largest, map) = (free_tag(u32::from(setup.d).ilog2()), &self.map[..setup.words()]);
-        let (mut i, mut blocks) = (0, 0);
-        while let Some(&tag) = map.get(i) {
-            if tag.wrapping_sub(1) > largest {
-                return None;
-            }
-            let size = 1 << level(tag);
-            let halved = is_free(tag) && tag != largest && i & size != 0 && map[i - size] == tag;
-            if i & (size - 1) != 0 || halved {
-                return None;
-            }
-            blocks += 1;
-            i += size;
+        let (d, largest) = (setup.d as u8, free_tag(u32::from(setup.d).ilog2()));
+        let map = &self.map[..setup.words()];
+        if d > 16 {
+            return trees(map, d, largest);
         }
-        Some(blocks)
+        let (parts, rest) = map.as_chunks();
+        let mut blocks = 0;
+        for part in parts {
+            let whole = part[0].wrapping_sub(largest) <= 1 && are_whole(part, d, largest);
+            blocks += if whole { 128 >> level(largest) } else { trees(part, d, largest)? };
+        }
+        Some(blocks + trees(rest, d, largest)?)
     }
+}
+
+/// Whether the blocks of d words in a part are not halved: what is left of their tags, that of a free one taken away, is joined by "or".
+#[inline(always)]
+fn are_whole(part: &[u8; 128], d: u8, largest: u8) -> bool {
+    let mut all = 0;
+    for (i, &tag) in part.iter().enumerate() {
+        let starts = if i as u8 & (d - 1) == 0 { 255 } else { 0 };
+        all |= tag.wrapping_sub(largest) & starts;
+    }
+    all <= 1
+}
+/// How many blocks these blocks of d words have.
+#[inline(always)]
+fn trees(bytes: &[u8], d: u8, largest: u8) -> Option<usize> {
+    let mut blocks = 0;
+    for tree in bytes.chunks_exact(d.into()) {
+        blocks += if tree[0].wrapping_sub(largest) <= 1 { 1 } else { halves(tree, largest)? };
+    }
+    Some(blocks)
+}
+/// How many blocks the halves of a block of d words have.
+#[inline(always)]
+fn halves(tree: &[u8], largest: u8) -> Option<usize> {
+    let (mut i, mut blocks) = (0, 0);
+    while let Some(&tag) = tree.get(i) {
+        if tag.wrapping_sub(1) >= largest - 1 {
+            return None;
+        }
+        let size = 1 << level(tag);
+        if i & (size - 1) != 0 || is_free(tag) && i & size != 0 && tree[i - size] == tag {
+            return None;
+        }
+        blocks += 1;
+        i += size;
+    }
+    Some(blocks)
 }
 
 // ---------------------------------------------------------------- blocks
