@@ -7,13 +7,10 @@ use mathlib.Core.Path.{_≡_, sym, _∙_}
 use borrow.Author.Tests.{le-leb, lt-leb, leb-true, leb-false}
 use lib.Dec.{leb}
 use lib.ListN.{length, drop}
-use Rattle.recordings.specs.declared.Written.{Written}
 use Rattle.recordings.specs.declared.Written.the-variants.{Count, BadList, RowTwice, OutputShort}
-use Rattle.recordings.specs.Recordings.{Left, rowCount, stopOf, recordingOf, isList, chain, hasTwice, allStanding, pairs, written, correcting, toldWritten, correctingTold}
+use Rattle.recordings.specs.Recordings.{rowCount, isList, chain, hasTwice, allStanding, written, correcting, toldWritten, correctingTold}
+use Rattle.recordings.specs.Walking.{allWritten, Answered}
 use Rattle.recordings.proofs.Chain.{chain-once, chain-twice, chain-most}
-
-abbrev left : Written → List ℕ → Left
-left answer output = record { answer = answer; output = output }
 
 -- room for so many pairs
 half-room : (n m : ℕ) → leb n (m / 2) ≡ true → 2 * n ≤ m
@@ -23,16 +20,12 @@ half-short : (n m : ℕ) → leb n (m / 2) ≡ false → m < 2 * n
 half-short n m h = let short = leb-false n (m / 2) h in omega arith
 
 module _ (xs output : List ℕ) where
-  -- an answer and what it leaves, also in the ticket's numbers
-  abbrev pub Answered : Written → List ℕ → Type 0
-  Answered answer after = (left answer after ≡ correcting xs output) × (toldWritten answer ≡ correctingTold xs output)
-
-  pub bad-list : isList xs ≡ false → Answered BadList output
+  pub bad-list : isList xs ≡ false → Answered xs output BadList output
   unfolding correcting toldWritten correctingTold
   bad-list b = (rw b, rw b)
 
   module _ (is : isList xs ≡ true) {steps : ℕ} (all : steps ≡ length (chain xs)) where
-    pub row-twice : steps ≡ rowCount xs → Answered RowTwice output
+    pub row-twice : steps ≡ rowCount xs → Answered xs output RowTwice output
     unfolding correcting toldWritten correctingTold
     row-twice full =
         let twice = chain-twice xs is (sym all ∙ full) in
@@ -42,7 +35,7 @@ module _ (xs output : List ℕ) where
       once : hasTwice (chain xs) ≡ false
       once = chain-once xs is (omega (arith, chain-most xs is))
 
-      pub output-short : leb (length (allStanding xs)) (length output / 2) ≡ false → Answered OutputShort output
+      pub output-short : leb (length (allStanding xs)) (length output / 2) ≡ false → Answered xs output OutputShort output
       unfolding correcting written toldWritten correctingTold
       output-short h =
           let short = lt-leb (2 * length (allStanding xs)) (length output) (half-short _ _ h) in
@@ -53,7 +46,7 @@ module _ (xs output : List ℕ) where
         pairs-fit = half-room (length (allStanding xs)) (length output) fits
 
         pub all-written : {count : ℕ} {after : List ℕ} → count ≡ length (allStanding xs)
-            → after ≡ pairs (stopOf xs) (recordingOf xs) (allStanding xs) ++ drop (2 * count) output → Answered (Count count) after
+            → after ≡ allWritten xs ++ drop (2 * count) output → Answered xs output (Count count) after
         unfolding correcting written toldWritten correctingTold
         all-written count-is e =
             let room = le-leb (2 * length (allStanding xs)) (length output) pairs-fit in

@@ -7,7 +7,7 @@ use mathlib.Core.Path.{_≡_, refl, sym, ap, _∙_}
 use lib.ListN.{length, take, drop, getD, take-append-drop}
 use lib.Seq.{drop-drop, take-length}
 use Rattle.recordings.specs.Recordings.{rowCount, nextOf, firstRow, isList, chain, hasTwice, standingRows, allStanding}
-use Rattle.recordings.specs.Walking.{entered, heldRows, stops, Holds, Entering, Enters, Noted, Linked, Fresh}
+use Rattle.recordings.specs.Walking.{entered, heldRows, rowAt, stops, Holds, Entering, Enters, Noted, Linked, Fresh}
 use Rattle.recordings.proofs.Counting.{Each, each-at, each-take}
 use Rattle.recordings.proofs.Chain.{At, at-start, at-next, at-passed, chain-inside}
 use Rattle.recordings.proofs.Standing.{grown-by-one, no-fewer, entered-most, standing-each}
@@ -33,13 +33,16 @@ module _ {rows : List ℕ} {n : ℕ} {before after : List ℕ} (is : Noted rows 
   pub noted-itself : Noted rows n after after
   noted-itself = record { held = is .held; room = is .room; past = refl; same-long = refl }
 
+  -- the row at a place
+  pub noted-row : {k : ℕ} → k < n → rowAt after k ≡ getD rows k 0
+  noted-row {k} h = sym (held-at n k after h) ∙ ap (λ (l : List ℕ). getD l k 0) (is .held)
+
   noted-holds : {xs : List ℕ} → isList xs ≡ true → Each (λ r. r < rowCount xs) rows → Holds xs n after
   noted-holds list each =
       record {
         is-list = list;
         room = is .room;
-        inside = λ k h.
-            rw (sym (held-at n k after h) ∙ ap (λ (l : List ℕ). getD l k 0) (is .held)) (each-at rows each k (omega (arith, noted-count)));
+        inside = λ k h. rw (noted-row h) (each-at rows each k (omega (arith, noted-count)));
       }
 
 -- the standing rows of the first i rows of the chain

@@ -1,4 +1,4 @@
--- Stops and recordings put in the places of the rows that were noted. Assumes nothing.
+-- Stops and recordings put in the places of the rows that were noted, or from other memory. Assumes nothing.
 use Prim.Native.Nat.{ℕ, suc, _+_, _*_, _<_, _≤_}
 use native.Mathlib.Numerals.{add-one}
 use native.Mathlib.Omega.{arith}
@@ -7,18 +7,32 @@ use mathlib.Core.List.{List, _++_}
 use mathlib.Core.Path.{_≡_, refl, sym, ap, _∙_}
 use lib.ListN.{length, take, drop, getD, set, length-append, length-drop}
 use lib.Seq.{take-suc, drop-cons, drop-drop, length-take-le, take-length, getD-at}
-use Rattle.recordings.specs.Recordings.{rowCount, numberOf, stopOf, recordingOf, isList, allStanding, pairs}
-use Rattle.recordings.specs.Walking.{rowAt, Noted}
+use Rattle.recordings.specs.Recordings.{stopOf, recordingOf, isList, allStanding, pairs}
+use Rattle.recordings.specs.Walking.{rowAt, withRow, allWritten, Noted}
 use Rattle.recordings.proofs.Counting.{each-at}
-use Rattle.recordings.proofs.Held.{held-at}
-use Rattle.recordings.proofs.Growing.{noted-count, standing-inside}
+use Rattle.recordings.proofs.Chain.{number-inside}
+use Rattle.recordings.proofs.Growing.{noted-count, noted-row, standing-inside}
 use Rattle.recordings.proofs.Pairs.{length-pairs, pairs-put}
 
 -- stops and recordings of the first k standing rows in their places, and the others noted still
 abbrev pub partly : List ℕ → List ℕ → ℕ → List ℕ
 partly xs before k = pairs (stopOf xs) (recordingOf xs) (take k (allStanding xs)) ++ drop (2 * k) before
 
-module _ (xs : List ℕ) {count : ℕ} {before : List ℕ} (is : Noted (allStanding xs) count before before) where
+-- an output with room for the pairs of all standing rows
+pub record Fits (xs : List ℕ) (count : ℕ) (before : List ℕ) : Type 0 where
+  pub all : count ≡ length (allStanding xs)
+  pub room : 2 * count ≤ length before
+
+-- as many as are noted somewhere
+pub fits : {xs : List ℕ} {count : ℕ} {noted : List ℕ} → Noted (allStanding xs) count noted noted → (before : List ℕ) → 2 * count ≤ length before
+    → Fits xs count before
+fits is before room = record { all = noted-count is; room = room }
+
+-- or in the output itself
+pub noted-fits : {xs : List ℕ} {count : ℕ} {before : List ℕ} → Noted (allStanding xs) count before before → Fits xs count before
+noted-fits {xs} {count} {before} is = fits is before (is .room)
+
+module _ (xs : List ℕ) {count : ℕ} {before : List ℕ} (is : Fits xs count before) where
   abbrev rows : List ℕ
   rows = allStanding xs
 
@@ -31,7 +45,7 @@ module _ (xs : List ℕ) {count : ℕ} {before : List ℕ} (is : Noted (allStand
 
   front-long : (k : ℕ) → k ≤ count → length (front k) ≡ 2 * k
   front-long k h =
-      length-pairs (stopOf xs) (recordingOf xs) (take k rows) ∙ ap (λ (n : ℕ). 2 * n) (length-take-le k rows (omega (arith, noted-count is)))
+      length-pairs (stopOf xs) (recordingOf xs) (take k rows) ∙ ap (λ (n : ℕ). 2 * n) (length-take-le k rows (omega (arith, is .all)))
 
   pub puts-length : (k : ℕ) → k ≤ count → length (partly xs before k) ≡ length before
   puts-length k h =
@@ -39,27 +53,26 @@ module _ (xs : List ℕ) {count : ℕ} {before : List ℕ} (is : Noted (allStand
 
   module _ {k : ℕ} (more : k < count) where
     few : k < length rows
-    few = omega (arith, noted-count is)
+    few = omega (arith, is .all)
 
     pub puts-room : 2 * k + 2 ≤ length (partly xs before k)
     puts-room = omega (arith, puts-length k (omega arith), is .room)
 
-    -- the row of the next place
-    puts-row : rowAt (partly xs before k) k ≡ getD rows k 0
-    puts-row =
+    -- the row of the next place, where the output holds it
+    pub puts-row : Noted (allStanding xs) count before before → rowAt (partly xs before k) k ≡ getD rows k 0
+    puts-row noted =
         ap (λ (l : List ℕ). getD (front k ++ l) (2 * k) 0) (drop-cons before (2 * k) 0 (omega (arith, is .room)))
         ∙ getD-at (front k) (rowAt before k) (drop (suc (2 * k)) before) 0 (2 * k) (front-long k (omega arith))
-        ∙ sym (held-at count k before more)
-        ∙ ap (λ (l : List ℕ). getD l k 0) (is .held)
+        ∙ noted-row noted more
 
-    pub puts-inside : isList xs ≡ true → rowAt (partly xs before k) k < rowCount xs
-    puts-inside list = rw puts-row (each-at rows (standing-inside xs list) k few)
+    -- its numbers
+    pub puts-number : isList xs ≡ true → {row : ℕ} → row ≡ getD rows k 0 → 4 * row + 3 < length xs
+    puts-number list {row} e = number-inside xs list row 3 (rw e (each-at rows (standing-inside xs list) k few)) (omega arith)
 
-    pub puts-next : {row : ℕ} → row ≡ rowAt (partly xs before k) k
-        → set (set (partly xs before k) (2 * k) (numberOf xs row 1)) (2 * k + 1) (numberOf xs row 3) ≡ partly xs before (k + 1)
+    pub puts-next : {row : ℕ} → row ≡ getD rows k 0 → withRow xs row k (partly xs before k) ≡ partly xs before (k + 1)
     unfolding stopOf recordingOf
     puts-next {row} e =
-        ap put (e ∙ puts-row)
+        ap (λ (r : ℕ). withRow xs r k (partly xs before k)) e
         ∙ ap (λ (n : ℕ). set (set (partly xs before k) (2 * n) (stopOf xs last)) (2 * n + 1) (recordingOf xs last))
         (sym (length-take-le k rows (omega (arith, few))))
         ∙ pairs-put (stopOf xs) (recordingOf xs) (take k rows) last (drop (2 * k) before) (omega (arith, length-drop (2 * k) before, is .room))
@@ -71,11 +84,8 @@ module _ (xs : List ℕ) {count : ℕ} {before : List ℕ} (is : Noted (allStand
         last : ℕ
         last = getD rows k 0
 
-        put : ℕ → List ℕ
-        put r = set (set (partly xs before k) (2 * k) (numberOf xs r 1)) (2 * k + 1) (numberOf xs r 3)
-
         two : 2 * k + 2 ≡ 2 * suc k
         two = omega arith
 
-  pub puts-all : (k : ℕ) → k ≡ count → partly xs before k ≡ pairs (stopOf xs) (recordingOf xs) rows ++ drop (2 * count) before
-  puts-all k e = rw (e, noted-count is, take-length)
+  pub puts-all : (k : ℕ) → k ≡ count → partly xs before k ≡ allWritten xs ++ drop (2 * count) before
+  puts-all k e = rw (e, is .all, take-length)

@@ -5,10 +5,14 @@ use mathlib.Core.Bool.{true, false, _&&_, cond}
 use mathlib.Core.List.{List, [], _∷_, map}
 use mathlib.Core.Path.{_≡_}
 use lib.Dec.{eqb, leb, ltb}
-use lib.ListN.{length, drop, getD}
+use lib.ListN.{length, drop, getD, set}
+use Rattle.recordings.specs.declared.Written.{Written}
+use Rattle.recordings.specs.declared.Few.{Few}
+use Rattle.recordings.specs.declared.Few.the-variants.{Told, Many}
 use Rattle.recordings.specs.declared.Least.{Least}
 use Rattle.recordings.specs.declared.Least.the-variants.{Stop, Nothing}
-use Rattle.recordings.specs.Recordings.{stopOf, dayOf, rowCount, isList, chain, member, hasTwice}
+use Rattle.recordings.specs.Recordings.{numberOf, stopOf, dayOf, recordingOf, rowCount, isList, chain, member, hasTwice, allStanding, pairs}
+use Rattle.recordings.specs.Recordings.{correcting, toldWritten, correctingTold}
 
 -- a list that is not refused by 26, with the length of its chain
 pub record Walked (xs : List ℕ) (steps : ℕ) : Type 0 where
@@ -97,6 +101,33 @@ pub record Enters (xs : List ℕ) (row count n : ℕ) (before after heads now : 
   pub noted : Noted (entered xs row (heldRows count before)) n before after
   pub linked : Linked xs now after n
   pub same-long : length now ≡ length heads
+
+-- stop and recording of a row written as pair k
+abbrev pub withRow : List ℕ → ℕ → ℕ → List ℕ → List ℕ
+withRow xs row k output = set (set output (2 * k) (numberOf xs row 1)) (2 * k + 1) (numberOf xs row 3)
+
+-- stops and recordings of the standing rows
+abbrev pub allWritten : List ℕ → List ℕ
+allWritten xs = pairs (stopOf xs) (recordingOf xs) (allStanding xs)
+
+-- an answer and what it leaves, also in the ticket's numbers
+abbrev pub Answered : List ℕ → List ℕ → Written → List ℕ → Type 0
+Answered xs output answer after = (record { answer = answer; output = after } ≡ correcting xs output) × (toldWritten answer ≡ correctingTold xs output)
+
+-- more stops than are noted in memory of the call's own, unless the chain reaches a row twice
+abbrev pub ManyStops : List ℕ → Type 0
+ManyStops xs = length (chain xs) < rowCount xs → 1023 < length (allStanding xs)
+
+-- the rows of a chain that ends noted, n of them, if these are few
+pub record FewNoted (xs : List ℕ) (n : ℕ) (after : List ℕ) : Type 0 where
+  pub ends : n ≤ 1023 → length (chain xs) < rowCount xs
+  pub noted : n ≤ 1023 → Noted (allStanding xs) n after after
+  pub many : 1023 < n → ManyStops xs
+
+-- an answer for few stops, or an output as it was
+unfoldable pub FewWritten : List ℕ → List ℕ → List ℕ → Few → Type 0
+FewWritten xs before after (Told answer) = Answered xs before answer after
+FewWritten xs before after Many = (after ≡ before) × ManyStops xs
 
 -- the least number that is greater than what was found before, where there was something
 unfoldable pub from : Least → ℕ

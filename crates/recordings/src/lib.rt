@@ -5,10 +5,11 @@ ghost use mathlib.Core.List.{_++_};
 ghost use Prim.Native.Nat.{_+_, _*_, _%_, _≤_, _<_};
 ghost use lib.Dec.{leb};
 ghost use lib.ListN.{length, getD, set, drop};
-ghost use Rattle.recordings.specs.Recordings.{rowCount, numberOf, stopOf, recordingOf, zerosAfter, nextsInside, isList, chain};
-ghost use Rattle.recordings.specs.Recordings.{allStanding, pairs, correcting, toldWritten, correctingTold};
+ghost use Rattle.recordings.specs.Recordings.{rowCount, numberOf, zerosAfter, nextsInside, isList, chain};
+ghost use Rattle.recordings.specs.Recordings.{allStanding, correcting, toldWritten, correctingTold};
 ghost use Rattle.recordings.specs.Walking.{Walked, Place, Holds, Entering, Enters, Noted, Linked, Fresh, standingOf};
 ghost use Rattle.recordings.specs.Walking.{rowAt, linkAt, stopAt, stops, from, lesser, LeastOf};
+ghost use Rattle.recordings.specs.Walking.{withRow, allWritten, Answered, FewNoted, FewWritten, ManyStops};
 
 // What the call answers: how many stops it wrote, or why it wrote none: 26, 27, 28.
 pub enum Written {
@@ -16,6 +17,15 @@ pub enum Written {
     BadList,
     RowTwice,
     OutputShort,
+}
+
+// How many stops are noted in memory of the call's own.
+const FEW: usize = 1023;
+
+// What a list with few stops comes to: the call's answer, or that it has more.
+enum Few {
+    Told(Written),
+    Many,
 }
 
 // The least stop found so far, if there is any.
@@ -149,46 +159,17 @@ fn no_pairs() -> [u64; 2048]
     [0u64; 2048]
 }
 
-// Whether there is room for the stops of the chain, whose standing rows are noted until there are more.
-fn count_few(list: &[u64], steps: usize, room: usize, pairs: &mut [u64], heads: &mut [u32]) -> bool
-    requires { ⌜ Walked (now list) steps × (2 * room + 2 ≤ length (now pairs)) × Fresh (now heads) ⌝ }
-    ensures { λ r. ⌜ r ≡ leb (length (allStanding (now (list .entry)))) room ⌝ }
-{
-    let mut count = 0;
-    let mut row = number_of(list, 0, 0);
-    let mut i = 0;
-    while i < steps {
-        count = enter(list, row as usize, count, pairs, heads);
-        if room < count {
-            return false;
-        }
-        row = number_of(list, row as usize, 0);
-        i += 1;
-    }
-    true
-}
-
-// The same in memory of its own.
-fn fits_few(list: &[u64], steps: usize, room: usize) -> bool
-    requires { ⌜ Walked (now list) steps × (room < 1024) ⌝ }
-    ensures { λ r. ⌜ r ≡ leb (length (allStanding (now (list .entry)))) room ⌝ }
-{
-    let mut pairs = no_pairs();
-    let mut heads = few_heads();
-    count_few(list, steps, room, &mut pairs, &mut heads)
-}
-
-// Whether there is room for the stops of the chain, which are counted only where the chain has more rows than there is room for. Where
-// the room is small their rows are noted in other memory; else they are counted in the order of their numbers, by a pass for each.
+// Whether there is room for the stops of a chain with more than 1,023, which are counted only where the chain has more rows than there is
+// room for: in the order of their numbers, by a pass for each.
 fn has_room(list: &[u64], steps: usize, room: usize) -> bool
-    requires { ⌜ Walked (now list) steps ⌝ }
+    requires { ⌜ Walked (now list) steps × (1023 < length (allStanding (now list))) ⌝ }
     ensures { λ r. ⌜ r ≡ leb (length (allStanding (now (list .entry)))) room ⌝ }
 {
     if steps <= room {
         return true;
     }
-    if room < 1024 {
-        return fits_few(list, steps, room);
+    if room <= FEW {
+        return false;
     }
     let mut last = Least::Nothing;
     let mut left = room;
@@ -354,19 +335,95 @@ fn note(list: &[u64], steps: usize, output: &mut [u64]) -> usize
     note_standing(list, steps, output, &mut heads)
 }
 
+// Writes stop and recording of a row as pair k.
+fn put_row(list: &[u64], row: usize, k: usize, output: &mut [u64])
+    requires { ⌜ (4 * row + 3 < length (now list)) × (2 * k + 2 ≤ length (now output)) ⌝ }
+    ensures { λ _. ⌜ now (output .exit) ≡ withRow (now (list .entry)) row k (now (output .entry)) ⌝ }
+{
+    put_pair(output, k, number_of(list, row, 1), number_of(list, row, 3));
+}
+
 // Puts each noted row's stop and recording in its place.
 fn put_recordings(list: &[u64], count: usize, output: &mut [u64])
     requires { ⌜ isList (now list) ≡ true × Noted (allStanding (now list)) count (now output) (now output) ⌝ }
-    ensures { λ _. ⌜ now (output .exit)
-        ≡ pairs (stopOf (now (list .entry))) (recordingOf (now (list .entry))) (allStanding (now (list .entry)))
-        ++ drop (2 * count) (now (output .entry)) ⌝ }
+    ensures { λ _. ⌜ now (output .exit) ≡ allWritten (now (list .entry)) ++ drop (2 * count) (now (output .entry)) ⌝ }
 {
     let mut k = 0;
     while k < count {
-        let row = first_of(&*output, k) as usize;
-        put_pair(output, k, number_of(list, row, 1), number_of(list, row, 3));
+        put_row(list, first_of(&*output, k) as usize, k, output);
         k += 1;
     }
+}
+
+// Notes row and link of each standing row in little memory, and counts them, as long as they are few and the chain ends.
+fn note_few(list: &[u64], pairs: &mut [u64], heads: &mut [u32]) -> usize
+    requires { ⌜ isList (now list) ≡ true × (2048 ≤ length (now pairs)) × Fresh (now heads) ⌝ }
+    ensures { λ r. ⌜ FewNoted (now (list .entry)) r (now (pairs .exit)) ⌝ }
+{
+    let rows = list.len() / 4;
+    let mut count = 0;
+    let mut row = number_of(list, 0, 0);
+    let mut i = 0;
+    while i < rows {
+        if row == 0 {
+            return count;
+        }
+        count = enter(list, row as usize, count, pairs, heads);
+        if FEW < count {
+            return count;
+        }
+        row = number_of(list, row as usize, 0);
+        i += 1;
+    }
+    FEW + 1
+}
+
+// Writes stop and recording of each row noted elsewhere.
+fn put_few(list: &[u64], count: usize, pairs: &[u64], output: &mut [u64])
+    requires { ⌜ isList (now list) ≡ true × Noted (allStanding (now list)) count (now pairs) (now pairs)
+        × (2 * count ≤ length (now output)) ⌝ }
+    ensures { λ _. ⌜ now (output .exit) ≡ allWritten (now (list .entry)) ++ drop (2 * count) (now (output .entry)) ⌝ }
+{
+    let mut k = 0;
+    while k < count {
+        put_row(list, first_of(pairs, k) as usize, k, output);
+        k += 1;
+    }
+}
+
+// Answers for a list with few stops by one walk along its chain.
+fn write_few(list: &[u64], output: &mut [u64]) -> Few
+    requires { ⌜ isList (now list) ≡ true ⌝ }
+    ensures { λ r. ⌜ FewWritten (now (list .entry)) (now (output .entry)) (now (output .exit)) r ⌝ }
+{
+    let mut pairs = no_pairs();
+    let mut heads = few_heads();
+    let count = note_few(list, &mut pairs, &mut heads);
+    if FEW < count {
+        return Few::Many;
+    }
+    if output.len() / 2 < count {
+        return Few::Told(Written::OutputShort);
+    }
+    put_few(list, count, &pairs, output);
+    Few::Told(Written::Count(count))
+}
+
+// The same for a list with more.
+fn write_many(list: &[u64], output: &mut [u64]) -> Written
+    requires { ⌜ isList (now list) ≡ true × ManyStops (now list) ⌝ }
+    ensures { λ r. ⌜ Answered (now (list .entry)) (now (output .entry)) r (now (output .exit)) ⌝ }
+{
+    let steps = chain_length(list);
+    if steps == list.len() / 4 {
+        return Written::RowTwice;
+    }
+    if !has_room(list, steps, output.len() / 2) {
+        return Written::OutputShort;
+    }
+    let count = note(list, steps, output);
+    put_recordings(list, count, output);
+    Written::Count(count)
 }
 
 // Writes stop and recording of each standing record, in the order in which the stops first occur in the chain, and counts them: 26, 27, 28.
@@ -378,14 +435,9 @@ pub fn write_standing(list: &[u64], output: &mut [u64]) -> Written
     if !is_list(list) {
         return Written::BadList;
     }
-    let steps = chain_length(list);
-    if steps == list.len() / 4 {
-        return Written::RowTwice;
+    let few = write_few(list, output);
+    match few {
+        Few::Told(answer) => answer,
+        Few::Many => write_many(list, output),
     }
-    if !has_room(list, steps, output.len() / 2) {
-        return Written::OutputShort;
-    }
-    let count = note(list, steps, output);
-    put_recordings(list, count, output);
-    Written::Count(count)
 }

@@ -1,6 +1,8 @@
 -- `recordings::has_room` meets its contract. The loop's invariant: whether there is room for all stops is whether there is room for those left.
 -- Assumes nothing.
 use mathlib.Core.Path.{_≡_, sym, _∙_}
+use native.Mathlib.Omega.{arith}
+use borrow.Author.Tests.{lt-leb}
 use lib.Dec.{leb}
 use lib.ListN.{length}
 use Rattle.recordings.specs.Recordings.{allStanding}
@@ -18,19 +20,18 @@ abbrev μ-loop : tie.MeasureT-loop
 μ-loop list steps room last₀ left₀ last left = left
 
 returns : tie.Need-returns Inv-loop μ-loop
-returns c = room-for-all _ _ (c .before .before .pre .all-steps) (c .if1 .taken)
-
-fits-few-requires : tie.Need-fits-few-requires Inv-loop μ-loop
-fits-few-requires c κs = (c .before .before .before .pre, c .if2 .taken)
+returns c = room-for-all _ _ (c .before .before .pre .0 .all-steps) (c .if1 .taken)
 
 returns-2 : tie.Need-returns-2 Inv-loop μ-loop
-returns-2 c = search needs
+returns-2 c =
+    let entry = c .before .before .before in
+    sym (lt-leb (length (allStanding (entry .args .list .now))) (entry .args .room) (omega (arith, entry .pre .1, c .if2 .taken)))
 
 loop-holds : tie.Need-loop-holds Inv-loop μ-loop
 loop-holds c = room-start _ _
 
 next-stop-requires : tie.Need-next-stop-requires Inv-loop μ-loop
-next-stop-requires c κs = c .before .before .before .before .pre
+next-stop-requires c κs = c .before .before .before .before .pre .0
 
 enum-known-stop : tie.Need-enum-known-stop Inv-loop μ-loop
 enum-known-stop c = search needs
@@ -66,7 +67,6 @@ has-room-spec =
     Inv-loop
     μ-loop
     returns
-    fits-few-requires
     returns-2
     loop-holds
     next-stop-requires

@@ -3,8 +3,7 @@ use Prim.Native.Nat.{_≤_, _-_}
 use mathlib.Core.Path.{_≡_, ap, _∙_}
 use native.Mathlib.Omega.{arith}
 use lib.ListN.{length}
-use Rattle.recordings.proofs.Chain.{number-inside}
-use Rattle.recordings.proofs.Putting.{partly, puts-none, puts-length, puts-room, puts-inside, puts-next, puts-all}
+use Rattle.recordings.proofs.Putting.{partly, noted-fits, puts-none, puts-length, puts-room, puts-row, puts-number, puts-next, puts-all}
 use borrow.Author.Needs.{needs}
 use Rattle.recordings.proofs.put_recordings.Statement.{statement}
 use Rattle.recordings.proofs.put_recordings.Tie as tie
@@ -16,41 +15,27 @@ abbrev μ-loop : tie.MeasureT-loop
 μ-loop list count output₀ k₀ output k = count - k
 
 loop-holds : tie.Need-loop-holds Inv-loop μ-loop
-loop-holds c = (omega arith, puts-none _ (c .before .before .pre .1))
+loop-holds c =
+    let entry = c .before .before in
+    (omega arith, puts-none _ (noted-fits (entry .pre .1)))
 
 first-of-requires : tie.Need-first-of-requires Inv-loop μ-loop
 first-of-requires c κs =
     let at-loop-test = c .before in
     let at-loop = at-loop-test .before in
     let entry = at-loop .before .before .before in
-    rw (at-loop .loop .inv .1) (puts-room _ (entry .pre .1) (at-loop-test .loop-test .taken))
+    rw (at-loop .loop .inv .1) (puts-room _ (noted-fits (entry .pre .1)) (at-loop-test .loop-test .taken))
 
-number-of-requires : tie.Need-number-of-requires Inv-loop μ-loop
-number-of-requires c κs =
+put-row-requires : tie.Need-put-row-requires Inv-loop μ-loop
+put-row-requires c κs =
     let at-first-of = c .before in
     let at-loop-test = at-first-of .before .before in
     let at-loop = at-loop-test .before in
     let entry = at-loop .before .before .before in
-    let inside = puts-inside _ (entry .pre .1) (at-loop-test .loop-test .taken) (entry .pre .0) in
-    let all = number-inside (entry .args .list .now) (entry .pre .0) _ 3 inside (omega arith) in
-    rw (at-first-of .first-of .ensures, at-loop .loop .inv .1) (omega arith)
-
-number-of-requires-2 : tie.Need-number-of-requires-2 Inv-loop μ-loop
-number-of-requires-2 c κs =
-    let at-first-of = c .before .before in
-    let at-loop-test = at-first-of .before .before in
-    let at-loop = at-loop-test .before in
-    let entry = at-loop .before .before .before in
-    let inside = puts-inside _ (entry .pre .1) (at-loop-test .loop-test .taken) (entry .pre .0) in
-    let all = number-inside (entry .args .list .now) (entry .pre .0) _ 3 inside (omega arith) in
-    rw (at-first-of .first-of .ensures, at-loop .loop .inv .1) (omega arith)
-
-put-pair-requires : tie.Need-put-pair-requires Inv-loop μ-loop
-put-pair-requires c κs =
-    let at-loop-test = c .before .before .before .before .before in
-    let at-loop = at-loop-test .before in
-    let entry = at-loop .before .before .before in
-    rw (at-loop .loop .inv .1) (puts-room _ (entry .pre .1) (at-loop-test .loop-test .taken))
+    let all = noted-fits (entry .pre .1) in
+    let row = puts-row _ all (at-loop-test .loop-test .taken) (entry .pre .1) in
+    let more = at-loop-test .loop-test .taken in
+    rw (at-first-of .first-of .ensures, at-loop .loop .inv .1) (puts-number _ all more (entry .pre .0) row, puts-room _ all more)
 
 add-k : tie.Need-add-k Inv-loop μ-loop
 add-k c = search needs
@@ -60,29 +45,28 @@ loop-less c = search needs
 
 loop-again : tie.Need-loop-again Inv-loop μ-loop
 loop-again c =
-    let at-put-pair = c .before .before in
-    let at-number-of2 = at-put-pair .before in
-    let at-number-of = at-number-of2 .before in
-    let at-first-of = at-number-of .before .before in
+    let at-put-row = c .before .before in
+    let at-first-of = at-put-row .before .before in
     let at-loop-test = at-first-of .before .before in
     let at-loop = at-loop-test .before in
-    let entry = at-loop .before .before .before in (
+    let entry = at-loop .before .before .before in
+    let all = noted-fits (entry .pre .1) in
+    let row = puts-row _ all (at-loop-test .loop-test .taken) (entry .pre .1) in (
       omega arith,
-      rw (at-put-pair .put-pair .ensures, at-number-of .number-of .ensures, at-number-of2 .number-of2 .ensures, at-loop .loop .inv .1)
-          (puts-next _ (entry .pre .1) (at-loop-test .loop-test .taken) (rw (at-loop .loop .inv .1) at (at-first-of .first-of .ensures))),
+      rw (at-put-row .put-row .ensures, at-first-of .first-of .ensures, at-loop .loop .inv .1) (puts-next _ all (at-loop-test .loop-test .taken) row),
     )
 
 same-length : tie.Need-same-length Inv-loop μ-loop
 same-length c =
     let at-loop = c .before in
     let entry = at-loop .before .before .before in
-    ap length (at-loop .loop .inv .1) ∙ puts-length _ (entry .pre .1) _ (at-loop .loop .inv .0)
+    ap length (at-loop .loop .inv .1) ∙ puts-length _ (noted-fits (entry .pre .1)) _ (at-loop .loop .inv .0)
 
 returns : tie.Need-returns Inv-loop μ-loop
 returns c =
     let at-loop = c .before in
     let entry = at-loop .before .before .before in
-    at-loop .loop .inv .1 ∙ puts-all _ (entry .pre .1) (at-loop .loop .k) (omega arith)
+    at-loop .loop .inv .1 ∙ puts-all _ (noted-fits (entry .pre .1)) (at-loop .loop .k) (omega arith)
 
 pub put-recordings-spec : {M : Type 1} → statement M
 put-recordings-spec =
@@ -92,9 +76,7 @@ put-recordings-spec =
     μ-loop
     loop-holds
     first-of-requires
-    number-of-requires
-    number-of-requires-2
-    put-pair-requires
+    put-row-requires
     add-k
     loop-less
     loop-again
