@@ -241,9 +241,10 @@ uint64_t l6_hours(const uint64_t *windows, size_t windows_length, const uint64_t
  * Reads list, any numbers of any length. Writes stop and recording of each row that stands at the start of output, in the order in which
  * the stops first occur in the chain, and into count how many rows they are; numbers past them stay. An output of two numbers for each
  * row has room in any case. The list is no output: one buffer must not be given as both.
- * It costs a look at each row and at those of the stops met so far that have its stop's remainder by 8,191: at 100,000 stops with evenly
- * spread remainders some six. Only where a chain has more than 1,023 stops and the output has room for as many, but not for each row,
- * the stops are counted first, by a pass over the chain for each. A call takes some 37 kB of stack.
+ * It costs a look at each row and at those of the stops met so far that have its stop's remainder, by a number that grows with them: some
+ * four at most where remainders are spread evenly, so that the cost grows as the rows do. Only where a chain has more than 1,023 stops
+ * and the output has room for as many, but not for each row, the stops are counted first, by a pass over the chain for each. A call takes
+ * some 37 kB of stack.
  * Answers 0, L6_CORRECTIONS, L6_CORRECTIONS_LOOP, or L6_CORRECTIONS_SHORT; output and count are unchanged then. The order of these is the
  * order of the tests, each over the whole list. */
 uint64_t l6_recordings(const uint64_t *list, size_t list_length, uint64_t *output, size_t output_length, uint64_t *count);

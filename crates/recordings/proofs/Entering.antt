@@ -1,20 +1,22 @@
 -- A row entered into the pairs of an output: the rows that it holds then, and the chains of their places. Assumes nothing.
-use Prim.Native.Nat.{ℕ, zero, suc, _+_, _*_, _%_, _<_, _≤_}
+use Prim.Native.Nat.{ℕ, zero, suc, _+_, _*_, _/_, _%_, _<_, _≤_}
 use native.Mathlib.Omega.{arith}
 use mathlib.Core.Bool.{true, false}
 use mathlib.Core.List.{List, [], _∷_, _++_}
-use mathlib.Core.Path.{_≡_, refl, sym, ap, _∙_}
+use mathlib.Core.Path.{_≡_, refl, sym, ap, subst, _∙_}
 use lib.Dec.{leb}
 use lib.ListN.{length, drop, getD, set, length-append, length-set}
-use lib.Seq.{lt-length-set, getD-set-same, getD-set-other, drop-set-lt}
+use lib.Seq.{getD-set-same, getD-set-other, drop-set-lt}
 use Rattle.word.proofs.Tests.{by-eqb, either-way}
-use Rattle.recordings.specs.Recordings.{numberOf, stopOf, dayOf, member, hasTwice}
-use Rattle.recordings.specs.Walking.{standingOf, entered, rowAt, linkAt, stopAt, stops, heldRows, Holds, Entering, Enters, Linked, Place}
+use Rattle.recordings.specs.Recordings.{rowCount, numberOf, stopOf, dayOf, member, hasTwice}
+use Rattle.recordings.specs.Walking.{standingOf, entered, rowAt, secondAt, chainCount, headAt, stopAt, stops, heldRows}
+use Rattle.recordings.specs.Walking.{Holds, Entering, Enters, Chains, Linked, Kept, Pushed, Place}
 use Rattle.recordings.proofs.Counting.{or-false, member-first, member-more, no-both}
 use Rattle.recordings.proofs.Chain.{number-inside}
 use Rattle.recordings.proofs.Standing.{entered-last, entered-at}
 use Rattle.recordings.proofs.Held.{length-held, held-at, held-set, held-more}
-use Rattle.recordings.proofs.Links.{linked-same, linked-more}
+use Rattle.recordings.proofs.Links.{chains-same}
+use Rattle.recordings.proofs.Pushing.{heads-same}
 
 -- the numbers of a pair that holds a row, and of the row
 module _ {xs : List ℕ} {count : ℕ} {output : List ℕ} (h : Holds xs count output) {k : ℕ} (few : k < count) where
@@ -68,60 +70,84 @@ module _ {xs : List ℕ} {row count : ℕ} {before : List ℕ} (e : Entering xs 
       new-room = omega (arith, e .room, ap length entered-new, length-append rows (row ∷ []), long)
 
       -- its pair after the others
-      module _ (link : ℕ) where
-        with-row : List ℕ
-        with-row = set before (2 * count) row
+      with-row : List ℕ
+      with-row = set before (2 * count) row
 
-        after : List ℕ
-        after = set with-row (2 * count + 1) link
+      put : List ℕ
+      put = set with-row (2 * count + 1) 0
 
-        row-before : (j : ℕ) → j < count → rowAt after j ≡ rowAt before j
-        unfolding after with-row
-        row-before j h =
-            getD-set-other with-row (2 * count + 1) (2 * j) link 0 (omega arith) ∙ getD-set-other before (2 * count) (2 * j) row 0 (omega arith)
+      row-before : (j : ℕ) → j < count → rowAt put j ≡ rowAt before j
+      unfolding put with-row
+      row-before j h =
+          getD-set-other with-row (2 * count + 1) (2 * j) 0 0 (omega arith) ∙ getD-set-other before (2 * count) (2 * j) row 0 (omega arith)
 
-        link-before : (j : ℕ) → j < count → linkAt after j ≡ linkAt before j
-        unfolding after with-row
-        link-before j h =
-            getD-set-other with-row (2 * count + 1) (2 * j + 1) link 0 (omega arith)
-            ∙ getD-set-other before (2 * count) (2 * j + 1) row 0 (omega arith)
+      second-before : (j : ℕ) → j < count → secondAt put j ≡ secondAt before j
+      unfolding put with-row
+      second-before j h =
+          getD-set-other with-row (2 * count + 1) (2 * j + 1) 0 0 (omega arith)
+          ∙ getD-set-other before (2 * count) (2 * j + 1) row 0 (omega arith)
 
-        row-here : rowAt after count ≡ row
-        unfolding after with-row
-        row-here =
-            getD-set-other with-row (2 * count + 1) (2 * count) link 0 (omega arith)
-            ∙ getD-set-same before (2 * count) row 0 (omega (arith, new-room))
+      row-here : rowAt put count ≡ row
+      unfolding put with-row
+      row-here =
+          getD-set-other with-row (2 * count + 1) (2 * count) 0 0 (omega arith)
+          ∙ getD-set-same before (2 * count) row 0 (omega (arith, new-room))
 
-        link-here : linkAt after count ≡ link
-        unfolding after with-row
-        link-here = getD-set-same with-row (2 * count + 1) link 0 (lt-length-set before (2 * count) row (omega (arith, new-room)))
+      same-long : length put ≡ length before
+      unfolding put with-row
+      same-long = length-set with-row (2 * count + 1) 0 ∙ length-set before (2 * count) row
 
-        same-long : length after ≡ length before
-        unfolding after with-row
-        same-long = length-set with-row (2 * count + 1) link ∙ length-set before (2 * count) row
+      same-past : drop (2 * (count + 1)) put ≡ drop (2 * (count + 1)) before
+      unfolding put with-row
+      same-past =
+          drop-set-lt (2 * (count + 1)) with-row (2 * count + 1) 0 (omega arith)
+          ∙ drop-set-lt (2 * (count + 1)) before (2 * count) row (omega arith)
 
-        same-past : drop (2 * (count + 1)) after ≡ drop (2 * (count + 1)) before
-        unfolding after with-row
-        same-past =
-            drop-set-lt (2 * (count + 1)) with-row (2 * count + 1) link (omega arith)
-            ∙ drop-set-lt (2 * (count + 1)) before (2 * count) row (omega arith)
+      put-holds : Holds xs (count + 1) put
+      put-holds =
+          record {
+            is-list = e .holds .is-list;
+            room = omega (arith, same-long, new-room);
+            inside = λ j h. by-eqb (λ _. rowAt put j < rowCount xs) j count (λ same. rw (same, row-here) (e .inside))
+                (λ other. rw (row-before j (omega arith)) (e .holds .inside j (omega arith)));
+          }
 
-        pub enters-new : {heads now : List ℕ} → Linked xs heads before count → link ≡ getD heads (stop % length heads) 0
-            → now ≡ set heads (stop % length heads) (count % 4294967295 + 1)
-            → Enters xs row count (count + 1) before (set (set before (2 * count) row) (2 * count + 1) link) heads now
-        unfolding after with-row
-        enters-new {heads} l tail head =
+      module _ {heads : List ℕ} {size : ℕ} (l : Linked xs heads size before count) where
+        -- what pushing its place asks
+        pub new-pushes : Holds xs (count + 1) (set (set before (2 * count) row) (2 * count + 1) 0)
+            × (0 < length heads) × (2 * size ≤ length (set (set before (2 * count) row) (2 * count + 1) 0))
+        unfolding put with-row
+        new-pushes = (put-holds, l .some, omega (arith, same-long, new-room, l .within))
+
+        pub enters-new : {after now : List ℕ} → Pushed xs size count (set (set before (2 * count) row) (2 * count + 1) 0) after heads now
+            → Enters xs row size count (count + 1) before after heads now
+        unfolding put with-row
+        enters-new {after} {now} p =
             record {
               noted = record {
-                held = held-more count before row after row-before row-here ∙ sym entered-new;
-                room = omega (arith, same-long, new-room);
-                past = same-past;
-                same-long = same-long;
+                held = held-more count before row after (λ j h. kept .rows j ∙ row-before j h) (kept .rows count ∙ row-here) ∙ sym entered-new;
+                room = omega (arith, kept .same-long, same-long, new-room);
+                past = kept .past ∙ same-past;
+                same-long = kept .same-long ∙ same-long;
               };
-              linked = linked-more (linked-same l (λ j h. ap (stopOf xs) (row-before j h)) link-before)
-                  (ap (stopOf xs) row-here ∙ sym same-stop) (link-here ∙ tail) head;
-              same-long = ap length head ∙ length-set heads _ _;
+              linked = record {
+                some = omega (arith, p .same-long, l .some);
+                within = omega (arith, l .within);
+                chains = λ few. let one : suc count ≡ count + 1 = omega arith in
+                    rw (p .same-long) (subst (λ (n : ℕ). Chains xs (chainCount heads size) (headAt now size after) after n) one
+                    (p .chains (omega arith) (before-pushed (l .chains (omega arith)))));
+              };
+              same-long = p .same-long;
             }
+          where
+            kept : Kept (count + 1) put after
+            kept = p .kept (count + 1) (omega arith) (omega (arith, l .within))
+
+            before-pushed : Chains xs (chainCount heads size) (headAt heads size before) before count
+                → Chains xs (chainCount heads size) (headAt heads size put) put count
+            before-pushed c =
+                chains-same c (λ j h. ap (stopOf xs) (row-before j h)) (λ j h. ap (λ (x : ℕ). x % 4294967296) (second-before j h))
+                (heads-same heads size before put (λ r h. ap (λ (x : ℕ). x / 4294967296) (second-before r (omega (arith, l .within)))))
 
     -- a stop that stands there
     module _ (old : k ≡ count → ⊥) where
@@ -153,10 +179,13 @@ module _ {xs : List ℕ} {row count : ℕ} {before : List ℕ} (e : Entering xs 
           (λ same. rw same (ap (stopOf xs) (getD-set-same before (2 * k) row-standing 0 (omega (arith, e .holds .room, old-inside))) ∙ stop-standing))
           (λ other. ap (stopOf xs) (getD-set-other before (2 * k) (2 * j) row-standing 0 (omega arith)))
 
-      pub enters-old : {heads : List ℕ} → Linked xs heads before count
-          → Enters xs row count count before (set before (2 * k) (standingOf xs (rowAt before k) row)) heads heads
+      second-after : (j : ℕ) → secondAt (set before (2 * k) row-standing) j ≡ secondAt before j
+      second-after j = getD-set-other before (2 * k) (2 * j + 1) row-standing 0 (omega arith)
+
+      pub enters-old : {heads : List ℕ} {size : ℕ} → Linked xs heads size before count
+          → Enters xs row size count count before (set before (2 * k) (standingOf xs (rowAt before k) row)) heads heads
       unfolding row-standing
-      enters-old l =
+      enters-old {heads} {size} l =
           record {
             noted = record {
               held = held-set count before k row-standing old-inside (e .holds .room) ∙ sym entered-old;
@@ -164,6 +193,11 @@ module _ {xs : List ℕ} {row count : ℕ} {before : List ℕ} (e : Entering xs 
               past = drop-set-lt (2 * count) before (2 * k) row-standing (omega (arith, old-inside));
               same-long = length-set before (2 * k) row-standing;
             };
-            linked = linked-same l stop-after (λ j h. getD-set-other before (2 * k) (2 * j + 1) row-standing 0 (omega arith));
+            linked = record {
+              some = l .some;
+              within = l .within;
+              chains = λ few. chains-same (l .chains few) stop-after (λ j _. ap (λ (x : ℕ). x % 4294967296) (second-after j))
+                  (heads-same heads size before (set before (2 * k) row-standing) (λ r _. ap (λ (x : ℕ). x / 4294967296) (second-after r)));
+            };
             same-long = refl;
           }

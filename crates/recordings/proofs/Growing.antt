@@ -7,13 +7,14 @@ use mathlib.Core.Path.{_≡_, refl, sym, ap, _∙_}
 use lib.ListN.{length, take, drop, getD, take-append-drop}
 use lib.Seq.{drop-drop, take-length}
 use Rattle.recordings.specs.Recordings.{rowCount, nextOf, firstRow, isList, chain, hasTwice, standingRows, allStanding}
-use Rattle.recordings.specs.Walking.{entered, heldRows, rowAt, stops, Holds, Entering, Enters, Noted, Linked, Fresh}
+use Rattle.recordings.specs.Walking.{entered, heldRows, rowAt, stops, Holds, Entering, Enters, Noted, Linked, Fresh, Regrown}
 use Rattle.recordings.proofs.Counting.{Each, each-at, each-take}
 use Rattle.recordings.proofs.Chain.{At, at-start, at-next, at-passed, chain-inside}
 use Rattle.recordings.proofs.Standing.{grown-by-one, no-fewer, entered-most, standing-each}
 use Rattle.recordings.proofs.Stops.{stops-differ}
 use Rattle.recordings.proofs.Held.{length-held, held-at}
 use Rattle.recordings.proofs.Links.{linked-none}
+use Rattle.recordings.proofs.Pushing.{kept-noted}
 
 -- lists that are the same from a place on are so from a later one on
 drop-later : (before after : List ℕ) (m n : ℕ) → m ≤ n → drop m after ≡ drop m before → drop n after ≡ drop n before
@@ -55,10 +56,10 @@ unfolding allStanding
 standing-inside xs list = standing-each xs (λ r. r < rowCount xs) [] (chain xs) (λ x there. chain-inside xs list x there .0)
 
 -- a walk at a row of the chain, with the standing rows of those that it has passed
-pub record Passing (xs before heads output now : List ℕ) (count row i : ℕ) : Type 0 where
+pub record Passing (xs before heads output now : List ℕ) (size count row i : ℕ) : Type 0 where
   pub at : At xs i row
   pub noted : Noted (soFar xs i) count before output
-  pub linked : Linked xs now output count
+  pub linked : Linked xs now size output count
   pub same-long : length now ≡ length heads
 
 module _ (xs : List ℕ) where
@@ -69,7 +70,7 @@ module _ (xs : List ℕ) where
       let whole = ap (λ (l : List ℕ). length (standingRows xs [] l)) (take-append-drop i (chain xs)) in omega arith
 
   module _ (list : isList xs ≡ true) where
-    pub passing-none : {before heads : List ℕ} → Fresh heads → Passing xs before heads before heads 0 (firstRow xs) 0
+    pub passing-none : {before heads : List ℕ} → Fresh heads → Passing xs before heads before heads 0 0 (firstRow xs) 0
     unfolding standingRows heldRows
     passing-none {before} f =
         record {
@@ -79,10 +80,21 @@ module _ (xs : List ℕ) where
           same-long = refl;
         }
 
-    module _ {before heads output now : List ℕ} {count row i : ℕ} (p : Passing xs before heads output now count row i) where
+    module _ {before heads output now : List ℕ} {size count row i : ℕ} (p : Passing xs before heads output now size count row i) where
       pub passing-all : i ≡ length (chain xs) → Noted (allStanding xs) count before output
       unfolding allStanding
       passing-all e = rw (e, take-length) at (p .noted)
+
+      -- the output holds rows of the list
+      pub passing-holds : Holds xs count output
+      passing-holds =
+          noted-holds (p .noted) list
+          (standing-each xs (λ r. r < rowCount xs) [] (take i (chain xs)) (each-take (chain xs) i (λ x there. chain-inside xs list x there .0)))
+
+      -- with its chains made anew
+      pub passing-regrown : {n : ℕ} {after then : List ℕ} → Regrown xs n count output after now then → Passing xs before heads after then n count row i
+      passing-regrown g =
+          record { at = p .at; noted = kept-noted (g .kept) (p .noted); linked = g .linked; same-long = g .same-long ∙ p .same-long }
 
       module _ (more : i < length (chain xs)) where
         grown : soFar xs (i + 1) ≡ entered xs row (heldRows count output)
@@ -100,12 +112,11 @@ module _ (xs : List ℕ) where
         pub grown-few : length (soFar xs (i + 1)) ≤ count + 1
         grown-few = omega (arith, ap length grown, entered-most xs row (heldRows count output), length-held count output)
 
-        pub entering : 2 * length (soFar xs (i + 1)) ≤ length before → Entering xs row count output × Linked xs now output count
+        pub entering : 2 * length (soFar xs (i + 1)) ≤ length before → Entering xs row count output × Linked xs now size output count
         entering room = (
           record {
             inside = p .at .inside;
-            holds = noted-holds (p .noted) list
-                (standing-each xs (λ r. r < rowCount xs) [] (take i (chain xs)) (each-take (chain xs) i (λ x there. chain-inside xs list x there .0)));
+            holds = passing-holds;
             differ = ap (λ (l : List ℕ). hasTwice (stops xs l)) (p .noted .held) ∙ stops-differ xs [] (take i (chain xs));
             room = omega (arith, ap length grown, p .noted .same-long);
           },
@@ -113,8 +124,8 @@ module _ (xs : List ℕ) where
         )
 
         -- one row more
-        pub passing-next : {n : ℕ} {after then : List ℕ} → Enters xs row count n output after now then
-            → Passing xs before heads after then n (nextOf xs row) (i + 1)
+        pub passing-next : {n : ℕ} {after then : List ℕ} → Enters xs row size count n output after now then
+            → Passing xs before heads after then size n (nextOf xs row) (i + 1)
         passing-next {n} e =
             record {
               at = at-next xs list (p .at) more;

@@ -28,6 +28,12 @@ held-are rows count output long each =
     ext-getD 0 (heldRows count output) rows (length-held count output ∙ sym long)
     (λ k h. let few : k < count = omega (arith, length-held count output) in held-at count k output few ∙ each k few)
 
+-- the same where the rows are
+pub held-same : (count : ℕ) (before after : List ℕ) → ((k : ℕ) → k < count → rowAt after k ≡ rowAt before k)
+    → heldRows count after ≡ heldRows count before
+held-same count before after same =
+    held-are (heldRows count before) count after (length-held count before) (λ k h. same k h ∙ sym (held-at count k before h))
+
 module _ (count : ℕ) (output : List ℕ) where
   abbrev rows : List ℕ
   rows = heldRows count output

@@ -7,6 +7,7 @@ pub mod Stops
 pub mod Loops
 pub mod Held
 pub mod Links
+pub mod Pushing
 pub mod Entering
 pub mod Growing
 pub mod Putting

@@ -1,6 +1,6 @@
 -- What the contracts of inner functions name besides: the chain walked, rows entered one after the other, the chains of places by which a
 -- stop is found again, the least stop from a bound on. Assumes nothing.
-use Prim.Native.Nat.{ℕ, zero, suc, _+_, _*_, _%_, _<_, _≤_}
+use Prim.Native.Nat.{ℕ, zero, suc, _+_, _*_, _/_, _%_, _<_, _≤_}
 use mathlib.Core.Bool.{true, false, _&&_, cond}
 use mathlib.Core.List.{List, [], _∷_, map}
 use mathlib.Core.Path.{_≡_}
@@ -29,12 +29,25 @@ entered xs later [] = later ∷ []
 entered xs later (row ∷ rows) =
     cond (eqb (stopOf xs later) (stopOf xs row)) (standingOf xs row later ∷ rows) (row ∷ entered xs later rows)
 
--- the two numbers at a place of an output while rows are noted: a row of the list and a link
+-- the first number at a place of an output while rows are noted: a row of the list
 abbrev pub rowAt : List ℕ → ℕ → ℕ
 rowAt output k = getD output (2 * k) 0
 
+-- the second number there: in its lower 32 bits a link
+abbrev pub secondAt : List ℕ → ℕ → ℕ
+secondAt output k = getD output (2 * k + 1) 0
+
+-- the link
 abbrev pub linkAt : List ℕ → ℕ → ℕ
-linkAt output k = getD output (2 * k + 1) 0
+linkAt output k = secondAt output k % 4294967296
+
+-- how many chains of places there are: as many as there are heads apart, or as the first pairs that have a head each, if any do
+abbrev pub chainCount : List ℕ → ℕ → ℕ
+chainCount heads size = cond (eqb size 0) (length heads) size
+
+-- the head of a chain, apart or in the upper 32 bits of the second number of a pair
+abbrev pub headAt : List ℕ → ℕ → List ℕ → ℕ → ℕ
+headAt heads size output r = cond (eqb size 0) (getD heads r 0) (secondAt output r / 4294967296)
 
 -- the stop of the row there
 abbrev pub stopAt : List ℕ → List ℕ → ℕ → ℕ
@@ -64,15 +77,48 @@ newest xs output size remainder zero = 0
 newest xs output size remainder (suc k) =
     cond (eqb (stopAt xs output k % size) remainder) (suc k) (newest xs output size remainder k)
 
--- a chain of places for each remainder: from its head, and from each place to the one before it
-pub record Chains (xs heads output : List ℕ) (count : ℕ) : Type 0 where
-  pub first : (r : ℕ) → r < length heads → getD heads r 0 ≡ newest xs output (length heads) r count
-  pub next : (k : ℕ) → k < count → linkAt output k ≡ newest xs output (length heads) (stopAt xs output k % length heads) k
+-- a chain of places for each of n remainders: from its head, and from each place to the one before it
+pub record Chains (xs : List ℕ) (n : ℕ) (head : ℕ → ℕ) (output : List ℕ) (count : ℕ) : Type 0 where
+  pub first : (r : ℕ) → r < n → head r ≡ newest xs output n r count
+  pub next : (k : ℕ) → k < count → linkAt output k ≡ newest xs output n (stopAt xs output k % n) k
 
--- the same as far as a head of 32 bits names a place
-pub record Linked (xs heads output : List ℕ) (count : ℕ) : Type 0 where
+-- the same as far as 32 bits name a place
+pub record Linked (xs heads : List ℕ) (size : ℕ) (output : List ℕ) (count : ℕ) : Type 0 where
   pub some : 0 < length heads
-  pub chains : count < 4294967296 → Chains xs heads output count
+  pub within : size ≤ count
+  pub chains : count < 4294967296 → Chains xs (chainCount heads size) (headAt heads size output) output count
+
+-- the same rows, and the same past the first n pairs
+pub record Kept (n : ℕ) (before after : List ℕ) : Type 0 where
+  pub rows : (k : ℕ) → rowAt after k ≡ rowAt before k
+  pub past : drop (2 * n) after ≡ drop (2 * n) before
+  pub same-long : length after ≡ length before
+
+-- another head of a chain
+pub record HeadPut (size r head : ℕ) (before after heads now : List ℕ) : Type 0 where
+  pub kept : (n : ℕ) → size ≤ n → Kept n before after
+  pub links : (k : ℕ) → linkAt after k ≡ linkAt before k
+  pub here : headAt now size after r ≡ head
+  pub others : (other : ℕ) → (other ≡ r → ⊥) → headAt now size after other ≡ headAt heads size before other
+  pub same-long : length now ≡ length heads
+
+-- a place put at the head of its chain
+pub record Pushed (xs : List ℕ) (size k : ℕ) (before after heads now : List ℕ) : Type 0 where
+  pub kept : (n : ℕ) → k < n → size ≤ n → Kept n before after
+  pub same-long : length now ≡ length heads
+  pub chains : k < 4294967295 → Chains xs (chainCount heads size) (headAt heads size before) before k
+      → Chains xs (chainCount heads size) (headAt now size after) after (suc k)
+
+-- pairs whose second numbers are zero
+pub record Cleared (count : ℕ) (before after : List ℕ) : Type 0 where
+  pub kept : Kept count before after
+  pub zeros : (k : ℕ) → k < count → secondAt after k ≡ 0
+
+-- the chains of the same rows made anew
+pub record Regrown (xs : List ℕ) (size count : ℕ) (before after heads now : List ℕ) : Type 0 where
+  pub kept : Kept count before after
+  pub linked : Linked xs now size after count
+  pub same-long : length now ≡ length heads
 
 -- heads of no chains
 pub record Fresh (heads : List ℕ) : Type 0 where
@@ -97,9 +143,9 @@ pub record Entering (xs : List ℕ) (row count : ℕ) (output : List ℕ) : Type
   pub room : 2 * length (entered xs row (heldRows count output)) ≤ length output
 
 -- what it leaves: the rows noted, n of them, and their chains
-pub record Enters (xs : List ℕ) (row count n : ℕ) (before after heads now : List ℕ) : Type 0 where
+pub record Enters (xs : List ℕ) (row size count n : ℕ) (before after heads now : List ℕ) : Type 0 where
   pub noted : Noted (entered xs row (heldRows count before)) n before after
-  pub linked : Linked xs now after n
+  pub linked : Linked xs now size after n
   pub same-long : length now ≡ length heads
 
 -- stop and recording of a row written as pair k

@@ -1,7 +1,7 @@
 -- `recordings::enter` meets its contract: a new stop, and one that was met before. Assumes nothing.
 use native.Mathlib.Omega.{arith}
 use Rattle.recordings.proofs.Chain.{number-inside}
-use Rattle.recordings.proofs.Entering.{pair-room, row-number, new-room, enters-new, old-inside, enters-old}
+use Rattle.recordings.proofs.Entering.{pair-room, row-number, new-room, new-pushes, enters-new, old-inside, enters-old}
 use borrow.Author.Needs.{needs}
 use Rattle.recordings.proofs.enter.Statement.{statement}
 use Rattle.recordings.proofs.enter.Tie as tie
@@ -16,42 +16,58 @@ find-requires c κs =
     let entry = c .before .before .before .before .before .before in
     (entry .pre .0 .holds, entry .pre .1)
 
-push-requires : tie.Need-push-requires
-push-requires c κs = c .before .before .before .before .before .before .before .before .before .pre .1 .some
-
 put-pair-requires : tie.Need-put-pair-requires
 put-pair-requires c κs =
-    let at-if1 = c .before .before .before .before .before in
+    let at-if1 = c .before in
     let at-find = at-if1 .before in
     let at-number-of = at-find .before .before .before in
     let entry = at-number-of .before .before .before .before in
     new-room (entry .pre .0) (at-number-of .number-of .ensures) (at-find .find .ensures) (at-if1 .if1 .taken)
 
+push-requires : tie.Need-push-requires
+push-requires c κs =
+    let at-put-pair = c .before .before .before .before in
+    let at-if1 = at-put-pair .before .before in
+    let at-find = at-if1 .before in
+    let at-number-of = at-find .before .before .before in
+    let entry = at-number-of .before .before .before .before in
+    rw (at-put-pair .put-pair .ensures)
+    (new-pushes (entry .pre .0) (at-number-of .number-of .ensures) (at-find .find .ensures) (at-if1 .if1 .taken) (entry .pre .1))
+
 add-result : tie.Need-add-result
 add-result c =
-    let at-if1 = c .before .before .before .before .before .before .before .before in
+    let at-if1 = c .before .before .before .before .before .before .before .before .before .before .before in
     let at-find = at-if1 .before in
     let at-number-of = at-find .before .before .before in
     let entry = at-number-of .before .before .before .before in
     let room = new-room (entry .pre .0) (at-number-of .number-of .ensures) (at-find .find .ensures) (at-if1 .if1 .taken) in omega arith
 
 same-length : tie.Need-same-length
-same-length c = search needs
-
-same-length-2 : tie.Need-same-length-2
-same-length-2 c = search needs
-
-returns : tie.Need-returns
-returns c =
-    let at-put-pair = c .before .before in
-    let at-push = at-put-pair .before .before .before .before in
-    let at-if1 = at-push .before .before in
+same-length c =
+    let at-push = c .before .before .before .before in
+    let at-put-pair = at-push .before .before .before .before .before in
+    let at-if1 = at-put-pair .before .before in
     let at-find = at-if1 .before in
     let at-number-of = at-find .before .before .before in
     let entry = at-number-of .before .before .before .before in
-    rw (at-put-pair .put-pair .ensures)
-    (enters-new (entry .pre .0) (at-number-of .number-of .ensures) (at-find .find .ensures) (at-if1 .if1 .taken)
-    _ (entry .pre .1) (at-push .push .ensures .0) (at-push .push .ensures .1))
+    let pushed = rw (at-put-pair .put-pair .ensures) at (at-push .push .ensures) in
+    enters-new (entry .pre .0) (at-number-of .number-of .ensures) (at-find .find .ensures) (at-if1 .if1 .taken) (entry .pre .1) pushed .noted .same-long
+
+same-length-2 : tie.Need-same-length-2
+same-length-2 c =
+    let at-push = c .before .before .before .before in
+    at-push .push .ensures .same-long
+
+returns : tie.Need-returns
+returns c =
+    let at-push = c .before .before .before .before in
+    let at-put-pair = at-push .before .before .before .before .before in
+    let at-if1 = at-put-pair .before .before in
+    let at-find = at-if1 .before in
+    let at-number-of = at-find .before .before .before in
+    let entry = at-number-of .before .before .before .before in
+    let pushed = rw (at-put-pair .put-pair .ensures) at (at-push .push .ensures) in
+    enters-new (entry .pre .0) (at-number-of .number-of .ensures) (at-find .find .ensures) (at-if1 .if1 .taken) (entry .pre .1) pushed
 
 first-of-requires : tie.Need-first-of-requires
 first-of-requires c κs =
@@ -105,8 +121,8 @@ enter-spec =
     (tie.spec
     number-of-requires
     find-requires
-    push-requires
     put-pair-requires
+    push-requires
     add-result
     same-length
     same-length-2

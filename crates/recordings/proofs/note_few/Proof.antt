@@ -13,7 +13,7 @@ use Rattle.recordings.proofs.note_few.Tie as tie
 
 abbrev Inv-loop : tie.InvT-loop
 Inv-loop list pairs₀ heads₀ rows count₀ row₀ i₀ pairs heads count row i =
-    Passing list pairs₀ heads₀ pairs heads count row i × (i ≤ length (chain list)) × (count ≤ 1023)
+    Passing list pairs₀ heads₀ pairs heads 0 count row i × (i ≤ length (chain list)) × (count ≤ 1023)
 
 abbrev μ-loop : tie.MeasureT-loop
 μ-loop list pairs₀ heads₀ rows count₀ row₀ i₀ pairs heads count row i = rowCount list - i
