@@ -1,9 +1,9 @@
--- `recordings::stop_at` meets its contract. Assumes nothing.
+-- `recordings::places::stop_at` meets its contract. Assumes nothing.
 use Prim.Native.Nat.{ℕ}
 use mathlib.Core.Path.{ap, _∙_}
 use Rattle.recordings.specs.Recordings.{numberOf, stopOf}
-use Rattle.recordings.proofs.stop_at.Statement.{statement}
-use Rattle.recordings.proofs.stop_at.Tie as tie
+use Rattle.recordings.proofs.places.stop_at.Statement.{statement}
+use Rattle.recordings.proofs.places.stop_at.Tie as tie
 
 first-of-requires : tie.Need-first-of-requires
 first-of-requires c κs = c .before .before .pre .0

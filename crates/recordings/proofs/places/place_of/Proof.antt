@@ -1,4 +1,4 @@
--- `recordings::place_of` meets its contract. The loop's invariant: none of the pairs passed has the stop. Assumes nothing.
+-- `recordings::places::place_of` meets its contract. The loop's invariant: none of the pairs passed has the stop. Assumes nothing.
 use Prim.Native.Nat.{ℕ, _≤_, _-_, _<_}
 use mathlib.Core.Path.{_≡_, sym, _∙_}
 use native.Mathlib.Omega.{arith}
@@ -6,8 +6,8 @@ use borrow.Author.Count.{below-more}
 use Rattle.recordings.specs.Walking.{stopAt}
 use Rattle.recordings.proofs.Entering.{pair-room, row-number}
 use borrow.Author.Needs.{needs}
-use Rattle.recordings.proofs.place_of.Statement.{statement}
-use Rattle.recordings.proofs.place_of.Tie as tie
+use Rattle.recordings.proofs.places.place_of.Statement.{statement}
+use Rattle.recordings.proofs.places.place_of.Tie as tie
 
 abbrev Inv-loop : tie.InvT-loop
 Inv-loop list output count stop k₀ k = (k ≤ count) × ((j : ℕ) → j < k → stopAt list output j ≡ stop → ⊥)

@@ -1,9 +1,9 @@
--- `recordings::put_head` meets its contract: heads in numbers apart, and in the pairs. Assumes nothing.
+-- `recordings::places::put_head` meets its contract: heads in numbers apart, and in the pairs. Assumes nothing.
 use native.Mathlib.Omega.{arith}
 use Rattle.recordings.proofs.Pushing.{apart, within, head-apart, head-within}
 use borrow.Author.Needs.{needs}
-use Rattle.recordings.proofs.put_head.Statement.{statement}
-use Rattle.recordings.proofs.put_head.Tie as tie
+use Rattle.recordings.proofs.places.put_head.Statement.{statement}
+use Rattle.recordings.proofs.places.put_head.Tie as tie
 
 cast-heads : tie.Need-cast-heads
 cast-heads c =

@@ -1,4 +1,4 @@
--- `recordings::clear` meets its contract. The loop's invariant: the second numbers of the pairs passed are zero. Assumes nothing.
+-- `recordings::places::clear` meets its contract. The loop's invariant: the second numbers of the pairs passed are zero. Assumes nothing.
 use Prim.Native.Nat.{ℕ, _+_, _*_, _≤_, _<_, _-_}
 use mathlib.Core.Path.{_≡_}
 use native.Mathlib.Omega.{arith}
@@ -6,8 +6,8 @@ use lib.ListN.{length}
 use Rattle.recordings.specs.Walking.{secondAt, Kept}
 use Rattle.recordings.proofs.Pushing.{kept-none, kept-twice, second-kept, zeros-more}
 use borrow.Author.Needs.{needs}
-use Rattle.recordings.proofs.clear.Statement.{statement}
-use Rattle.recordings.proofs.clear.Tie as tie
+use Rattle.recordings.proofs.places.clear.Statement.{statement}
+use Rattle.recordings.proofs.places.clear.Tie as tie
 
 abbrev Inv-loop : tie.InvT-loop
 Inv-loop count output₀ k₀ output k = (k ≤ count) × Kept count output₀ output × ((j : ℕ) → j < k → secondAt output j ≡ 0)

@@ -1,8 +1,8 @@
--- `recordings::standing_of` meets its contract: an issue day that is smaller, and one that is not. Assumes nothing.
+-- `recordings::places::standing_of` meets its contract: an issue day that is smaller, and one that is not. Assumes nothing.
 use borrow.Author.Tests.{le-leb, lt-leb}
 use Rattle.recordings.specs.Recordings.{dayOf}
-use Rattle.recordings.proofs.standing_of.Statement.{statement}
-use Rattle.recordings.proofs.standing_of.Tie as tie
+use Rattle.recordings.proofs.places.standing_of.Statement.{statement}
+use Rattle.recordings.proofs.places.standing_of.Tie as tie
 
 number-of-requires : tie.Need-number-of-requires
 number-of-requires c κs = c .before .pre .1

@@ -1,10 +1,10 @@
--- `recordings::grow` meets its contract. Assumes nothing.
+-- `recordings::places::grow` meets its contract. Assumes nothing.
 use mathlib.Core.Path.{refl}
 use native.Mathlib.Omega.{arith}
 use Rattle.recordings.proofs.Pushing.{kept-none}
 use borrow.Author.Needs.{needs}
-use Rattle.recordings.proofs.grow.Statement.{statement}
-use Rattle.recordings.proofs.grow.Tie as tie
+use Rattle.recordings.proofs.places.grow.Statement.{statement}
+use Rattle.recordings.proofs.places.grow.Tie as tie
 
 returns : tie.Need-returns
 returns c =

@@ -1,12 +1,12 @@
--- `recordings::head_of` meets its contract. Assumes nothing.
+-- `recordings::places::head_of` meets its contract. Assumes nothing.
 use Prim.Native.Nat.{ℕ, _/_}
 use mathlib.Core.Path.{refl, ap}
 use native.Mathlib.Omega.{arith}
 use borrow.Author.Tests.{eq-eqb, ne-eqb}
 use Rattle.recordings.proofs.Pushing.{apart, within}
 use borrow.Author.Needs.{needs}
-use Rattle.recordings.proofs.head_of.Statement.{statement}
-use Rattle.recordings.proofs.head_of.Tie as tie
+use Rattle.recordings.proofs.places.head_of.Statement.{statement}
+use Rattle.recordings.proofs.places.head_of.Tie as tie
 
 mul-result : tie.Need-mul-result
 mul-result c =

@@ -1,4 +1,4 @@
--- `recordings::push` meets its contract. Assumes nothing.
+-- `recordings::places::push` meets its contract. Assumes nothing.
 use Prim.Native.Nat.{ℕ, _+_, _%_, _<_}
 use mathlib.Core.Path.{ap, _∙_}
 use native.Mathlib.Omega.{arith}
@@ -7,8 +7,8 @@ use Rattle.recordings.specs.Walking.{chainCount}
 use Rattle.recordings.proofs.Entering.{pair-room, row-number}
 use Rattle.recordings.proofs.Pushing.{pushed}
 use borrow.Author.Needs.{needs}
-use Rattle.recordings.proofs.push.Statement.{statement}
-use Rattle.recordings.proofs.push.Tie as tie
+use Rattle.recordings.proofs.places.push.Statement.{statement}
+use Rattle.recordings.proofs.places.push.Tie as tie
 
 stop-at-requires : tie.Need-stop-at-requires
 stop-at-requires c κs =

@@ -1,10 +1,10 @@
--- `recordings::enter` meets its contract: a new stop, and one that was met before. Assumes nothing.
+-- `recordings::places::enter` meets its contract: a new stop, and one that was met before. Assumes nothing.
 use native.Mathlib.Omega.{arith}
 use Rattle.recordings.proofs.Chain.{number-inside}
 use Rattle.recordings.proofs.Entering.{pair-room, row-number, new-room, new-pushes, enters-new, old-inside, enters-old}
 use borrow.Author.Needs.{needs}
-use Rattle.recordings.proofs.enter.Statement.{statement}
-use Rattle.recordings.proofs.enter.Tie as tie
+use Rattle.recordings.proofs.places.enter.Statement.{statement}
+use Rattle.recordings.proofs.places.enter.Tie as tie
 
 number-of-requires : tie.Need-number-of-requires
 number-of-requires c κs =

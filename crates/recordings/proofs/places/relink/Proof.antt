@@ -1,10 +1,10 @@
--- `recordings::relink` meets its contract. The loop's invariant: the places passed are linked. Assumes nothing.
+-- `recordings::places::relink` meets its contract. The loop's invariant: the places passed are linked. Assumes nothing.
 use Prim.Native.Nat.{_-_}
 use mathlib.Core.Path.{_∙_}
 use Rattle.recordings.proofs.Pushing.{Relinking, relinking-none, relinking-pushes, relinking-next, relinking-all, kept-holds}
 use borrow.Author.Needs.{needs}
-use Rattle.recordings.proofs.relink.Statement.{statement}
-use Rattle.recordings.proofs.relink.Tie as tie
+use Rattle.recordings.proofs.places.relink.Statement.{statement}
+use Rattle.recordings.proofs.places.relink.Tie as tie
 
 abbrev Inv-loop : tie.InvT-loop
 Inv-loop list count output₀ heads₀ k₀ output heads k = Relinking list count output₀ heads₀ output heads k

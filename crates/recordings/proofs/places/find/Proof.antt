@@ -1,4 +1,4 @@
--- `recordings::find` meets its contract. The loop's invariant: a walk along the chain of the stop's remainder has passed no place of the stop.
+-- `recordings::places::find` meets its contract. The loop's invariant: a walk along the chain of the stop's remainder has passed no place of the stop.
 -- Assumes nothing.
 use mathlib.Core.Path.{sym, _∙_}
 use native.Mathlib.Omega.{arith}
@@ -6,8 +6,8 @@ use Rattle.recordings.specs.Walking.{chainCount}
 use Rattle.recordings.proofs.Entering.{pair-room, row-number}
 use Rattle.recordings.proofs.Links.{Along, along-start, along-inside, along-less, along-here, along-next, along-end}
 use borrow.Author.Needs.{needs}
-use Rattle.recordings.proofs.find.Statement.{statement}
-use Rattle.recordings.proofs.find.Tie as tie
+use Rattle.recordings.proofs.places.find.Statement.{statement}
+use Rattle.recordings.proofs.places.find.Tie as tie
 
 abbrev Inv-loop : tie.InvT-loop
 Inv-loop list heads size output count stop at₀ at = Along list output (chainCount heads size) count stop at

@@ -1,11 +1,11 @@
--- `recordings::chain_of` meets its contract. Assumes nothing.
+-- `recordings::places::chain_of` meets its contract. Assumes nothing.
 use mathlib.Core.Path.{refl}
 use native.Mathlib.Nat.{mod-lt}
 use native.Mathlib.Omega.{arith}
 use borrow.Author.Tests.{eq-eqb, ne-eqb}
 use borrow.Author.Needs.{needs}
-use Rattle.recordings.proofs.chain_of.Statement.{statement}
-use Rattle.recordings.proofs.chain_of.Tie as tie
+use Rattle.recordings.proofs.places.chain_of.Statement.{statement}
+use Rattle.recordings.proofs.places.chain_of.Tie as tie
 
 rem-result : tie.Need-rem-result
 rem-result c = search needs

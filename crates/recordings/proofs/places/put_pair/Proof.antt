@@ -1,8 +1,8 @@
--- `recordings::put_pair` meets its contract. Assumes nothing.
+-- `recordings::places::put_pair` meets its contract. Assumes nothing.
 use lib.ListN.{length-set}
 use borrow.Author.Needs.{needs}
-use Rattle.recordings.proofs.put_pair.Statement.{statement}
-use Rattle.recordings.proofs.put_pair.Tie as tie
+use Rattle.recordings.proofs.places.put_pair.Statement.{statement}
+use Rattle.recordings.proofs.places.put_pair.Tie as tie
 
 put-first-requires : tie.Need-put-first-requires
 put-first-requires c κs = search needs

@@ -1,8 +1,8 @@
--- `recordings::put_link` meets its contract. Assumes nothing.
+-- `recordings::places::put_link` meets its contract. Assumes nothing.
 use native.Mathlib.Omega.{arith}
 use borrow.Author.Needs.{needs}
-use Rattle.recordings.proofs.put_link.Statement.{statement}
-use Rattle.recordings.proofs.put_link.Tie as tie
+use Rattle.recordings.proofs.places.put_link.Statement.{statement}
+use Rattle.recordings.proofs.places.put_link.Tie as tie
 
 second-of-requires : tie.Need-second-of-requires
 second-of-requires c κs =
