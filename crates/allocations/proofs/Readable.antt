@@ -10,14 +10,14 @@ use lib.ListN.{length}
 use Rattle.block.specs.declared.SetUp.{SetUp}
 use Rattle.block.specs.SetUp.{fitting}
 use Rattle.block.specs.Map.{keeps}
-use Rattle.machine.specs.declared.Definition.{Definition}
 use Rattle.machine.specs.Sound.{every, isDefinition}
+use Rattle.operands.specs.Packing.{unpackedAll}
 use Rattle.operands.specs.Reading.{seen, Readable}
 use Rattle.operands.proofs.Readable.{numbers}
 
-pub tested-readable : (bugs : List ℕ) (definitions : List Definition) (u : SetUp) (m ws : List ℕ) → fitting (length ws) u ≡ true → keeps u m ≡ true
-    → every (isDefinition 36) definitions ≡ true → every (λ x. ltb x (2 ^ 36)) bugs ≡ true → Readable 36 (seen bugs definitions u m ws)
-tested-readable bugs definitions u m ws fits kept defined below =
+pub tested-readable : (bugs fields : List ℕ) (u : SetUp) (m ws : List ℕ) → fitting (length ws) u ≡ true → keeps u m ≡ true
+    → every (isDefinition 36) (unpackedAll fields) ≡ true → every (λ x. ltb x (2 ^ 36)) bugs ≡ true → Readable 36 (seen bugs fields u m ws)
+tested-readable bugs fields u m ws fits kept defined below =
     let k = numbers (length ws) u (inl fits) in
     record {
       width = omega arith;

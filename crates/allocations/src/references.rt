@@ -2,6 +2,7 @@
 ghost use mathlib.Core.Path.{_≡_};
 ghost use mathlib.Core.Bool.{true};
 ghost use Rattle.machine.specs.Sound.{every, isDefinition};
+ghost use Rattle.operands.specs.Packing.{unpackedAll};
 use crate::maps;
 use block::SetUp;
 use buddy::section;
@@ -12,7 +13,7 @@ use machine::Definition;
 use machine::Location;
 use machine::Refusal;
 use operands::Linked;
-use operands::references::contents;
+use operands::packing::pack_all;
 use operands::references::locate;
 use soundness::are_words;
 use table::Pair;
@@ -62,10 +63,10 @@ fn refused(why: Refusal) -> u64 {
 // A location folded: a bug or a field, and its numbers.
 fn folded(at: Location) -> u64 {
     match at {
-        Location::Bug(x) => cases::fold(1, x.0 as u64),
+        Location::Bug(x) => cases::fold(1, x.0),
         Location::Field(address, left, right) => cases::fold(
-            cases::fold(cases::fold(2, address), left as u64),
-            right as u64,
+            cases::fold(cases::fold(2, address), left),
+            right,
         ),
     }
 }
@@ -73,13 +74,13 @@ fn folded(at: Location) -> u64 {
 // Where a reference leads and what stands there, or why it does not lead there; 1,000 if it is none.
 fn followed(
     bugs: &[u64; 26],
-    definitions: [Definition; 36],
+    fields: &[u32; 36],
     setup: SetUp,
     map: &[u8],
     storage: &[u64],
     v: u64,
 ) -> u64
-    requires { ⌜ every (isDefinition 36) definitions ≡ true ⌝ }
+    requires { ⌜ every (isDefinition 36) (unpackedAll (now fields)) ≡ true ⌝ }
 {
     if !fits(
         storage.len(),
@@ -99,9 +100,12 @@ fn followed(
         return 1000;
     }
     let operand = Pair { form: 2, value: v };
-    match locate(36, bugs, definitions, setup, map, storage, operand) {
+    match locate(36, bugs, fields, setup, map, storage, operand) {
         Linked::Stopped(why) => refused(why),
-        Linked::At(at) => cases::fold(folded(at), contents(36, bugs, setup.s1, storage, at)),
+        Linked::At(spot) => {
+            let at = spot.at;
+            cases::fold(folded(at), spot.holds)
+        }
     }
 }
 
@@ -110,7 +114,9 @@ fn result(map: &[u8; maps::BYTES], case: Case) -> u64 {
     let bugs = references::words_of(case.x, 0o77);
     let storage = references::words_of(case.state, 0o777777777777);
     let v = references::drawn(case.a, case.state);
-    followed(&bugs, definitions(), maps::small(), map, &storage, v)
+    let mut fields = [0u32; 36];
+    pack_all(definitions(), &mut fields);
+    followed(&bugs, &fields, maps::small(), map, &storage, v)
 }
 
 // The checksum over references, each after a drawn operation on the map.

@@ -6,6 +6,7 @@ use mathlib.Core.List.{List, [], _∷_}
 use mathlib.Core.Path.{_≡_, refl, sym, ap, subst, _∙_}
 use borrow.Author.Tests.{eq-eqb, ne-eqb}
 use lib.ListN.{length, getD, set}
+use Rattle.word.proofs.Tests.{by-leb}
 use Rattle.word.specs.Field.{width, kept}
 use Rattle.table.specs.declared.BugLetter.{BugLetter}
 use Rattle.table.specs.declared.FieldName.{FieldName}
@@ -17,6 +18,7 @@ use Rattle.machine.specs.declared.Store as stores
 use Rattle.machine.specs.State.{undefined, testsOf, theEnd}
 use Rattle.machine.specs.Storage.{noStore}
 use Rattle.machine.specs.Effects.{storeTo}
+use Rattle.operands.specs.Packing.{unpacked, unpackedAll}
 use Rattle.operands.specs.Reading.{Reached}
 use Rattle.operations.specs.declared.Counts.{Counts}
 use Rattle.operations.specs.declared.Action.{Action}
@@ -26,6 +28,7 @@ use Rattle.commit.specs.Carried.{recording, placeAfter, recordsAfter, is
 use Rattle.commit.specs.Feasible.{Ground, Feasible, Countable, Counted}
 use Rattle.commit.specs.Reported.{Short, Reportable}
 use Rattle.operands.proofs.Reported.{NotNull}
+use Rattle.operands.proofs.Unpacking.{unpacked-set}
 use Rattle.commit.proofs.Engines.{Sure, not-recorded}
 use Rattle.commit.proofs.Carrying.{define-asks, input-asks, print-asks, save-asks, restore-asks, save-definition-asks, restore-definition-asks, call-asks, return-asks}
 
@@ -76,40 +79,59 @@ module _ {counts : Counts} {x : Action} (k : Countable counts x) where
   pub return-room : x ≡ Return → (0 < counts .calls) × (counts .calls ≤ 128)
   return-room e = subst (λ (c : Counts). (0 < c .calls) × (c .calls ≤ 128)) (k .same) (return-asks (k .width) (k .on) (k .feasible) e)
 
--- place and records after an action
-module _ (to : Place) (c : Counts) (r : Records) {p : Place} {q : Records} where
-  pub turned-kept : (x : Action) → isRecorded x ≡ false → (p ≡ to) × (q ≡ r) → (p ≡ placeAfter x to (r .calls) (c .calls)) × (q ≡ recordsAfter x to c r)
-  turned-kept x e is = let h = not-recorded x to (r .calls) (c .calls) c r e in (is .0 ∙ sym (h .0), is .1 ∙ sym (h .1))
+-- a turn by the parts that change in place: the place, the definitions with the numbers that they are packed into, and two stacks
+pub record Turned (x : Action) (to : Place) (c : Counts) (r : Records) (y : Action) (p : Place) (ds ss : List Definition) (ps : List Place) (fields : List ℕ) : Type 0 where
+  pub same : y ≡ x
+  pub place : p ≡ placeAfter x to (r .calls) (c .calls)
+  pub records : recording ds ss ps ≡ recordsAfter x to c r
+  pub packed : unpackedAll fields ≡ ds
 
-module _ (to : Place) (c : Counts) (r : Records) {x : Action} {p : Place} {q : Records} where
-  pub turned-define : {f : FieldName} {d : Definition} → x ≡ Define f d → {s : Records} → (p ≡ to) × (q ≡ s)
-      → s ≡ recording (set (r .definitions) (f .0) d) (r .saved) (r .calls)
-      → (p ≡ placeAfter x to (r .calls) (c .calls)) × (q ≡ recordsAfter x to c r)
-  unfolding placeAfter recordsAfter
-  turned-define e is made = (rw e (is .0), rw e (is .1 ∙ made))
+module _ {x y : Action} (to : Place) (c : Counts) (r : Records) {p : Place} {ds ss : List Definition} {ps : List Place} (fields : List ℕ) {fs : List ℕ}
+    (was : unpackedAll fields ≡ r .definitions) where
+  pub turned-kept : isRecorded x ≡ false → p ≡ to → ds ≡ r .definitions → ss ≡ r .saved → ps ≡ r .calls → fs ≡ fields → y ≡ x → Turned x to c r y p ds ss ps fs
+  turned-kept e at d s k f same =
+      let h = not-recorded x to (r .calls) (c .calls) c r e in
+      record { same = same; place = at ∙ sym (h .0); records = rw (d, s, k) (sym (h .1)); packed = rw (f, d) was }
 
-  pub turned-save : {f : FieldName} → x ≡ SaveDefinition f → {s : Records} → (p ≡ to) × (q ≡ s)
-      → s ≡ recording (r .definitions) (set (r .saved) (c .saved) (getD (r .definitions) (f .0) undefined)) (r .calls)
-      → (p ≡ placeAfter x to (r .calls) (c .calls)) × (q ≡ recordsAfter x to c r)
+  pub turned-define : {f : FieldName} {d : Definition} → x ≡ Define f d → (n : ℕ) → unpacked n ≡ d
+      → p ≡ to → ds ≡ set (r .definitions) (f .0) d → ss ≡ r .saved → ps ≡ r .calls → fs ≡ set fields (f .0) n → y ≡ x → Turned x to c r y p ds ss ps fs
   unfolding placeAfter recordsAfter
-  turned-save e is made = (rw e (is .0), rw e (is .1 ∙ made))
+  turned-define {f} e n is at d s k fields-are same =
+      record {
+        same = same;
+        place = rw e at;
+        records = rw (e, d, s, k);
+        packed = rw (fields-are, d) (unpacked-set fields (f .0) n ∙ rw (was, is));
+      }
 
-  pub turned-restore : {f : FieldName} → x ≡ RestoreDefinition f → {s : Records} → (p ≡ to) × (q ≡ s)
-      → s ≡ recording (set (r .definitions) (f .0) (getD (r .saved) (c .saved - 1) undefined)) (r .saved) (r .calls)
-      → (p ≡ placeAfter x to (r .calls) (c .calls)) × (q ≡ recordsAfter x to c r)
+  pub turned-save : {f : FieldName} → x ≡ SaveDefinition f
+      → p ≡ to → ds ≡ r .definitions → ss ≡ set (r .saved) (c .saved) (getD (r .definitions) (f .0) undefined) → ps ≡ r .calls → fs ≡ fields → y ≡ x
+      → Turned x to c r y p ds ss ps fs
   unfolding placeAfter recordsAfter
-  turned-restore e is made = (rw e (is .0), rw e (is .1 ∙ made))
+  turned-save e at d s k f same = record { same = same; place = rw e at; records = rw (e, d, s, k); packed = rw (f, d) was }
 
-  pub turned-call : {row : ℕ} → x ≡ Call row → {t : Place} {s : Records} → (p ≡ t) × (q ≡ s) → t ≡ testsOf row
-      → s ≡ recording (r .definitions) (r .saved) (set (r .calls) (c .calls) to)
-      → (p ≡ placeAfter x to (r .calls) (c .calls)) × (q ≡ recordsAfter x to c r)
+  pub turned-restore : {f : FieldName} → x ≡ RestoreDefinition f → (n : ℕ) → unpacked n ≡ getD (r .saved) (c .saved - 1) undefined
+      → p ≡ to → ds ≡ set (r .definitions) (f .0) (getD (r .saved) (c .saved - 1) undefined) → ss ≡ r .saved → ps ≡ r .calls → fs ≡ set fields (f .0) n → y ≡ x
+      → Turned x to c r y p ds ss ps fs
   unfolding placeAfter recordsAfter
-  turned-call e is at made = (rw e (is .0 ∙ at), rw e (is .1 ∙ made))
+  turned-restore {f} e n is at d s k fields-are same =
+      record {
+        same = same;
+        place = rw e at;
+        records = rw (e, d, s, k);
+        packed = rw (fields-are, d) (unpacked-set fields (f .0) n ∙ rw (was, is));
+      }
 
-  pub turned-return : x ≡ Return → {t : Place} → (p ≡ t) × (q ≡ r) → t ≡ getD (r .calls) (c .calls - 1) theEnd
-      → (p ≡ placeAfter x to (r .calls) (c .calls)) × (q ≡ recordsAfter x to c r)
+  pub turned-call : {row : ℕ} → x ≡ Call row
+      → p ≡ testsOf row → ds ≡ r .definitions → ss ≡ r .saved → ps ≡ set (r .calls) (c .calls) to → fs ≡ fields → y ≡ x → Turned x to c r y p ds ss ps fs
   unfolding placeAfter recordsAfter
-  turned-return e is at = (rw e (is .0 ∙ at), rw e (is .1))
+  turned-call e at d s k f same =
+      record { same = same; place = rw e at; records = rw (e, d, s, k); packed = rw (f, d) was }
+
+  pub turned-return : x ≡ Return
+      → p ≡ getD (r .calls) (c .calls - 1) theEnd → ds ≡ r .definitions → ss ≡ r .saved → ps ≡ r .calls → fs ≡ fields → y ≡ x → Turned x to c r y p ds ss ps fs
+  unfolding placeAfter recordsAfter
+  turned-return e at d s k f same = record { same = same; place = rw e at; records = rw (e, d, s, k); packed = rw (f, d) was }
 
 -- a store's part in a report
 module _ {at : Location} (v : ℕ) where
@@ -130,6 +152,11 @@ module _ {at : Location} (v : ℕ) where
   pub field-short : {address left right : ℕ} → at ≡ Field address left right → Short at → right < 63
   unfolding Short
   field-short e h = subst Short e h
+
+-- a field that is not null has its left bit no further right than its right one
+pub field-there : {left right w : ℕ} → w ≡ width left right → (w ≡ 0 → ⊥) → left ≤ right
+unfolding width
+field-there {left} {right} is some = by-leb (λ _. left ≤ right) left right (λ s. s) (λ more. absurd (some (is ∙ omega arith)))
 
 -- the stores that an action reports
 module _ {x : Action} (h : Reportable x) where

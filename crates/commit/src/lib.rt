@@ -23,9 +23,3 @@ pub struct Records {
     pub saved: [Definition; 128],
     pub calls: [Place; 128],
 }
-
-// The place and the records after an action that changes them.
-pub struct Turned {
-    pub place: Place,
-    pub records: Records,
-}

@@ -30,14 +30,14 @@ pub fn store_to(at: Location, v: u64) -> Store
     match at {
         Location::Bug(_) => no_store(),
         Location::Field(address, left, right) => {
-            if width(left as u64, right as u64) == 0 {
+            if width(left, right) == 0 {
                 return no_store();
             }
             Store {
                 address: address,
-                left: left,
-                right: right,
-                bits: kept_bits(left as u64, right as u64, v),
+                left: left as u8,
+                right: right as u8,
+                bits: kept_bits(left, right, v),
             }
         }
     }

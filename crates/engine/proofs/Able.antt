@@ -38,10 +38,10 @@ use Rattle.machine.proofs.Live.{live-lies, live-size}
 use Rattle.machine.proofs.Keeps.{run-fits}
 use Rattle.machine.proofs.Blocks.{one-of-runs}
 use Rattle.machine.proofs.Steps.{sound-engine}
-use Rattle.operands.specs.declared.Pending.the-variants.{Delivery}
+use Rattle.operands.specs.declared.Delivery.{Delivery}
 use Rattle.operands.specs.Reading.{Readable, Reached, Taken}
 use Rattle.operands.specs.Storing.{bugsStored}
-use Rattle.operands.specs.Through.{Ahead}
+use Rattle.operands.specs.Through.{through, Deliverable}
 use Rattle.operands.proofs.Readable.{locate-reached}
 use Rattle.operands.proofs.Operands.{operand-small}
 use Rattle.operands.proofs.Storing.{bugs-below}
@@ -221,8 +221,10 @@ module _ (b : ℕ) (l : Lent) (e : Engine) (h : Facts b e) (ready : Ready b (sig
       unfolding world
       readable-so = stored-readable b (world e) a address (ready .readable) refl
 
-      ahead-so : Ahead b seen-so (Delivery address n a)
-      unfolding Ahead
+      abbrev ahead : Delivery
+      ahead = record { address = address; size = n; at = a }
+
+      ahead-so : Deliverable b seen-so address n a
       ahead-so = record { fits = set-up-fits; place = j; low = low; isSize = isSize; isRun = run-there; reached = fa .reached }
 
       reached-sure : (at : Location) → ReachedIn b g at → NotNull at
@@ -231,10 +233,10 @@ module _ (b : ℕ) (l : Lent) (e : Engine) (h : Facts b e) (ready : Ready b (sig
       reached-sure (Field word left right) r = let first = fitting-facts (length (e .storage)) u set-up-fits .first in omega (arith, r .1)
 
       found-after : (p : Pair) → isReference (p .value) ≡ true → (at : Location) → locate b (afterDelivery b address n a (world e)) p ≡ passed at → Found at
-      unfolding afterDelivery world
+      unfolding afterDelivery world through
       found-after p is at k =
-          let r = through-reached b seen-so readable-so (Delivery address n a) ahead-so at
-          (locate-reached b _ (through-readable b seen-so readable-so (Delivery address n a) ahead-so) p is at k) in
+          let r = through-reached b seen-so readable-so ahead ahead-so at
+          (locate-reached b _ (through-readable b seen-so readable-so ahead ahead-so) p is at k) in
           record { reached = r; sure = reached-sure at r }
 
       -- 3 get

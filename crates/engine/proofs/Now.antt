@@ -11,6 +11,7 @@ use Rattle.word.specs.Word.{isWidth}
 use Rattle.word.proofs.Width.{width-range}
 use Rattle.block.specs.declared.SetUp.{SetUp}
 use Rattle.table.specs.Row.{lengthFits}
+use Rattle.machine.specs.declared.Definition.{Definition}
 use Rattle.machine.specs.declared.Place.{Place}
 use Rattle.machine.specs.declared.Core.{Core}
 use Rattle.machine.specs.declared.State.{State}
@@ -27,31 +28,24 @@ use Rattle.operations.specs.declared.Action.{Action}
 use Rattle.operations.specs.declared.Counts.{Counts}
 use Rattle.operations.specs.declared.Planned.{Planned}
 use Rattle.operations.specs.declared.Planned.the-variants.{Does, Stopped}
-use Rattle.operations.specs.Seen.{sees, countsOf, Ready}
-use Rattle.operations.specs.Answers.{toldPlanned}
+use Rattle.operands.specs.Packing.{unpackedAll}
+use Rattle.operations.specs.Seen.{Sight, sees, countsOf, Ready}
+use Rattle.word.specs.Told.{Told}
+use Rattle.operations.specs.Answers.{Plan, toldPlanned}
 use Rattle.plans.specs.Steps.{stepPlan}
 use Rattle.plans.proofs.Answers.{plan-is, no-plan-is}
 use Rattle.plans.proofs.Ready.{ready-is}
 use Rattle.commit.specs.declared.Onward.{Onward}
 use Rattle.commit.specs.declared.Records.{Records}
-use Rattle.commit.specs.Carried.{bugsAfter, entriesAfter, mapAfter, wordsAfter, outputAfter, placeAfter, recordsAfter, onward}
+use Rattle.commit.specs.Carried.{bugsAfter, entriesAfter, mapAfter, wordsAfter, outputAfter, recordsAfter, recording, onward}
 use Rattle.commit.specs.Feasible.{ground, Feasible, Countable, Counted}
 use Rattle.commit.specs.Reported.{reportOf, Reportable}
 use Rattle.commit.specs.Then.{coreWith, engineWith, engineThen, recordsOf}
-use Rattle.commit.proofs.Engines.{not-recorded}
-use Rattle.commit.proofs.Turning.{feasible-reportable}
+use Rattle.commit.proofs.Turning.{Turned, feasible-reportable}
 use Rattle.engine.specs.declared.Walked.{Walked}
 use Rattle.engine.specs.Walking.{Walk, walks, walkFrom}
 use Rattle.engine.proofs.Able.{Able, plan-able}
 use Rattle.engine.proofs.Turns.{Going, going-refused, going-ends, going-next, going-first}
-
--- where an action is not recorded, place and records are as they were planned
-pub kept-turn : (x : Action) (to : Place) (u : SetUp) (c : Counts) (r : Records) {next : Onward} → next ≡ onward x u c → next .recorded ≡ false
-    → {place : Place} {records : Records} → place ≡ to → records ≡ r
-    → (place ≡ placeAfter x to (r .calls) (c .calls)) × (records ≡ recordsAfter x to c r)
-kept-turn x to u c r is other same also =
-    let (stays, same-records) = not-recorded x to (r .calls) (c .calls) c r (ap (λ (n : Onward). n .recorded) (sym is) ∙ other) in
-    (same ∙ sym stays, also ∙ sym same-records)
 
 -- of two tests none holds
 neither : (s t : Bool) → (s || t) ≡ false → (s ≡ false) × (t ≡ false)
@@ -63,30 +57,45 @@ abbrev pub returning : Walked → List ℕ → List ℕ → Walk
 returning r storage output = record { walked = r; storage = storage; output = output }
 
 module _ (b : ℕ) (table input : List ℕ) (start : Walk) (limit count : ℕ) (output : List ℕ) (place : Place) (bugs : List ℕ) (records : Records)
-    (entries : List ℕ) (counts : Counts) (setup : SetUp) (map storage : List ℕ)
-    (g : Going b table input start limit count output (engineWith b place bugs records entries counts setup map storage)) (wide : isWidth b ≡ true)
-    (fits : lengthFits table ≡ true) where
+    (entries : List ℕ) (counts : Counts) (setup : SetUp) (map storage fields : List ℕ)
+    (g : Going b table input start limit count output (engineWith b place bugs records entries counts setup map storage)) (packed : unpackedAll fields ≡ records .definitions)
+    (wide : isWidth b ≡ true) (fits : lengthFits table ≡ true) where
   abbrev narrow : b ≤ 48
   narrow = width-range b wide .1
 
   abbrev e : Engine
   e = engineWith b place bugs records entries counts setup map storage
 
-  pub ready-now : Ready b (sees bugs (records .definitions) setup map storage counts entries input (length output))
-  unfolding world
-  ready-now = ready-is b (lends table input output) e (g .fine) narrow
+  -- what a plan sees with these definitions
+  abbrev with-fields : List Definition → Sight
+  with-fields ds =
+      record {
+        world = record { bugs = bugs; definitions = ds; setup = setup; map = map; storage = storage };
+        counts = counts;
+        entries = entries;
+        input = input;
+        room = length output;
+      }
 
-  module _ {answer : Planned} (is : toldPlanned answer ≡ told (stepPlan b (sees bugs (records .definitions) setup map storage counts entries input (length output)) table place)) where
+  pub ready-now : Ready b (sees bugs fields setup map storage counts entries input (length output))
+  unfolding world
+  ready-now = subst (λ (ds : List Definition). Ready b (with-fields ds)) (sym packed) (ready-is b (lends table input output) e (g .fine) narrow)
+
+  -- what is told of a plan with the packed definitions is told of it with the engine's
+  so : {t : Told Plan} → t ≡ told (stepPlan b (with-fields (unpackedAll fields)) table place) → t ≡ told (stepPlan b (with-fields (records .definitions)) table place)
+  so is = is ∙ ap (λ (ds : List Definition). told (stepPlan b (with-fields ds) table place)) packed
+
+  module _ {answer : Planned} (is : toldPlanned answer ≡ told (stepPlan b (sees bugs fields setup map storage counts entries input (length output)) table place)) where
     pub refused-now : {q : Refusal} → answer ≡ Stopped q → {report : Report} → report ≡ noReport → {r : Walked}
         → r ≡ record { state = record { width = b; core = coreWith place bugs records entries counts setup; map = map }; answer = Refused q; report = report; count = count + 1 }
         → returning r storage output ≡ start
     unfolding world
-    refused-now to none same = rw (same, none) (going-refused b table input start limit count output e g wide fits (no-plan-is _ is to))
+    refused-now to none same = rw (same, none) (going-refused b table input start limit count output e g wide fits (no-plan-is _ (so is) to))
 
     module _ {to : Place} {x : Action} (made : answer ≡ Does to x) (long : length map ≡ 4096) where
       able : Able b (lends table input output) e x
       unfolding world
-      able = plan-able b (lends table input output) e (g .fine) narrow fits (rw long (omega arith)) _ (plan-is _ is made)
+      able = plan-able b (lends table input output) e (g .fine) narrow fits (rw long (omega arith)) _ (plan-is _ (so is) made)
 
       pub feasible-now : Feasible b (ground setup map storage counts (length input) (length output)) x
       feasible-now = able .feasible
@@ -101,29 +110,32 @@ module _ (b : ℕ) (table input : List ℕ) (start : Walk) (limit count : ℕ) (
       pub reportable-now : Reportable x
       reportable-now = feasible-reportable b _ x narrow (able .feasible)
 
-      module _ {place′ : Place} {bugs′ : List ℕ} {records′ : Records} {entries′ : List ℕ} {next : Onward} {map′ storage′ output′ : List ℕ}
-          (turn : (place′ ≡ placeAfter x to (records .calls) (counts .calls)) × (records′ ≡ recordsAfter x to counts records))
+      module _ {y : Action} {place′ : Place} {ds ss : List Definition} {ps : List Place} {fields′ : List ℕ} (turn : Turned x to counts records y place′ ds ss ps fields′)
+          {bugs′ entries′ : List ℕ} {next : Onward} {map′ storage′ output′ : List ℕ}
           (carried : (bugs′ ≡ bugsAfter b x bugs) × (entries′ ≡ entriesAfter (counts .contents) x entries) × (map′ ≡ mapAfter setup x map)
           × (storage′ ≡ wordsAfter b (setup .s1) x storage) × (output′ ≡ outputAfter (counts .written) x output))
           (goes : next ≡ onward x setup counts) where
         abbrev f : Engine
-        f = engineWith b place′ bugs′ records′ entries′ (next .counts) (next .setup) map′ storage′
+        f = engineWith b place′ bugs′ (recording ds ss ps) entries′ (next .counts) (next .setup) map′ storage′
+
+        then-with : {r : Records} → r ≡ recordsAfter x to counts records → engineThen b to x e ≡ engineWith b place′ bugs′ r entries′ (next .counts) (next .setup) map′ storage′
+        then-with same = rw (turn .place, same, carried .0, carried .1, carried .2, carried .3, goes)
 
         then-now : engineThen b to x e ≡ f
-        then-now = rw (turn .0, turn .1, carried .0, carried .1, carried .2, carried .3, goes)
+        then-now = then-with (turn .records)
 
         ends : {end : Bool} → eqb (place′ .kind) 3 ≡ end → isFinished (engineThen b to x e .state .core .place) ≡ end
         unfolding isFinished
         ends k = ap (λ (f : Engine). eqb (f .state .core .place .kind) 3) then-now ∙ k
 
         pub ended-now : (eqb (place′ .kind) 3 || eqb (count + 1) limit) ≡ true → {answer : Answer} → answer ≡ cond (isFinished place′) Finished Running
-            → {report : Report} → report ≡ reportOf x → {r : Walked}
+            → {report : Report} → report ≡ reportOf y → {r : Walked}
             → r ≡ record { state = f .state; answer = answer; report = report; count = count + 1 } → returning r storage′ output′ ≡ start
         unfolding world isFinished
-        ended-now over answers told same =
-            rw (same, answers, told, carried .4)
+        ended-now over answers reports same =
+            rw (same, answers, reports ∙ ap reportOf (turn .same), carried .4)
             (ap (λ (f : Engine). walks (f .state) (cond (eqb (place′ .kind) 3) Finished Running) (reportOf x) (count + 1) (f .storage) (outputAfter (counts .written) x output)) (sym then-now)
-            ∙ going-ends b table input start limit count output e g wide fits _ (plan-is _ is made) (able .sure) _ (ends refl) over)
+            ∙ going-ends b table input start limit count output e g wide fits _ (plan-is _ (so is) made) (able .sure) _ (ends refl) over)
 
         pub next-now : (eqb (place′ .kind) 3 || eqb (count + 1) limit) ≡ false → Going b table input start limit (count + 1) output′ f
         unfolding world
@@ -131,7 +143,7 @@ module _ (b : ℕ) (table input : List ℕ) (start : Walk) (limit count : ℕ) (
             let (unfinished, more) = neither _ _ on in
             subst (λ (out : List ℕ). Going b table input start limit (count + 1) out f) (sym (carried .4))
             (subst (Going b table input start limit (count + 1) (outputAfter (counts .written) x output)) then-now
-            (going-next b table input start limit count output e g wide fits _ (plan-is _ is made) (able .sure) (ends unfinished) (eqb-false _ _ more)))
+            (going-next b table input start limit count output e g wide fits _ (plan-is _ (so is) made) (able .sure) (ends unfinished) (eqb-false _ _ more)))
 
 -- what a walk returns, by its core
 pub with-core : {c d : Core} → c ≡ d → {width : ℕ} {map : List ℕ} {answer : Answer} {report : Report} {count : ℕ}

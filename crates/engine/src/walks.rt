@@ -16,7 +16,8 @@ use block::SetUp;
 use commit::Records;
 use commit::carry::carry_out;
 use commit::core::go_on;
-use commit::core::turned;
+use commit::core::returned;
+use commit::core::tests_of;
 use commit::reports::report_of;
 use machine::Answer;
 use machine::CallStack;
@@ -27,6 +28,9 @@ use machine::Place;
 use machine::Report;
 use machine::State;
 use machine::Store;
+use operands::packing::pack;
+use operands::packing::pack_all;
+use operations::Action;
 use operations::Counts;
 use operations::Planned;
 use plans::steps::plan_step;
@@ -195,27 +199,23 @@ pub fn walk(
     let mut bugs = core.bugs;
     let mut entries = contents.entries;
     let mut setup = core.setup;
-    let definitions = core.definitions;
+    let mut definitions = core.definitions;
     let stack = core.saved;
-    let kept = stack.entries;
+    let mut saved = stack.entries;
     let places = core.calls;
-    let calls = places.entries;
-    let mut records = Records {
-        definitions: definitions,
-        saved: kept,
-        calls: calls,
-    };
+    let mut calls = places.entries;
     let mut counts = counts_of(core);
     let mut map = state.map;
+    let mut fields = [0u32; 36];
+    pack_all(definitions, &mut fields);
     let mut count: u64 = 0;
     loop {
         count += 1;
-        let definitions = records.definitions;
         let planned = plan_step(
             width as u64,
             place,
             &bugs,
-            definitions,
+            &fields,
             setup,
             &map,
             &*storage,
@@ -228,6 +228,11 @@ pub fn walk(
         );
         match planned {
             Planned::Stopped(r) => {
+                let records = Records {
+                    definitions: definitions,
+                    saved: saved,
+                    calls: calls,
+                };
                 return ended(
                     width,
                     place,
@@ -257,13 +262,41 @@ pub fn walk(
                 );
                 place = to;
                 if next.recorded {
-                    let turn = turned(action, to, counts, records);
-                    place = turn.place;
-                    records = turn.records;
+                    match action {
+                        Action::Define(f, x) => {
+                            let i = f.0 as usize;
+                            definitions[i] = x;
+                            fields[i] = pack(x);
+                        }
+                        Action::SaveDefinition(f) => {
+                            let i = f.0 as usize;
+                            let n = counts.saved;
+                            saved[n] = definitions[i];
+                        }
+                        Action::RestoreDefinition(f) => {
+                            let i = f.0 as usize;
+                            let n = counts.saved - 1;
+                            let x = saved[n];
+                            definitions[i] = x;
+                            fields[i] = pack(x);
+                        }
+                        Action::Call(row) => {
+                            let n = counts.calls;
+                            calls[n] = to;
+                            place = tests_of(row);
+                        }
+                        Action::Return => place = returned(calls, counts.calls),
+                        _ => {}
+                    }
                 }
                 counts = next.counts;
                 setup = next.setup;
                 if (place.kind == 3) | (count == limit) {
+                    let records = Records {
+                        definitions: definitions,
+                        saved: saved,
+                        calls: calls,
+                    };
                     return ended(
                         width,
                         place,

@@ -13,7 +13,7 @@ fn taken_apart(n: Names) -> u64 {
     let bug = n.bug;
     let fields = n.fields;
     let mut i = n.from;
-    let mut sum = bug.0 as u64;
+    let mut sum = bug.0;
     while i < 5 {
         let name = fields[i];
         sum = cases::fold(sum, name.0 as u64);

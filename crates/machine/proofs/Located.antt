@@ -64,7 +64,7 @@ module _ (b : ℕ) (w : World) (h : every (isDefinition b) (w .definitions) ≡ 
   blocks = live (w .setup) (w .map)
 
   -- a definition in use has its right bit inside the word
-  defined-right : (f : FieldName) → definitionOf f w .defined ≡ true → definitionOf f w .right < b
+  pub defined-right : (f : FieldName) → definitionOf f w .defined ≡ true → definitionOf f w .right < b
   unfolding definitionOf
   defined-right f k =
       definition-right b (definitionOf f w)

@@ -87,7 +87,7 @@ pub struct State {
 // Where a reference leads: a bug, or bits left to right of the word at an address.
 pub enum Location {
     Bug(table::BugLetter),
-    Field(u64, u8, u8),
+    Field(u64, u64, u64),
 }
 
 // A store into storage, all zero where there is none.

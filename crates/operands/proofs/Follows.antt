@@ -1,13 +1,11 @@
 -- The links of a reference one after the other: where the first k of them lead, what is left to follow, and that each location on
 -- the way can be read. Assumes nothing.
 use Prim.Native.Nat.{ℕ, zero, suc, _+_, _*_, _-_, _%_, _≤_, _<_}
-use native.Mathlib.Numerals.{add-one}
 use native.Mathlib.Omega.{arith}
 use mathlib.Core.Bool.{true}
-use mathlib.Core.List.{List, [], _∷_, List·Memᴰ}
+use mathlib.Core.List.{List, [], List·Memᴰ}
 use mathlib.Core.Path.{_≡_, refl, ap, sym, subst, _∙_}
-use lib.ListN.{length, getD, drop, drop-of-length-le}
-use lib.Seq.{drop-cons, getD-drop}
+use lib.ListN.{length, getD}
 use Rattle.block.proofs.Size.{words-le}
 use Rattle.block.specs.declared.SetUp.{SetUp}
 use Rattle.block.specs.Blocks.{Block, size, sizeAt}
@@ -19,22 +17,26 @@ use Rattle.block.proofs.Tiling.{sizeAt-mem}
 use Rattle.block.proofs.Within.{Within, all-within}
 use Rattle.table.specs.declared.BugLetter.{BugLetter}
 use Rattle.table.specs.declared.FieldName.{FieldName}
-use Rattle.table.specs.declared.Names.{Names}
-use Rattle.table.specs.declared.Pair.{Pair}
-use Rattle.table.specs.Reference.{Reference, isReference, referenceOf, namesOf}
-use Rattle.table.proofs.InRange.{bug-in, field-in}
+use Rattle.table.specs.Reference.{Reference, isReference, referenceOf, Following, FollowingLater, nameAt}
+use Rattle.table.proofs.Digits.{reference-positive}
+use Rattle.table.proofs.FromLeft.{lastNames, reference-is}
+use Rattle.machine.specs.declared.Definition.{Definition}
 use Rattle.machine.specs.declared.Location.{Location}
 use Rattle.machine.specs.declared.Location.the-variants.{Bug, Field}
+use Rattle.word.specs.Told.{Told, gives, refuses}
+use Rattle.operands.specs.declared.Spot.{Spot}
 use Rattle.operands.specs.declared.Linked.{Linked}
 use Rattle.operands.specs.declared.Linked.the-variants.{At, Stopped}
 use Rattle.machine.specs.declared.Refusal.{Refusal}
-use Rattle.machine.specs.Answer.{Checked, passed, refused, told, _>>=_}
-use Rattle.operands.proofs.Answers.{at-is, stopped-is}
+use Rattle.machine.specs.Answer.{Checked, passed, refused, told, refusalNumber, _>>=_}
+use Rattle.operands.proofs.Links.{link-any}
+use Rattle.operands.proofs.Answers.{at-is, holds-is, stopped-is}
 use Rattle.machine.specs.State.{undefined}
-use Rattle.machine.specs.Locate.{World, definitionOf, contents, linkBy, link, follow, locate}
-use Rattle.operands.specs.Reading.{toldLinked, Readable, Reached}
+use Rattle.machine.specs.Sound.{every}
+use Rattle.machine.specs.Locate.{World, definitionOf, contentsOf, contents, linkBy, link, follow}
+use Rattle.operands.specs.Reading.{leads, standing, toldLinked, Readable, Reached, Lying}
 use Rattle.machine.proofs.Checks.{need-passed, passed-same}
-use Rattle.machine.proofs.Located.{Located, link-located}
+use Rattle.machine.proofs.Located.{Located, defined-right, link-located}
 
 -- a live block lies in the set-up words
 live-words : (u : SetUp) (m : List ℕ) → words u % size (top (u .d)) ≡ 0 → (x : Block) → List·Memᴰ x (live u m) → Within (u .s1) (u .s1 + words u) x
@@ -57,6 +59,21 @@ module _ (b : ℕ) (w : World) (h : Readable b w) where
       let k = live-words (w .setup) (w .map) (h .whole) _ (sizeAt-mem a (live (w .setup) (w .map)) (λ z. some (is ∙ z))) in
       omega (arith, k .last, h .first, h .last, words-le (w .setup))
 
+  -- what a link relies on
+  pub lying : (f : FieldName) (n p : ℕ) → n ≡ sizeAt p (live (w .setup) (w .map))
+      → Lying b (w .setup .s1) (w .storage) (getD (w .definitions) (f .0) undefined) n p
+  unfolding definitionOf
+  lying f n p is =
+      record {
+        low = λ some. let k = within some in k .first;
+        high = λ some. let k = within some in omega (arith, k .last, is, h .room);
+        small = pointer-small p n is;
+        right = defined-right b w (h .definitions) f;
+      }
+    where
+      within : (n ≡ 0 → ⊥) → Within (w .setup .s1) (w .setup .s1 + words (w .setup)) (record { address = p; size = sizeAt p (live (w .setup) (w .map)) })
+      within some = live-words (w .setup) (w .map) (h .whole) _ (sizeAt-mem p (live (w .setup) (w .map)) (λ z. some (is ∙ z)))
+
   -- where a link leads can be read
   pub link-reached : (pointer : ℕ) (f : FieldName) (at : Location) → link w pointer f ≡ passed at → Reached b (w .setup .s1) (w .storage) at
   unfolding link linkBy
@@ -67,70 +84,174 @@ module _ (b : ℕ) (w : World) (h : Readable b w) where
       subst (Reached b (w .setup .s1) (w .storage)) (passed-same k₃)
       (inside-reached _ _ _ (link-located b w (h .definitions) pointer f _ (k ∙ sym k₃)))
 
+-- what passes on is what there was
+bind-same : {A : Type 0} (k : Checked A) → (k >>= λ x. passed x) ≡ k
+unfolding _>>=_
+bind-same (refused r) = refl
+bind-same (passed x) = refl
+
 -- one link by the definition, the size of the block and the pointer
 pub link-made : (w : World) (f : FieldName) (n p q : ℕ) → n ≡ sizeAt p (live (w .setup) (w .map)) → p ≡ q
-    → told (linkBy (getD (w .definitions) (f .0) undefined) n p) ≡ told (link w q f)
+    → linkBy (getD (w .definitions) (f .0) undefined) n p ≡ link w q f
 unfolding link definitionOf
 link-made w f n p q is same = rw (is, same)
+
+-- the same by a definition that is read
+module _ (b : ℕ) (w : World) where
+  pub lying-as : Readable b w → (f : FieldName) {x : Definition} → x ≡ getD (w .definitions) (f .0) undefined → (n p : ℕ) → n ≡ sizeAt p (live (w .setup) (w .map))
+      → Lying b (w .setup .s1) (w .storage) x n p
+  lying-as h f same n p is = rw same (lying b w h f n p is)
+
+  pub link-as : (f : FieldName) {x : Definition} → x ≡ getD (w .definitions) (f .0) undefined → (n p : ℕ) → n ≡ sizeAt p (live (w .setup) (w .map))
+      → told (standing (contentsOf b [] (w .setup .s1) (w .storage)) (linkBy x n p)) ≡ told (standing (contentsOf b [] (w .setup .s1) (w .storage)) (link w p f))
+  link-as f same n p is = rw same (ap (λ (k : Checked Location). told (standing (contentsOf b [] (w .setup .s1) (w .storage)) k)) (link-made w f n p p is refl))
+
+-- no link reads a bug
+abbrev bugless : World → World
+bugless w = record { bugs = []; definitions = w .definitions; setup = w .setup; map = w .map; storage = w .storage }
+
+pub without-bugs : (b : ℕ) (w : World) → Readable b w → Readable b (bugless w)
+unfolding every
+without-bugs b w h =
+    record {
+      width = h .width;
+      numbers = h .numbers;
+      first = h .first;
+      last = h .last;
+      whole = h .whole;
+      kept = h .kept;
+      room = h .room;
+      definitions = h .definitions;
+      bugs = refl;
+    }
+
+pub link-with : (b : ℕ) (w : World) (p : ℕ) (f : FieldName) {t : Told Spot}
+    → t ≡ told (standing (contentsOf b [] (w .setup .s1) (w .storage)) (link (bugless w) p f)) → t ≡ told (standing (contents b w) (link w p f))
+unfolding link definitionOf
+link-with b w p f is = is ∙ ap told (link-any b (w .setup .s1) (w .bugs) (w .storage) _ _ p)
 
 -- a bug can be read
 pub bug-reached : (b s1 : ℕ) (storage : List ℕ) (x : BugLetter) → x .0 < 26 → Reached b s1 storage (Bug x)
 unfolding Reached
 bug-reached b s1 storage x h = h
 
--- the links from place i₀ on have been followed up to place i
-pub record Followed (b : ℕ) (w : World) (fields : List FieldName) (at₀ : Location) (i₀ : ℕ) (at : Location) (i : ℕ) : Type 0 where
-  pub left : follow b w at₀ (drop i₀ fields) ≡ follow b w at (drop i fields)
-  pub reached : Reached b (w .setup .s1) (w .storage) at
-  pub from : i₀ ≤ i
+-- the links of a reference have been followed up to those of its last digits
+pub record Followed (b : ℕ) (w : World) (v bits : ℕ) (spot : Spot) (left : ℕ) : Type 0 where
+  pub first : Following v bits
+  pub count : ℕ
+  pub whole : left ≡ 6 * count
+  pub low : left ≤ bits
+  pub same : leads b w v ≡ follow b w (spot .at) (lastNames count v)
+  pub reached : Reached b (w .setup .s1) (w .storage) (spot .at)
+  pub holds : spot .holds ≡ contents b w (spot .at)
 
-module _ (b : ℕ) (w : World) (fields : List FieldName) (at₀ : Location) (i₀ : ℕ) where
-  module _ (at : Location) (i : ℕ) (answer : Linked) (so-far : Followed b w fields at₀ i₀ at i) (more : i < length fields)
-      (is : toldLinked answer ≡ told (link w (contents b w at) (getD fields i (record { 0 = 0 })))) where
-    -- what is left has one link more
-    next-link : follow b w at₀ (drop i₀ fields) ≡ (link w (contents b w at) (getD fields i (record { 0 = 0 })) >>= λ next. follow b w next (drop (suc i) fields))
-    unfolding follow
-    next-link = so-far .left ∙ ap (follow b w at) (drop-cons fields i (record { 0 = 0 }) more)
+module _ (b : ℕ) (w : World) (v : ℕ) where
+  -- at the bug
+  pub followed-first : isReference v ≡ true → {bits : ℕ} → Following v bits → {x : BugLetter} → (x ≡ referenceOf v .bug) × (x .0 < 26)
+      → Followed b w v bits (record { at = Bug x; holds = getD (w .bugs) (x .0) 0 }) bits
+  unfolding leads contentsOf
+  followed-first h {bits} f {x} (is, small) =
+      record {
+        first = f;
+        count = f .count;
+        whole = f .whole;
+        low = omega arith;
+        same = rw is (ap (λ (r : Reference). follow b w (Bug (referenceOf v .bug)) (r .fields)) (sym (reference-is v h f)));
+        reached = bug-reached b _ _ x small;
+        holds = refl;
+      }
 
-    -- a link that passed
-    pub followed-next : Readable b w → (next : Location) → answer ≡ At next → Followed b w fields at₀ i₀ next (i + 1)
-    unfolding _>>=_
-    followed-next h next to =
-        let k = at-is _ is to in
-        record {
-          left = rw add-one (next-link ∙ rw k);
-          reached = link-reached b w h _ _ next k;
-          from = omega (arith, so-far .from);
-        }
+  module _ {bits left : ℕ} {spot : Spot} (so-far : Followed b w v bits spot left) where
+    -- no link is left
+    pub followed-all : left ≤ 0 → toldLinked (At spot) ≡ told (standing (contents b w) (leads b w v))
+    unfolding follow toldLinked told standing _>>=_ lastNames
+    followed-all end =
+        let none : so-far .count ≡ 0 = omega (arith, so-far .whole) in
+        let ends : leads b w v ≡ passed (spot .at) = so-far .same ∙ ap (λ (n : ℕ). follow b w (spot .at) (lastNames n v)) none in
+        rw ends (ap (λ (x : ℕ). gives (record { at = spot .at; holds = x })) (so-far .holds))
 
-    -- a link that is refused ends it
-    pub followed-stopped : (r : Refusal) → answer ≡ Stopped r → toldLinked answer ≡ told (follow b w at₀ (drop i₀ fields))
-    unfolding _>>=_ toldLinked told
-    followed-stopped r to =
-        let k : link w (contents b w at) (getD fields i (record { 0 = 0 })) ≡ refused r = stopped-is _ is to in
-        let ends : follow b w at₀ (drop i₀ fields) ≡ refused r = next-link ∙ rw k in
-        rw ends (ap toldLinked to)
+    module _ (more : 0 < left) where
+      -- the next name
+      pub name-left : FollowingLater v (left - 6)
+      name-left =
+          record {
+            count = so-far .count - 1;
+            whole = omega (arith, so-far .whole);
+            all = bits;
+            later = omega (arith, so-far .low, so-far .whole);
+            first = so-far .first;
+          }
 
-  -- no link is left
-  pub followed-all : (at : Location) (i : ℕ) → Followed b w fields at₀ i₀ at i → length fields ≤ i → toldLinked (At at) ≡ told (follow b w at₀ (drop i₀ fields))
-  unfolding follow toldLinked told
-  followed-all at i so-far end = sym (ap told (so-far .left ∙ ap (follow b w at) (drop-of-length-le fields end)))
+      module _ {f : FieldName} (name : f ≡ nameAt v (left - 6)) where
+        -- what is left has one link more
+        next-link : leads b w v ≡ (link w (spot .holds) f >>= λ next. follow b w next (lastNames (so-far .count - 1) v))
+        unfolding follow lastNames
+        next-link =
+            let one-more : so-far .count ≡ suc (so-far .count - 1) = omega (arith, so-far .whole) in
+            let here : 6 * (so-far .count - 1) ≡ left - 6 = omega (arith, so-far .whole) in
+            so-far .same
+            ∙ ap (λ (n : ℕ). follow b w (spot .at) (lastNames n v)) one-more
+            ∙ ap (λ (k : ℕ). link w (contents b w (spot .at)) (nameAt v k) >>= λ next. follow b w next (lastNames (so-far .count - 1) v)) here
+            ∙ ap (λ (g : FieldName). link w (contents b w (spot .at)) g >>= λ next. follow b w next (lastNames (so-far .count - 1) v)) (sym name)
+            ∙ ap (λ (p : ℕ). link w p f >>= λ next. follow b w next (lastNames (so-far .count - 1) v)) (sym (so-far .holds))
 
--- names taken apart from a reference
-module _ (x : Names) (v : ℕ) (h : isReference v ≡ true) (is : namesOf x ≡ referenceOf v) where
-  pub bug-named : x .bug .0 < 26
-  unfolding namesOf
-  bug-named = subst (λ (r : Reference). r .bug .0 < 26) (sym is) (bug-in v h)
+        -- a link that passed, with what stands there
+        pub followed-at : Readable b w → {at : Location} → link w (spot .holds) f ≡ passed at → {v′ : ℕ} → v′ ≡ contents b w at
+            → Followed b w v bits (record { at = at; holds = v′ }) (left - 6)
+        unfolding _>>=_
+        followed-at h to there =
+            record {
+              first = so-far .first;
+              count = so-far .count - 1;
+              whole = omega (arith, so-far .whole);
+              low = omega (arith, so-far .low);
+              same = next-link ∙ rw to;
+              reached = link-reached b w h _ _ _ to;
+              holds = there;
+            }
 
-  pub field-named : (i : ℕ) → x .from ≤ i → getD (x .fields) i (record { 0 = 0 }) .0 < 36
-  unfolding namesOf
-  field-named i from =
-      let far : x .from + (i - x .from) ≡ i = omega arith in
-      subst (λ (j : ℕ). getD (x .fields) j (record { 0 = 0 }) .0 < 36) far
-      (subst (λ (f : FieldName). f .0 < 36) (getD-drop (x .from) (x .fields) (i - x .from) (record { 0 = 0 }))
-      (subst (λ (r : Reference). getD (r .fields) (i - x .from) (record { 0 = 0 }) .0 < 36) (sym is) (field-in v h (i - x .from))))
+        -- a link that is refused ends it
+        pub followed-refused : {r : Refusal} → link w (spot .holds) f ≡ refused r → refuses (refusalNumber r) ≡ told (standing (contents b w) (leads b w v))
+        unfolding _>>=_ told standing
+        followed-refused {r} to =
+            let ends : leads b w v ≡ refused r = next-link ∙ rw to in
+            rw ends
 
-  -- the links from the bug on are those of the reference
-  pub from-bug : (b : ℕ) (w : World) (p : Pair) → p .value ≡ v → follow b w (Bug (x .bug)) (drop (x .from) (x .fields)) ≡ locate b w p
-  unfolding namesOf locate
-  from-bug b w p same = ap (λ (r : Reference). follow b w (Bug (r .bug)) (r .fields)) (is ∙ ap referenceOf (sym same))
+        -- the last link
+        pub followed-last : left ≡ 6 → {t : Told Spot} → t ≡ told (standing (contents b w) (link w (spot .holds) f)) → t ≡ told (standing (contents b w) (leads b w v))
+        unfolding lastNames follow
+        followed-last one is =
+            let last : so-far .count - 1 ≡ 0 = omega (arith, so-far .whole) in
+            is
+            ∙ ap (λ (k : Checked Location). told (standing (contents b w) k))
+            (sym (next-link ∙ ap (λ (n : ℕ). link w (spot .holds) f >>= λ next. follow b w next (lastNames n v)) last ∙ bind-same (link w (spot .holds) f)))
+
+        -- an answer of link, by its case
+        module _ {answer : Linked} (is : toldLinked answer ≡ told (standing (contents b w) (link w (spot .holds) f))) where
+          pub followed-next : Readable b w → {next : Spot} → answer ≡ At next → Followed b w v bits next (left - 6)
+          followed-next h to = followed-at h (at-is _ _ is to) (holds-is _ _ is to)
+
+          pub followed-stopped : {r : Refusal} → answer ≡ Stopped r → toldLinked answer ≡ told (standing (contents b w) (leads b w v))
+          unfolding toldLinked
+          followed-stopped to = ap toldLinked to ∙ followed-refused (stopped-is _ _ is to)
+
+-- one field follows a bug
+pub one-field : (v : ℕ) → 64 ≤ v → v < 4096 → Following v 6
+one-field v low high = record { count = 1; whole = refl; low = low; high = high }
+
+pub one-name : (v : ℕ) → 64 ≤ v → v < 4096 → FollowingLater v 0
+one-name v low high = record { count = 0; whole = refl; all = 6; later = omega arith; first = one-field v low high }
+
+-- none does
+pub no-field : (v : ℕ) → isReference v ≡ true → v < 64 → Following v 0
+no-field v h less = record { count = 0; whole = refl; low = reference-positive v h; high = less }
+
+-- a reference of one digit leads to its bug
+pub at-bug : (b : ℕ) (w : World) (v : ℕ) → isReference v ≡ true → v < 64 → {x : BugLetter} → (x ≡ referenceOf v .bug) × (x .0 < 26) → leads b w v ≡ passed (Bug x)
+unfolding follow lastNames followed-first no-field
+at-bug b w v h one is = followed-first b w v h (no-field v h one) is .same
+
+-- and its word stands there
+pub bug-spot : (b : ℕ) (w : World) (v : ℕ) → isReference v ≡ true → v < 64 → {x : BugLetter} → (x ≡ referenceOf v .bug) × (x .0 < 26)
+    → toldLinked (At (record { at = Bug x; holds = getD (w .bugs) (x .0) 0 })) ≡ told (standing (contents b w) (leads b w v))
+bug-spot b w v h one is = followed-all b w v (followed-first b w v h (no-field v h one) is) (omega arith)

@@ -6,4 +6,5 @@ pub mod Operands
 pub mod Readable
 pub mod Storing
 pub mod Through
+pub mod Unpacking
 pub mod Reported

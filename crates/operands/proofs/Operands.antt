@@ -24,7 +24,7 @@ use Rattle.machine.proofs.Every.{every-getD}
 use Rattle.operands.proofs.Readable.{locate-reached}
 use Rattle.operands.specs.declared.Got.{Got}
 use Rattle.operands.specs.declared.Got.the-variants as taken
-use Rattle.operands.specs.Reading.{toldGot, Readable, Reached, Narrow, Taken, valued}
+use Rattle.operands.specs.Reading.{leads, toldGot, Readable, Reached, Narrow, Taken, valued}
 
 -- a location that can be read is narrow
 pub reached-narrow : (b s1 : ℕ) (storage : List ℕ) (at : Location) → b ≤ 48 → Reached b s1 storage at → Narrow at
@@ -51,14 +51,14 @@ module _ (b : ℕ) (w : World) (p : Pair) where
   unfolding operand toldGot told
   literal f = rw (eq-eqb _ _ f)
 
-  pub found : (p .form ≡ 1 → ⊥) → (at : Location) → locate b w p ≡ passed at → {v n : ℕ} → v ≡ contents b w at → n ≡ widthOf b at
+  pub found : (p .form ≡ 1 → ⊥) → {at : Location} → leads b w (p .value) ≡ passed at → {v n : ℕ} → v ≡ contents b w at → n ≡ widthOf b at
       → toldGot (taken.Value v n) ≡ told (operand b w p)
-  unfolding operand toldGot told read _>>=_
-  found f at k {v} {n} same wide = rw (ne-eqb _ _ f, k, same, wide)
+  unfolding operand locate leads toldGot told read _>>=_
+  found f k same wide = rw (ne-eqb _ _ f, k, same, wide)
 
-  pub not-found : (p .form ≡ 1 → ⊥) → (r : Refusal) → locate b w p ≡ refused r → toldGot (taken.Stopped r) ≡ told (operand b w p)
-  unfolding operand toldGot told _>>=_
-  not-found f r k = rw (ne-eqb _ _ f, k)
+  pub not-found : (p .form ≡ 1 → ⊥) → {r : Refusal} → leads b w (p .value) ≡ refused r → toldGot (taken.Stopped r) ≡ told (operand b w p)
+  unfolding operand locate leads toldGot told _>>=_
+  not-found f k = rw (ne-eqb _ _ f, k)
 
 -- what stands at a location is below 2 ^ b, and no wider than b bits
 module _ (b : ℕ) (w : World) (h : Readable b w) where

@@ -21,7 +21,7 @@ use Rattle.machine.specs.declared.Location.{Location}
 use Rattle.machine.specs.Answer.{passed}
 use Rattle.machine.specs.Sound.{Engine, soundEngine}
 use Rattle.machine.specs.Locate.{World, world, follow, locate}
-use Rattle.operands.specs.Reading.{Readable, Reached}
+use Rattle.operands.specs.Reading.{leads, Readable, Reached}
 use Rattle.machine.proofs.Checks.{or-parts, bind-passed, passed-same}
 use Rattle.machine.proofs.Facts.{sound-facts}
 use Rattle.operands.proofs.Follows.{link-reached, bug-reached}
@@ -73,3 +73,7 @@ module _ (b : ℕ) (w : World) (h : Readable b w) where
   pub locate-reached : (p : Pair) → isReference (p .value) ≡ true → (at : Location) → locate b w p ≡ passed at → Reached b (w .setup .s1) (w .storage) at
   unfolding locate
   locate-reached p is at k = follow-reached _ _ at (bug-reached _ _ _ _ (bug-in (p .value) is)) k
+
+  pub leads-reached : (v : ℕ) → isReference v ≡ true → {at : Location} → leads b w v ≡ passed at → Reached b (w .setup .s1) (w .storage) at
+  unfolding leads
+  leads-reached v is {at} k = follow-reached _ _ at (bug-reached _ _ _ _ (bug-in v is)) k

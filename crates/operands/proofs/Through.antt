@@ -22,19 +22,18 @@ use Rattle.book.specs.Book.{start, inserted}
 use Rattle.book.proofs.Maps.{delivered-live-map}
 use Rattle.table.specs.declared.BugLetter.{BugLetter}
 use Rattle.table.specs.declared.FieldName.{FieldName}
+use Rattle.machine.specs.declared.Definition.{Definition}
 use Rattle.machine.specs.declared.Location.{Location}
 use Rattle.machine.specs.declared.Location.the-variants.{Bug, Field}
 use Rattle.machine.specs.Storage.{placed, wordAt}
-use Rattle.machine.specs.Answer.{told}
 use Rattle.machine.specs.Locate.{World, contentsOf, contents, linkBy, link}
 use Rattle.machine.specs.State.{undefined}
 use Rattle.machine.proofs.Placed.{length-placed, placed-inside, placed-outside}
-use Rattle.operands.specs.declared.Pending.{Pending}
-use Rattle.operands.specs.declared.Pending.the-variants.{Nothing, Delivery}
-use Rattle.operands.specs.Reading.{Readable, Reached}
+use Rattle.operands.specs.declared.Delivery.{Delivery}
+use Rattle.operands.specs.Reading.{Readable, Reached, Lying}
 use Rattle.operands.specs.Storing.{wordsStored}
-use Rattle.operands.specs.Through.{through, Deliverable, Ahead}
-use Rattle.operands.proofs.Follows.{link-made, pointer-small}
+use Rattle.operands.specs.Through.{through, Deliverable}
+use Rattle.operands.proofs.Follows.{link-made, lying}
 use Rattle.operands.proofs.Storing.{length-words, still-reached}
 
 -- the words of a block that is delivered, and the others
@@ -120,81 +119,59 @@ module _ (b : ℕ) (w : World) (h : Readable b w) (address n : ℕ) (at : Locati
   length-after : length (wordsStored b (w .setup .s1) at address (placed (address - w .setup .s1) (replicate n 0) (w .storage))) ≡ length (w .storage)
   length-after = length-words b _ at address _ ∙ length-delivered _ address n (w .storage) delivery-low delivery-lies 0
 
--- through what is pending: the storage is as long as before, and can be read
-module _ (b : ℕ) (w : World) (h : Readable b w) where
-  pub through-length : (x : Pending) → Ahead b w x → length (through b x w .storage) ≡ length (w .storage)
-  unfolding through Ahead
-  through-length Nothing d = refl
-  through-length (Delivery address n at) d = length-after b w h address n at d
-
-  pub through-setup : (x : Pending) → through b x w .setup ≡ w .setup
+-- through a delivery: the storage is as long as before, and can be read
+module _ (b : ℕ) (w : World) (h : Readable b w) (d : Delivery) (able : Deliverable b w (d .address) (d .size) (d .at)) where
+  pub through-length : length (through b d w .storage) ≡ length (w .storage)
   unfolding through
-  through-setup Nothing = refl
-  through-setup (Delivery address n at) = refl
+  through-length = length-after b w h (d .address) (d .size) (d .at) able
 
-  pub through-readable : (x : Pending) → Ahead b w x → Readable b (through b x w)
-  unfolding through Ahead
-  through-readable Nothing d = h
-  through-readable (Delivery address n at) d =
-      let long = length-after b w h address n at d in
+  pub through-readable : Readable b (through b d w)
+  unfolding through
+  through-readable =
+      let long = length-after b w h (d .address) (d .size) (d .at) able in
       record {
         width = h .width;
         numbers = rw long (h .numbers);
         first = h .first;
         last = h .last;
         whole = h .whole;
-        kept = keeps-delivered (length (w .storage)) (w .setup) (d .fits) (w .map) (h .kept) _ address .section;
+        kept = keeps-delivered (length (w .storage)) (w .setup) (able .fits) (w .map) (h .kept) _ (d .address) .section;
         room = rw long (h .room);
         definitions = h .definitions;
         bugs = h .bugs;
       }
 
   -- a location that can be reached after it can be reached before
-  pub through-reached : (x : Pending) → Ahead b w x → (at : Location) → Reached b (through b x w .setup .s1) (through b x w .storage) at
-      → Reached b (w .setup .s1) (w .storage) at
-  through-reached x d at r =
-      still-reached b (w .setup .s1) (through b x w .storage) (w .storage) at (sym (through-length x d))
-      (subst (λ (u : SetUp). Reached b (u .s1) (through b x w .storage) at) (through-setup x) r)
+  pub through-reached : (at : Location) → Reached b (w .setup .s1) (through b d w .storage) at → Reached b (w .setup .s1) (w .storage) at
+  through-reached at r = still-reached b (w .setup .s1) (through b d w .storage) (w .storage) at (sym through-length) r
 
-  -- reading through it, by its case
-  module _ {x : Pending} (d : Ahead b w x) where
-    pub deliverable : {address n : ℕ} {at : Location} → x ≡ Delivery address n at → Deliverable b w address n at
-    unfolding Ahead
-    deliverable e = subst (Ahead b w) e d
+  -- what stands at a place then
+  pub through-contents : (place : Location) {v : ℕ}
+      → v ≡ contentsOf b (w .bugs) (w .setup .s1) (wordsStored b (w .setup .s1) (d .at) (d .address) (placed (d .address - w .setup .s1) (replicate (d .size) 0) (w .storage))) place
+      → v ≡ contents b (through b d w) place
+  unfolding through
+  through-contents place is = is
 
-    pub contents-nothing : x ≡ Nothing → (place : Location) {v : ℕ} → v ≡ contents b w place → v ≡ contents b (through b x w) place
+  -- the size of a block then
+  module _ (p : ℕ) {n : ℕ} (is : n ≡ cond (eqb (d .address) p) (d .size) (sizeAt p (live (w .setup) (w .map)))) where
+    pub through-size : n ≡ sizeAt p (live (w .setup) (through b d w .map))
     unfolding through
-    contents-nothing e place is = rw e is
+    through-size = is ∙ sym (size-delivered b w h (d .address) (d .size) (d .at) able p)
 
-    pub contents-delivery : {address n : ℕ} {at : Location} → x ≡ Delivery address n at → (place : Location) {v : ℕ}
-        → v ≡ contentsOf b (w .bugs) (w .setup .s1) (wordsStored b (w .setup .s1) at address (placed (address - w .setup .s1) (replicate n 0) (w .storage))) place
-        → v ≡ contents b (through b x w) place
-    unfolding through
-    contents-delivery e place is = rw e is
-
-    module _ (p n : ℕ) where
-      pub size-nothing : x ≡ Nothing → n ≡ sizeAt p (live (w .setup) (w .map)) → n ≡ sizeAt p (live (w .setup) (through b x w .map))
+    -- what a link relies on, and where it leads
+    module _ (f : FieldName) {x : Definition} (same : x ≡ getD (w .definitions) (f .0) undefined) where
+      pub through-lying : Lying b (w .setup .s1) (w .storage) x n p
       unfolding through
-      size-nothing e is = rw e is
+      through-lying =
+          rw same
+          (let l = lying b (through b d w) through-readable f n p through-size in
+          record {
+            low = l .low;
+            high = λ some. subst (λ (long : ℕ). p + n ≤ w .setup .s1 + long) through-length (l .high some);
+            small = l .small;
+            right = l .right;
+          })
 
-      module _ {address m : ℕ} {at : Location} (e : x ≡ Delivery address m at) where
-        pub size-new : p ≡ address → m ≡ sizeAt p (live (w .setup) (through b x w .map))
-        unfolding through
-        size-new here = rw (e, size-delivered b w h address m at (deliverable e) p, eq-eqb address p (sym here))
-
-        pub size-old : (p ≡ address → ⊥) → n ≡ sizeAt p (live (w .setup) (w .map)) → n ≡ sizeAt p (live (w .setup) (through b x w .map))
-        unfolding through
-        size-old other is = rw (e, size-delivered b w h address m at (deliverable e) p, ne-eqb address p (λ z. other (sym z))) is
-
-  -- one link through it, by the definition, the size of the block and the pointer
-  module _ (f : FieldName) {n p q : ℕ} (same : p ≡ q) where
-    pub through-link : (x : Pending) → n ≡ sizeAt p (live (w .setup) (through b x w .map))
-        → told (linkBy (getD (w .definitions) (f .0) undefined) n p) ≡ told (link (through b x w) q f)
-    unfolding through
-    through-link Nothing is = link-made w f n p q is same
-    through-link (Delivery address m at) is = link-made (through b (Delivery address m at) w) f n p q is same
-
-  pub through-pointer : (x : Pending) → Ahead b w x → {n p : ℕ} → n ≡ sizeAt p (live (w .setup) (through b x w .map)) → (n ≡ 0 → ⊥) → p ≤ 281474976710656
-  through-pointer x d {n} {p} is some =
-      pointer-small b (through b x w) (through-readable x d) p n
-      (subst (λ (u : SetUp). n ≡ sizeAt p (live u (through b x w .map))) (sym (through-setup x)) is) some
+      pub through-link : linkBy x n p ≡ link (through b d w) p f
+      unfolding through
+      through-link = rw same (link-made (through b d w) f n p p through-size refl)

@@ -11,22 +11,24 @@ use Rattle.block.specs.Blocks.{size}
 use Rattle.block.specs.SetUp.{top, words, fitting, absent}
 use Rattle.block.specs.Map.{keeps}
 use Rattle.table.specs.declared.Pair.{Pair}
-use Rattle.table.specs.Reference.{isReference}
+use Rattle.table.specs.Reference.{isReference, referenceOf}
 use Rattle.machine.specs.declared.Definition.{Definition}
 use Rattle.machine.specs.declared.Location.{Location}
 use Rattle.machine.specs.declared.Location.the-variants.{Bug, Field}
-use Rattle.machine.specs.Answer.{refusalNumber}
+use Rattle.machine.specs.Answer.{Checked, passed, refusalNumber, _>>=_}
 use Rattle.machine.specs.Sound.{every, isDefinition}
-use Rattle.machine.specs.Locate.{World, Value}
+use Rattle.machine.specs.Locate.{World, Value, follow}
+use Rattle.operands.specs.declared.Spot.{Spot}
 use Rattle.operands.specs.declared.Linked.{Linked}
 use Rattle.operands.specs.declared.Linked.the-variants as links
 use Rattle.operands.specs.declared.Got.{Got}
 use Rattle.operands.specs.declared.Got.the-variants as gets
+use Rattle.operands.specs.Packing.{unpackedAll}
 
--- what lent slices show
-abbrev pub seen : List ℕ → List Definition → SetUp → List ℕ → List ℕ → World
-seen bugs definitions setup map storage =
-    record { bugs = bugs; definitions = definitions; setup = setup; map = map; storage = storage }
+-- what lent slices show, the definitions packed
+abbrev pub seen : List ℕ → List ℕ → SetUp → List ℕ → List ℕ → World
+seen bugs fields setup map storage =
+    record { bugs = bugs; definitions = unpackedAll fields; setup = setup; map = map; storage = storage }
 
 -- what is relied on, and a sound engine has: set-up numbers that fit or are absent, and so in range, a map that keeps its section, a storage that has the set-up
 -- words, definitions in range, bugs below 2 ^ b
@@ -56,6 +58,13 @@ unfoldable pub Narrow : Location → Type 0
 Narrow (Bug x) = Unit {0}
 Narrow (Field address left right) = right < 64
 
+-- what a link relies on: a block of n words at the pointer lies in the storage, and a field that is defined in its words
+pub record Lying (b s1 : ℕ) (storage : List ℕ) (x : Definition) (n pointer : ℕ) : Type 0 where
+  pub low : (n ≡ 0 → ⊥) → s1 ≤ pointer
+  pub high : (n ≡ 0 → ⊥) → pointer + n ≤ s1 + length storage
+  pub small : (n ≡ 0 → ⊥) → pointer ≤ 281474976710656
+  pub right : x .defined ≡ true → x .right < b
+
 -- an operand that is used: a literal below 2 ^ b, or a reference
 pub record Taken (b : ℕ) (p : Pair) : Type 0 where
   pub literal : p .form ≡ 1 → p .value < 2 ^ b
@@ -65,9 +74,17 @@ pub record Taken (b : ℕ) (p : Pair) : Type 0 where
 abbrev pub valued : ℕ → ℕ → Value
 valued v n = record { value = v; width = n }
 
+-- where a reference leads, by its number
+unfoldable pub leads : ℕ → World → ℕ → Checked Location
+leads b w v = follow b w (Bug (referenceOf v .bug)) (referenceOf v .fields)
+
+-- a location that a check gives, with what stands there
+unfoldable pub standing : (Location → ℕ) → Checked Location → Checked Spot
+standing holds k = k >>= λ at. passed (record { at = at; holds = holds at })
+
 -- answers in numbers
-unfoldable pub toldLinked : Linked → Told Location
-toldLinked (links.At at) = gives at
+unfoldable pub toldLinked : Linked → Told Spot
+toldLinked (links.At spot) = gives spot
 toldLinked (links.Stopped r) = refuses (refusalNumber r)
 
 unfoldable pub toldGot : Got → Told Value

@@ -1,4 +1,4 @@
--- What references read once something pending is carried out. Assumes nothing.
+-- What references read once a delivery is carried out. Assumes nothing.
 use Prim.Native.Nat.{ℕ, _-_, _≤_}
 use mathlib.Core.Path.{_≡_}
 use mathlib.Core.Bool.{true}
@@ -10,21 +10,19 @@ use Rattle.block.specs.Map.{live, deliveredMap}
 use Rattle.machine.specs.declared.Location.{Location}
 use Rattle.machine.specs.Storage.{placed}
 use Rattle.machine.specs.Locate.{World}
-use Rattle.operands.specs.declared.Pending.{Pending}
-use Rattle.operands.specs.declared.Pending.the-variants.{Nothing, Delivery}
+use Rattle.operands.specs.declared.Delivery.{Delivery}
 use Rattle.operands.specs.Reading.{Reached}
 use Rattle.operands.specs.Storing.{wordsStored}
 
 -- a block's words are zero and the block is live, and its address is stored at a location; the bugs are lent as they then are
-unfoldable pub through : ℕ → Pending → World → World
-through b Nothing w = w
-through b (Delivery address n at) w =
+unfoldable pub through : ℕ → Delivery → World → World
+through b d w =
     record {
       bugs = w .bugs;
       definitions = w .definitions;
       setup = w .setup;
-      map = deliveredMap (level (top (w .setup .d)) n) address (w .setup) (w .map);
-      storage = wordsStored b (w .setup .s1) at address (placed (address - w .setup .s1) (replicate n 0) (w .storage));
+      map = deliveredMap (level (top (w .setup .d)) (d .size)) (d .address) (w .setup) (w .map);
+      storage = wordsStored b (w .setup .s1) (d .at) (d .address) (placed (d .address - w .setup .s1) (replicate (d .size) 0) (w .storage));
     }
 
 -- a delivery that can be carried out: an aligned run of one of the sizes outside the live blocks, and a location that can be reached
@@ -35,7 +33,3 @@ pub record Deliverable (b : ℕ) (w : World) (address n : ℕ) (at : Location) :
   pub isSize : n ≡ size place
   pub isRun : List·Memᴰ address (runs n (w .setup) (live (w .setup) (w .map)))
   pub reached : Reached b (w .setup .s1) (w .storage) at
-
-unfoldable pub Ahead : ℕ → World → Pending → Type 0
-Ahead b w Nothing = Unit {0}
-Ahead b w (Delivery address n at) = Deliverable b w address n at

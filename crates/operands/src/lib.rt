@@ -1,13 +1,20 @@
 // Operands: references followed over lent slices, what stands where they lead, and stores there.
+pub mod packing;
 pub mod references;
 pub mod stores;
 
 use machine::Location;
 use machine::Refusal;
 
-// Where the links of a reference lead, or why one of them is refused.
+// A location and what stands there.
+pub struct Spot {
+    pub at: Location,
+    pub holds: u64,
+}
+
+// Where the links of a reference lead and what stands there, or why one of them is refused.
 pub enum Linked {
-    At(Location),
+    At(Spot),
     Stopped(Refusal),
 }
 
@@ -17,9 +24,10 @@ pub enum Got {
     Stopped(Refusal),
 }
 
-// What a reference is followed through before it is carried out: nothing, or the delivery of a block, by its address and size, with
-// the address stored at a location.
-pub enum Pending {
-    Nothing,
-    Delivery(u64, u64, Location),
+// What a reference is followed through before it is carried out: the delivery of a block, by its address and size, with the address stored
+// at a location.
+pub struct Delivery {
+    pub address: u64,
+    pub size: u64,
+    pub at: Location,
 }

@@ -1,69 +1,38 @@
-// References over lent slices: one link, what stands at a location, the links one after the other, and operands.
-ghost use mathlib.Core.Bool.{true};
+// References over lent slices: one link, the links one after the other, and operands.
+ghost use mathlib.Core.Bool.{true, cond};
+ghost use mathlib.Core.List.{[]};
 ghost use mathlib.Core.Path.{_≡_};
-ghost use Prim.Native.Nat.{_+_, _-_, _≤_, _<_};
+ghost use Prim.Native.Nat.{_+_, _-_, _%_, _≤_, _<_};
+ghost use lib.Dec.{eqb};
 ghost use lib.ListN.{length, getD, replicate};
-ghost use Rattle.block.specs.Blocks.{sizeAt};
-ghost use Rattle.block.specs.Map.{live};
+ghost use Rattle.block.specs.Blocks.{size as sizeOf, sizeAt};
+ghost use Rattle.block.specs.SetUp.{top, words};
+ghost use Rattle.block.specs.Map.{keeps, live};
 ghost use Rattle.table.specs.Reference.{isReference};
 ghost use Rattle.machine.specs.Storage.{placed, wordAt};
 ghost use Rattle.machine.specs.Answer.{told};
 ghost use Rattle.machine.specs.Locate.{linkBy, contentsOf, contents, widthOf, link as linkOf, locate as locationOf, operand as operandOf};
-ghost use Rattle.operands.specs.Reading.{seen, Readable, Reached, Narrow, Taken, toldLinked, toldGot};
+ghost use Rattle.operands.specs.Reading.{seen, Readable, Reached, Narrow, Taken, Lying, leads, standing, toldLinked, toldGot};
 ghost use Rattle.operands.specs.Storing.{wordsStored};
-ghost use Rattle.operands.specs.Through.{through, Ahead};
+ghost use Rattle.operands.specs.Through.{through, Deliverable};
+use crate::Delivery;
 use crate::Got;
 use crate::Linked;
-use crate::Pending;
+use crate::Spot;
+use crate::packing::unpack;
 use block::SetUp;
 use buddy::section::live_size;
 use machine::Definition;
 use machine::Location;
 use machine::Refusal;
-use table::BugLetter;
 use table::FieldName;
 use table::Pair;
-use table::references::names_in;
+use table::references::bits_after;
+use table::references::bug_before;
+use table::references::name_before;
 use word::fields::read_field;
 use word::fields::store_field;
 use word::fields::width;
-
-// One link, by the field's definition and the size of the live block at the pointer, 0 if there is none: 14, 15, 16 in this order.
-fn link(x: Definition, size: u64, pointer: u64) -> Linked
-    requires { ⌜ ((size ≡ 0 → ⊥) → pointer ≤ 281474976710656) ⌝ }
-    ensures { λ r. ⌜ toldLinked r ≡ told (linkBy x size pointer) ⌝ }
-{
-    let live = size != 0;
-    if !x.defined {
-        return Linked::Stopped(Refusal::UndefinedField);
-    }
-    if !live {
-        return Linked::Stopped(Refusal::NotABlock);
-    }
-    let word = x.word as u64;
-    if size <= word {
-        return Linked::Stopped(Refusal::OutsideBlock);
-    }
-    let address = pointer + word;
-    Linked::At(Location::Field(address, x.left, x.right))
-}
-
-// What stands at a location.
-pub fn contents(b: u64, bugs: &[u64; 26], s1: u16, storage: &[u64], at: Location) -> u64
-    requires { ⌜ (b ≤ 48) × Reached b s1 (now storage) at ⌝ }
-    ensures { λ r. ⌜ r ≡ contentsOf b (now (bugs .entry)) s1 (now (storage .entry)) at ⌝ }
-{
-    match at {
-        Location::Bug(x) => {
-            let i = x.0 as usize;
-            bugs[i]
-        }
-        Location::Field(address, left, right) => {
-            let offset = (address - s1 as u64) as usize;
-            read_field(b, left as u64, right as u64, storage[offset])
-        }
-    }
-}
 
 // The word at an address.
 fn word_at(s1: u16, storage: &[u64], address: u64) -> u64
@@ -108,188 +77,214 @@ fn word_after(
         Location::Bug(_) => word,
         Location::Field(there, left, right) => {
             if there == address {
-                return store_field(b, left as u64, right as u64, word, from);
+                return store_field(b, left, right, word, from);
             }
             word
         }
     }
 }
 
-// What stands at a place once n words at an address are delivered and the address is stored in a word at a location.
+// What stands at a place once a block is delivered.
 fn contents_after(
     b: u64,
     bugs: &[u64; 26],
     s1: u16,
     storage: &[u64],
-    from: u64,
-    n: u64,
-    at: Location,
+    ahead: Delivery,
     place: Location,
 ) -> u64
-    requires { ⌜ (b ≤ 48) × (s1 ≤ from) × (from - s1 + n ≤ length (now storage)) × Reached b s1 (now storage) at
-        × Reached b s1 (now storage) place ⌝ }
-    ensures { λ r. ⌜ r ≡ contentsOf b (now (bugs .entry)) s1
-        (wordsStored b s1 at from (placed (from - s1) (replicate n 0) (now (storage .entry)))) place ⌝ }
+    requires { ⌜ (b ≤ 48) × (s1 ≤ ahead .address) × (ahead .address - s1 + ahead .size ≤ length (now storage))
+        × Reached b s1 (now storage) (ahead .at) × Reached b s1 (now storage) place ⌝ }
+    ensures { λ r. ⌜ r ≡ contentsOf b (now (bugs .entry)) s1 (wordsStored b s1 (ahead .at) (ahead .address)
+        (placed (ahead .address - s1) (replicate (ahead .size) 0) (now (storage .entry)))) place ⌝ }
 {
+    let at = ahead.at;
     match place {
         Location::Bug(x) => {
             let i = x.0 as usize;
             bugs[i]
         }
         Location::Field(address, left, right) => {
-            let word = word_after(b, s1, storage, from, n, at, address);
-            read_field(b, left as u64, right as u64, word)
+            let word = word_after(b, s1, storage, ahead.address, ahead.size, at, address);
+            read_field(b, left, right, word)
         }
     }
 }
 
-// What stands at a place, through what is pending.
-fn contents_through(
-    b: u64,
-    bugs: &[u64; 26],
-    definitions: [Definition; 36],
-    setup: SetUp,
-    map: &[u8],
-    storage: &[u64],
-    pending: Pending,
-    place: Location,
-) -> u64
-    requires { ⌜ Readable b (seen (now bugs) definitions setup (now map) (now storage))
-        × Ahead b (seen (now bugs) definitions setup (now map) (now storage)) pending
-        × Reached b (setup .s1) (now storage) place ⌝ }
-    ensures { λ r. ⌜ r ≡ contents b (through b pending (seen (now (bugs .entry)) definitions setup (now (map .entry))
-        (now (storage .entry)))) place ⌝ }
+// One link, by the field's definition and the size of the live block at the pointer, 0 if there is none: 14, 15, 16 in this order. Where it
+// leads, which is never a bug, and what stands there.
+fn link(b: u64, s1: u16, storage: &[u64], x: Definition, size: u64, pointer: u64) -> Linked
+    requires { ⌜ (b ≤ 48) × Lying b s1 (now storage) x size pointer ⌝ }
+    ensures { λ r. ⌜ toldLinked r ≡ told (standing (contentsOf b [] s1 (now (storage .entry))) (linkBy x size pointer)) ⌝ }
 {
-    match pending {
-        Pending::Nothing => contents(b, bugs, setup.s1, storage, place),
-        Pending::Delivery(from, n, at) => {
-            contents_after(b, bugs, setup.s1, storage, from, n, at, place)
-        }
+    if !x.defined {
+        return Linked::Stopped(Refusal::UndefinedField);
     }
+    if size == 0 {
+        return Linked::Stopped(Refusal::NotABlock);
+    }
+    let word = x.word as u64;
+    if size <= word {
+        return Linked::Stopped(Refusal::OutsideBlock);
+    }
+    let address = pointer + word;
+    let left = x.left as u64;
+    let right = x.right as u64;
+    let spot = Spot {
+        at: Location::Field(address, left, right),
+        holds: read_field(b, left, right, word_at(s1, storage, address)),
+    };
+    Linked::At(spot)
 }
 
-// The size of the live block at an address, 0 if there is none, through what is pending.
-fn size_through(
+// The link from a pointer, by the name of a field.
+fn link_to(
     b: u64,
-    bugs: &[u64; 26],
-    definitions: [Definition; 36],
+    fields: &[u32; 36],
     setup: SetUp,
     map: &[u8],
     storage: &[u64],
-    pending: Pending,
     pointer: u64,
-) -> u64
-    requires { ⌜ Readable b (seen (now bugs) definitions setup (now map) (now storage))
-        × Ahead b (seen (now bugs) definitions setup (now map) (now storage)) pending ⌝ }
-    ensures { λ r. ⌜ r ≡ sizeAt pointer (live setup (through b pending
-        (seen (now (bugs .entry)) definitions setup (now (map .entry)) (now (storage .entry))) .map)) ⌝ }
-{
-    match pending {
-        Pending::Nothing => live_size(setup, map, pointer),
-        Pending::Delivery(from, n, _) => {
-            if pointer == from {
-                return n;
-            }
-            live_size(setup, map, pointer)
-        }
-    }
-}
-
-// The link from what stands at a place, by one field, through what is pending.
-fn link_from(
-    b: u64,
-    bugs: &[u64; 26],
-    definitions: [Definition; 36],
-    setup: SetUp,
-    map: &[u8],
-    storage: &[u64],
-    pending: Pending,
-    place: Location,
-    field: FieldName,
+    name: FieldName,
 ) -> Linked
-    requires { ⌜ Readable b (seen (now bugs) definitions setup (now map) (now storage))
-        × Ahead b (seen (now bugs) definitions setup (now map) (now storage)) pending × Reached b (setup .s1) (now storage) place
-        × (field .0 < 36) ⌝ }
-    ensures { λ r. ⌜ toldLinked r ≡ told (linkOf (through b pending
-        (seen (now (bugs .entry)) definitions setup (now (map .entry)) (now (storage .entry))))
-        (contents b (through b pending (seen (now (bugs .entry)) definitions setup (now (map .entry)) (now (storage .entry))))
-        place) field) ⌝ }
+    requires { ⌜ Readable b (seen [] (now fields) setup (now map) (now storage)) × (name .0 < 36) ⌝ }
+    ensures { λ r. ⌜ toldLinked r ≡ told (standing (contentsOf b [] (setup .s1) (now (storage .entry)))
+        (linkOf (seen [] (now (fields .entry)) setup (now (map .entry)) (now (storage .entry))) pointer name)) ⌝ }
 {
-    let pointer = contents_through(b, bugs, definitions, setup, map, storage, pending, place);
-    let size = size_through(b, bugs, definitions, setup, map, storage, pending, pointer);
-    let i = field.0 as usize;
-    link(definitions[i], size, pointer)
+    let size = live_size(setup, map, pointer);
+    let i = name.0 as usize;
+    link(b, setup.s1, storage, unpack(fields[i]), size, pointer)
 }
 
-// Where a reference leads through what is pending: from its bug along the fields, up to the first link that is refused.
+// The size of the live block at an address, 0 if there is none, once n words at an address are delivered.
+fn size_after(setup: SetUp, map: &[u8], from: u64, n: u64, pointer: u64) -> u64
+    requires { ⌜ (words setup % sizeOf (top (setup .d)) ≡ 0) × (keeps setup (now map) ≡ true) ⌝ }
+    ensures { λ r. ⌜ r ≡ cond (eqb from pointer) n (sizeAt pointer (live setup (now (map .entry)))) ⌝ }
+{
+    if pointer == from {
+        return n;
+    }
+    live_size(setup, map, pointer)
+}
+
+// Where a reference leads once a block is delivered: from its bug along the fields, up to the first link that is refused.
 pub fn locate_through(
     b: u64,
     bugs: &[u64; 26],
-    definitions: [Definition; 36],
+    fields: &[u32; 36],
     setup: SetUp,
     map: &[u8],
     storage: &[u64],
-    pending: Pending,
-    operand: Pair,
+    ahead: Delivery,
+    value: u64,
 ) -> Linked
-    requires { ⌜ Readable b (seen (now bugs) definitions setup (now map) (now storage))
-        × Ahead b (seen (now bugs) definitions setup (now map) (now storage)) pending × (isReference (operand .value) ≡ true) ⌝ }
-    ensures { λ r. ⌜ toldLinked r ≡ told (locationOf b (through b pending
-        (seen (now (bugs .entry)) definitions setup (now (map .entry)) (now (storage .entry)))) operand) ⌝ }
+    requires { ⌜ Readable b (seen (now bugs) (now fields) setup (now map) (now storage))
+        × Deliverable b (seen (now bugs) (now fields) setup (now map) (now storage)) (ahead .address) (ahead .size) (ahead .at)
+        × (isReference value ≡ true) ⌝ }
+    ensures { λ r. ⌜ toldLinked r ≡ told (standing (contents b (through b ahead
+        (seen (now (bugs .entry)) (now (fields .entry)) setup (now (map .entry)) (now (storage .entry)))))
+        (leads b (through b ahead (seen (now (bugs .entry)) (now (fields .entry)) setup (now (map .entry)) (now (storage .entry))))
+        value)) ⌝ }
 {
-    let found = names_in(operand.value);
-    let fields = found.fields;
-    let bug = found.bug;
-    let mut at = Location::Bug(bug);
-    let mut i = found.from;
-    while i < 5 {
-        let answer = link_from(
-            b,
-            bugs,
-            definitions,
-            setup,
-            map,
-            storage,
-            pending,
-            at,
-            fields[i],
-        );
+    let mut bits = bits_after(value);
+    let bug = bug_before(value, bits);
+    let i = bug.0 as usize;
+    let mut spot = Spot {
+        at: Location::Bug(bug),
+        holds: bugs[i],
+    };
+    while 0 < bits {
+        bits -= 6;
+        let name = name_before(value, bits);
+        let j = name.0 as usize;
+        let pointer = spot.holds;
+        let size = size_after(setup, map, ahead.address, ahead.size, pointer);
+        let answer = link(b, setup.s1, storage, unpack(fields[j]), size, pointer);
         let Linked::At(next) = answer else {
             return answer;
         };
-        at = next;
-        i += 1;
+        let at = next.at;
+        spot = Spot {
+            at: at,
+            holds: contents_after(b, bugs, setup.s1, storage, ahead, at),
+        };
     }
-    Linked::At(at)
+    Linked::At(spot)
+}
+
+// Where a reference of more than a bug leads: from its bug along the fields, up to the first link that is refused.
+fn follow(
+    b: u64,
+    bugs: &[u64; 26],
+    fields: &[u32; 36],
+    setup: SetUp,
+    map: &[u8],
+    storage: &[u64],
+    value: u64,
+) -> Linked
+    requires { ⌜ Readable b (seen (now bugs) (now fields) setup (now map) (now storage)) × (isReference value ≡ true)
+        × (64 ≤ value) ⌝ }
+    ensures { λ r. ⌜ toldLinked r ≡ told
+        (standing (contents b (seen (now (bugs .entry)) (now (fields .entry)) setup (now (map .entry)) (now (storage .entry))))
+        (leads b (seen (now (bugs .entry)) (now (fields .entry)) setup (now (map .entry)) (now (storage .entry))) value)) ⌝ }
+{
+    if value < 4096 {
+        let bug = bug_before(value, 6);
+        let i = bug.0 as usize;
+        return link_to(
+            b,
+            fields,
+            setup,
+            map,
+            storage,
+            bugs[i],
+            name_before(value, 0),
+        );
+    }
+    let mut left = bits_after(value);
+    let bug = bug_before(value, left);
+    let i = bug.0 as usize;
+    let mut spot = Spot {
+        at: Location::Bug(bug),
+        holds: bugs[i],
+    };
+    while 0 < left {
+        left -= 6;
+        let name = name_before(value, left);
+        let answer = link_to(b, fields, setup, map, storage, spot.holds, name);
+        let Linked::At(next) = answer else {
+            return answer;
+        };
+        spot = next;
+    }
+    Linked::At(spot)
 }
 
 // Where a reference leads: that of a bug alone is found at once.
 pub fn locate(
     b: u64,
     bugs: &[u64; 26],
-    definitions: [Definition; 36],
+    fields: &[u32; 36],
     setup: SetUp,
     map: &[u8],
     storage: &[u64],
     operand: Pair,
 ) -> Linked
-    requires { ⌜ Readable b (seen (now bugs) definitions setup (now map) (now storage)) × (isReference (operand .value) ≡ true) ⌝ }
-    ensures { λ r. ⌜ toldLinked r ≡ told (locationOf b (seen (now (bugs .entry)) definitions setup (now (map .entry))
-        (now (storage .entry))) operand) ⌝ }
+    requires { ⌜ Readable b (seen (now bugs) (now fields) setup (now map) (now storage)) × (isReference (operand .value) ≡ true) ⌝ }
+    ensures { λ r. ⌜ toldLinked r ≡ told
+        (standing (contents b (seen (now (bugs .entry)) (now (fields .entry)) setup (now (map .entry)) (now (storage .entry))))
+        (locationOf b (seen (now (bugs .entry)) (now (fields .entry)) setup (now (map .entry)) (now (storage .entry))) operand)) ⌝ }
 {
     if operand.value < 64 {
-        return Linked::At(Location::Bug(BugLetter((operand.value - 11) as u8)));
+        let bug = bug_before(operand.value, 0);
+        let i = bug.0 as usize;
+        let spot = Spot {
+            at: Location::Bug(bug),
+            holds: bugs[i],
+        };
+        return Linked::At(spot);
     }
-    locate_through(
-        b,
-        bugs,
-        definitions,
-        setup,
-        map,
-        storage,
-        Pending::Nothing,
-        operand,
-    )
+    follow(b, bugs, fields, setup, map, storage, operand.value)
 }
 
 // The bits of a location.
@@ -299,30 +294,38 @@ pub fn width_of(b: u64, at: Location) -> u64
 {
     match at {
         Location::Bug(_) => b,
-        Location::Field(_, left, right) => width(left as u64, right as u64),
+        Location::Field(_, left, right) => width(left, right),
     }
 }
 
-// An operand that is used: a literal, or what stands where a reference leads.
+// An operand that is used: a literal, or what stands where a reference leads; a bug's word is found at once.
 pub fn operand(
     b: u64,
     bugs: &[u64; 26],
-    definitions: [Definition; 36],
+    fields: &[u32; 36],
     setup: SetUp,
     map: &[u8],
     storage: &[u64],
     p: Pair,
 ) -> Got
-    requires { ⌜ Readable b (seen (now bugs) definitions setup (now map) (now storage)) × Taken b p ⌝ }
-    ensures { λ r. ⌜ toldGot r ≡ told (operandOf b (seen (now (bugs .entry)) definitions setup (now (map .entry))
+    requires { ⌜ Readable b (seen (now bugs) (now fields) setup (now map) (now storage)) × Taken b p ⌝ }
+    ensures { λ r. ⌜ toldGot r ≡ told (operandOf b (seen (now (bugs .entry)) (now (fields .entry)) setup (now (map .entry))
         (now (storage .entry))) p) ⌝ }
 {
     if p.form == 1 {
         return Got::Value(p.value, b);
     }
-    let answer = locate(b, bugs, definitions, setup, map, storage, p);
+    if p.value < 64 {
+        let bug = bug_before(p.value, 0);
+        let i = bug.0 as usize;
+        return Got::Value(bugs[i], b);
+    }
+    let answer = follow(b, bugs, fields, setup, map, storage, p.value);
     match answer {
-        Linked::At(at) => Got::Value(contents(b, bugs, setup.s1, storage, at), width_of(b, at)),
+        Linked::At(spot) => {
+            let at = spot.at;
+            Got::Value(spot.holds, width_of(b, at))
+        }
         Linked::Stopped(r) => Got::Stopped(r),
     }
 }

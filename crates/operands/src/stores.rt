@@ -36,7 +36,7 @@ pub fn store(b: u64, bugs: &mut [u64; 26], s1: u16, storage: &mut [u64], at: Loc
         }
         Location::Field(address, left, right) => {
             let offset = (address - s1 as u64) as usize;
-            storage[offset] = store_field(b, left as u64, right as u64, storage[offset], v);
+            storage[offset] = store_field(b, left, right, storage[offset], v);
         }
     }
 }

@@ -39,8 +39,8 @@ use Rattle.machine.proofs.Checks.{need-yes, need-no, bind-yes, bind-no, cond-ye
 use Rattle.machine.proofs.Keeps.{run-fits}
 use Rattle.operands.specs.declared.Linked.{Linked}
 use Rattle.operands.specs.declared.Linked.the-variants as links
-use Rattle.operands.specs.declared.Pending.the-variants.{Delivery}
-use Rattle.operands.specs.Reading.{valued, toldLinked, Readable, Reached}
+use Rattle.operands.specs.declared.Spot.{Spot}
+use Rattle.operands.specs.Reading.{leads, standing, valued, toldLinked, Readable, Reached}
 use Rattle.operands.specs.Storing.{bugsStored}
 use Rattle.operands.specs.Through.{through, Deliverable}
 use Rattle.operands.proofs.Storing.{bugs-below}
@@ -96,16 +96,18 @@ module _ (b : ℕ) (w : World) (third : Pair) (a : Location) (address n : ℕ) w
   delivers-one z = rw (eq-eqb _ _ z)
 
   module _ (some : third .form ≡ 0 → ⊥) {bugs : List ℕ} (after : bugs ≡ bugsStored b a address (w .bugs)) {answer : Linked}
-      (is : toldLinked answer ≡ told (locate b (through b (Delivery address n a)
-      (record { bugs = bugs; definitions = w .definitions; setup = w .setup; map = w .map; storage = w .storage })) third)) where
-    pub delivers-two : {a2 : Location} → answer ≡ links.At a2 → {old : ℕ} → old ≡ contents b w a
-        → delivering b w third a address n ≡ passed (DeliverTwo address n a a2 old)
-    unfolding delivering afterDelivery _>>=_
-    delivers-two to same = rw (ne-eqb _ _ some, ← after, at-is _ is to, same)
+      (is : toldLinked answer ≡ told (standing (contents b (through b (record { address = address; size = n; at = a })
+      (record { bugs = bugs; definitions = w .definitions; setup = w .setup; map = w .map; storage = w .storage })))
+      (leads b (through b (record { address = address; size = n; at = a })
+      (record { bugs = bugs; definitions = w .definitions; setup = w .setup; map = w .map; storage = w .storage })) (third .value)))) where
+    pub delivers-two : {a2 : Spot} → answer ≡ links.At a2 → {old : ℕ} → old ≡ contents b w a
+        → delivering b w third a address n ≡ passed (DeliverTwo address n a (a2 .at) old)
+    unfolding delivering afterDelivery leads locate _>>=_
+    delivers-two to same = rw (ne-eqb _ _ some, ← after, at-is _ _ is to, same)
 
     pub delivers-stopped : {r : Refusal} → answer ≡ links.Stopped r → delivering b w third a address n ≡ refused r
-    unfolding delivering afterDelivery _>>=_
-    delivers-stopped to = rw (ne-eqb _ _ some, ← after, stopped-is _ is to)
+    unfolding delivering afterDelivery leads locate _>>=_
+    delivers-stopped to = rw (ne-eqb _ _ some, ← after, stopped-is _ _ is to)
 
 -- 3 get, by its checks
 module _ (b : ℕ) (w : World) (third : Pair) (a : Location) (n : ℕ) where

@@ -20,7 +20,6 @@ use Rattle.machine.specs.Answer.{Checked, refused, passed, _>>=_, _>>_, need}
 use Rattle.machine.specs.Sound.{inRange}
 use Rattle.machine.specs.Locate.{World, Value, contents, read, locate, operand}
 use Rattle.machine.specs.Operations.{Operation, own, computes, operationOf, asked, lowestRun, liesIn, foundCharacters, bytesTaken}
-use Rattle.operands.specs.declared.Pending.the-variants.{Delivery}
 use Rattle.operands.specs.Storing.{bugsStored}
 use Rattle.operands.specs.Through.{through}
 use Rattle.operations.specs.declared.Counts.{Counts}
@@ -58,7 +57,7 @@ sizeOf w a = sizeAt a (live (w .setup) (w .map))
 -- what references read after a delivery, its address stored in a
 unfoldable pub afterDelivery : ℕ → ℕ → ℕ → Location → World → World
 afterDelivery b address n a w =
-    through b (Delivery address n a)
+    through b (record { address = address; size = n; at = a })
     (record { bugs = bugsStored b a address (w .bugs); definitions = w .definitions; setup = w .setup; map = w .map; storage = w .storage })
 
 -- 3 get, once a run is found: a2 is located after the delivery

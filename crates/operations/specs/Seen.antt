@@ -3,7 +3,6 @@ use Prim.Native.Nat.{ℕ, _+_, _≤_}
 use mathlib.Core.List.{List}
 use lib.ListN.{length}
 use Rattle.block.specs.declared.SetUp.{SetUp}
-use Rattle.machine.specs.declared.Definition.{Definition}
 use Rattle.machine.specs.declared.Core.{Core}
 use Rattle.machine.specs.Sound.{Lent, Engine}
 use Rattle.machine.specs.Locate.{World, world}
@@ -19,9 +18,9 @@ pub record Sight : Type 0 where
   pub room : ℕ
 
 -- of lent slices
-abbrev pub sees : List ℕ → List Definition → SetUp → List ℕ → List ℕ → Counts → List ℕ → List ℕ → ℕ → Sight
-sees bugs definitions setup map storage counts entries input room =
-    record { world = seen bugs definitions setup map storage; counts = counts; entries = entries; input = input; room = room }
+abbrev pub sees : List ℕ → List ℕ → SetUp → List ℕ → List ℕ → Counts → List ℕ → List ℕ → ℕ → Sight
+sees bugs fields setup map storage counts entries input room =
+    record { world = seen bugs fields setup map storage; counts = counts; entries = entries; input = input; room = room }
 
 -- of an engine
 abbrev pub countsOf : Core → Counts

@@ -7,6 +7,7 @@ ghost use Rattle.table.specs.Reference.{isReference};
 ghost use Rattle.operands.specs.Reading.{seen, valued, Readable, Reached, Taken};
 ghost use Rattle.operations.specs.Plans.{setUpPlan, defining, definePlan, taking, storing, acting, twoPlan, swapPlan, printing, printPlan, contentsPlan, recordPlan, valueBy, Computes, Acts};
 ghost use Rattle.machine.specs.Answer.{told};
+ghost use Rattle.machine.specs.Locate.{contents};
 ghost use Rattle.operations.specs.Answers.{toldPlanned, planned};
 use crate::Action;
 use crate::Computed;
@@ -26,7 +27,7 @@ use machine::Place;
 use machine::Refusal;
 use operands::Got;
 use operands::Linked;
-use operands::references::contents;
+use operands::Spot;
 use operands::references::locate;
 use operands::references::operand;
 use operands::references::width_of;
@@ -76,31 +77,31 @@ pub fn plan_define(
     b: u64,
     to: Place,
     bugs: &[u64; 26],
-    definitions: [Definition; 36],
+    fields: &[u32; 36],
     setup: SetUp,
     map: &[u8],
     storage: &[u64],
     row: Row,
 ) -> Planned
-    requires { ⌜ Readable b (seen (now bugs) definitions setup (now map) (now storage)) × Taken b (row .first)
+    requires { ⌜ Readable b (seen (now bugs) (now fields) setup (now map) (now storage)) × Taken b (row .first)
         × Taken b (row .second) × Taken b (row .third) × (row .name < 36) ⌝ }
     ensures { λ r. ⌜ toldPlanned r ≡ told (planned to
-        (definePlan b (seen (now (bugs .entry)) definitions setup (now (map .entry)) (now (storage .entry))) row)) ⌝ }
+        (definePlan b (seen (now (bugs .entry)) (now (fields .entry)) setup (now (map .entry)) (now (storage .entry))) row)) ⌝ }
 {
     let first = row.first;
     let second = row.second;
     let third = row.third;
-    let x = operand(b, bugs, definitions, setup, map, storage, first);
+    let x = operand(b, bugs, fields, setup, map, storage, first);
     let word = match x {
         Got::Value(v, _) => v,
         Got::Stopped(r) => return Planned::Stopped(r),
     };
-    let y = operand(b, bugs, definitions, setup, map, storage, second);
+    let y = operand(b, bugs, fields, setup, map, storage, second);
     let left = match y {
         Got::Value(v, _) => v,
         Got::Stopped(r) => return Planned::Stopped(r),
     };
-    let z = operand(b, bugs, definitions, setup, map, storage, third);
+    let z = operand(b, bugs, fields, setup, map, storage, third);
     match z {
         Got::Value(right, _) => define(b, to, row.name, word, left, right),
         Got::Stopped(r) => Planned::Stopped(r),
@@ -147,46 +148,32 @@ fn act(
     to: Place,
     code: u64,
     bugs: &[u64; 26],
-    definitions: [Definition; 36],
+    fields: &[u32; 36],
     setup: SetUp,
     map: &[u8],
     storage: &[u64],
     taken: usize,
     input: &[u8],
     third: Pair,
-    at: Location,
+    a: Spot,
     x: u64,
     xw: u64,
 ) -> Planned
-    requires { ⌜ Readable b (seen (now bugs) definitions setup (now map) (now storage)) × (taken ≤ length (now input))
-        × Reached b (setup .s1) (now storage) at × (x < 2 ^ b) × (xw ≤ b) × Acts code
-        × ((third .form ≡ 0 → ⊥) → isReference (third .value) ≡ true) ⌝ }
+    requires { ⌜ Readable b (seen (now bugs) (now fields) setup (now map) (now storage)) × (taken ≤ length (now input))
+        × Reached b (setup .s1) (now storage) (a .at) × (x < 2 ^ b) × (xw ≤ b) × Acts code
+        × ((third .form ≡ 0 → ⊥) → isReference (third .value) ≡ true)
+        × (a .holds ≡ contents b (seen (now bugs) (now fields) setup (now map) (now storage)) (a .at)) ⌝ }
     ensures { λ r. ⌜ toldPlanned r ≡ told (planned to
-        (acting code b (seen (now (bugs .entry)) definitions setup (now (map .entry)) (now (storage .entry))) taken
-        (now (input .entry)) third at (valued x xw))) ⌝ }
+        (acting code b (seen (now (bugs .entry)) (now (fields .entry)) setup (now (map .entry)) (now (storage .entry))) taken
+        (now (input .entry)) third (a .at) (valued x xw))) ⌝ }
 {
+    let at = a.at;
     match code {
-        3 => get(b, to, bugs, definitions, setup, map, storage, third, at, x),
-        4 => free(
-            to,
-            setup,
-            map,
-            at,
-            contents(b, bugs, setup.s1, storage, at),
-            x,
-        ),
+        3 => get(b, to, bugs, fields, setup, map, storage, third, a, x),
+        4 => free(to, setup, map, at, a.holds, x),
         5 => duplicate(to, setup, map, at, x),
         24 => take(b, to, at, taken, input, x),
-        _ => make(
-            b,
-            to,
-            code,
-            at,
-            contents(b, bugs, setup.s1, storage, at),
-            width_of(b, at),
-            x,
-            xw,
-        ),
+        _ => make(b, to, code, at, a.holds, width_of(b, at), x, xw),
     }
 }
 
@@ -195,7 +182,7 @@ pub fn plan_two(
     b: u64,
     to: Place,
     bugs: &[u64; 26],
-    definitions: [Definition; 36],
+    fields: &[u32; 36],
     setup: SetUp,
     map: &[u8],
     storage: &[u64],
@@ -203,36 +190,36 @@ pub fn plan_two(
     input: &[u8],
     row: Row,
 ) -> Planned
-    requires { ⌜ Readable b (seen (now bugs) definitions setup (now map) (now storage)) × (taken ≤ length (now input))
+    requires { ⌜ Readable b (seen (now bugs) (now fields) setup (now map) (now storage)) × (taken ≤ length (now input))
         × Acts (row .code) × (isReference (row .first .value) ≡ true) × Taken b (row .second)
         × ((row .third .form ≡ 0 → ⊥) → isReference (row .third .value) ≡ true) ⌝ }
     ensures { λ r. ⌜ toldPlanned r ≡ told (planned to
-        (twoPlan b (seen (now (bugs .entry)) definitions setup (now (map .entry)) (now (storage .entry))) taken (now (input .entry))
-        row)) ⌝ }
+        (twoPlan b (seen (now (bugs .entry)) (now (fields .entry)) setup (now (map .entry)) (now (storage .entry)))
+        taken (now (input .entry)) row)) ⌝ }
 {
     let first = row.first;
     let second = row.second;
     let third = row.third;
-    let found = locate(b, bugs, definitions, setup, map, storage, first);
-    let at = match found {
+    let found = locate(b, bugs, fields, setup, map, storage, first);
+    let a = match found {
         Linked::At(x) => x,
         Linked::Stopped(r) => return Planned::Stopped(r),
     };
-    let got = operand(b, bugs, definitions, setup, map, storage, second);
+    let got = operand(b, bugs, fields, setup, map, storage, second);
     match got {
         Got::Value(x, xw) => act(
             b,
             to,
             row.code,
             bugs,
-            definitions,
+            fields,
             setup,
             map,
             storage,
             taken,
             input,
             third,
-            at,
+            a,
             x,
             xw,
         ),
@@ -245,34 +232,32 @@ pub fn plan_swap(
     b: u64,
     to: Place,
     bugs: &[u64; 26],
-    definitions: [Definition; 36],
+    fields: &[u32; 36],
     setup: SetUp,
     map: &[u8],
     storage: &[u64],
     row: Row,
 ) -> Planned
-    requires { ⌜ Readable b (seen (now bugs) definitions setup (now map) (now storage)) × (isReference (row .first .value) ≡ true)
+    requires { ⌜ Readable b (seen (now bugs) (now fields) setup (now map) (now storage)) × (isReference (row .first .value) ≡ true)
         × (isReference (row .second .value) ≡ true) ⌝ }
     ensures { λ r. ⌜ toldPlanned r ≡ told (planned to
-        (swapPlan b (seen (now (bugs .entry)) definitions setup (now (map .entry)) (now (storage .entry))) row)) ⌝ }
+        (swapPlan b (seen (now (bugs .entry)) (now (fields .entry)) setup (now (map .entry)) (now (storage .entry))) row)) ⌝ }
 {
     let first = row.first;
     let second = row.second;
-    let found = locate(b, bugs, definitions, setup, map, storage, first);
+    let found = locate(b, bugs, fields, setup, map, storage, first);
     let a = match found {
         Linked::At(x) => x,
         Linked::Stopped(r) => return Planned::Stopped(r),
     };
-    let other = locate(b, bugs, definitions, setup, map, storage, second);
+    let other = locate(b, bugs, fields, setup, map, storage, second);
     let c = match other {
         Linked::At(x) => x,
         Linked::Stopped(r) => return Planned::Stopped(r),
     };
-    let v = contents(b, bugs, setup.s1, storage, c);
-    Planned::Does(
-        to,
-        Action::StoreTwo(a, v, c, contents(b, bugs, setup.s1, storage, a)),
-    )
+    let at = a.at;
+    let other_at = c.at;
+    Planned::Does(to, Action::StoreTwo(at, c.holds, other_at, a.holds))
 }
 
 // 25 print, once its operands are taken: 10, 21.
@@ -294,7 +279,7 @@ pub fn plan_print(
     b: u64,
     to: Place,
     bugs: &[u64; 26],
-    definitions: [Definition; 36],
+    fields: &[u32; 36],
     setup: SetUp,
     map: &[u8],
     storage: &[u64],
@@ -302,19 +287,20 @@ pub fn plan_print(
     room: usize,
     row: Row,
 ) -> Planned
-    requires { ⌜ Readable b (seen (now bugs) definitions setup (now map) (now storage)) × (written ≤ room) × Taken b (row .first)
+    requires { ⌜ Readable b (seen (now bugs) (now fields) setup (now map) (now storage)) × (written ≤ room) × Taken b (row .first)
         × Taken b (row .second) ⌝ }
     ensures { λ r. ⌜ toldPlanned r ≡ told (planned to
-        (printPlan b (seen (now (bugs .entry)) definitions setup (now (map .entry)) (now (storage .entry))) written room row)) ⌝ }
+        (printPlan b (seen (now (bugs .entry)) (now (fields .entry)) setup (now (map .entry)) (now (storage .entry)))
+        written room row)) ⌝ }
 {
     let first = row.first;
     let second = row.second;
-    let x = operand(b, bugs, definitions, setup, map, storage, first);
+    let x = operand(b, bugs, fields, setup, map, storage, first);
     let n = match x {
         Got::Value(v, _) => v,
         Got::Stopped(r) => return Planned::Stopped(r),
     };
-    let y = operand(b, bugs, definitions, setup, map, storage, second);
+    let y = operand(b, bugs, fields, setup, map, storage, second);
     match y {
         Got::Value(v, width) => print(to, written, room, n, v, width),
         Got::Stopped(r) => Planned::Stopped(r),
@@ -326,7 +312,7 @@ pub fn plan_contents(
     b: u64,
     to: Place,
     bugs: &[u64; 26],
-    definitions: [Definition; 36],
+    fields: &[u32; 36],
     setup: SetUp,
     map: &[u8],
     storage: &[u64],
@@ -334,15 +320,15 @@ pub fn plan_contents(
     entries: &[u64; 128],
     row: Row,
 ) -> Planned
-    requires { ⌜ Readable b (seen (now bugs) definitions setup (now map) (now storage)) × (count ≤ 128)
+    requires { ⌜ Readable b (seen (now bugs) (now fields) setup (now map) (now storage)) × (count ≤ 128)
         × (isReference (row .first .value) ≡ true) ⌝ }
     ensures { λ r. ⌜ toldPlanned r ≡ told (planned to
-        (contentsPlan b (seen (now (bugs .entry)) definitions setup (now (map .entry)) (now (storage .entry))) count
+        (contentsPlan b (seen (now (bugs .entry)) (now (fields .entry)) setup (now (map .entry)) (now (storage .entry))) count
         (now (entries .entry)) row)) ⌝ }
 {
     let first = row.first;
-    let found = locate(b, bugs, definitions, setup, map, storage, first);
-    let at = match found {
+    let found = locate(b, bugs, fields, setup, map, storage, first);
+    let a = match found {
         Linked::At(x) => x,
         Linked::Stopped(r) => return Planned::Stopped(r),
     };
@@ -350,12 +336,13 @@ pub fn plan_contents(
         if 128 <= count {
             return Planned::Stopped(Refusal::StackFull);
         }
-        return Planned::Does(to, Action::Save(contents(b, bugs, setup.s1, storage, at)));
+        return Planned::Does(to, Action::Save(a.holds));
     }
     if count == 0 {
         return Planned::Stopped(Refusal::StackEmpty);
     }
     let i = count - 1;
+    let at = a.at;
     Planned::Does(to, Action::Restore(at, entries[i]))
 }
 

@@ -11,6 +11,7 @@ ghost use Rattle.operands.specs.Reading.{seen, Readable, Reached};
 ghost use Rattle.operands.specs.Through.{Deliverable};
 ghost use Rattle.operations.specs.Plans.{delivering, getting, freeing, duplicating};
 ghost use Rattle.machine.specs.Answer.{told};
+ghost use Rattle.machine.specs.Locate.{contents};
 ghost use Rattle.operations.specs.Answers.{toldPlanned, planned, toldFetched, fetched};
 use crate::Action;
 use crate::Fetched;
@@ -22,13 +23,12 @@ use buddy::section::lowest_run;
 use buddy::sizes::level_of;
 use buddy::sizes::size_of;
 use buddy::sizes::top_of;
-use machine::Definition;
 use machine::Location;
 use machine::Place;
 use machine::Refusal;
+use operands::Delivery;
 use operands::Linked;
-use operands::Pending;
-use operands::references::contents;
+use operands::Spot;
 use operands::references::locate_through;
 use operands::stores::bugs_after;
 use table::Pair;
@@ -50,31 +50,39 @@ fn deliver(
     b: u64,
     to: Place,
     bugs: &[u64; 26],
-    definitions: [Definition; 36],
+    fields: &[u32; 36],
     setup: SetUp,
     map: &[u8],
     storage: &[u64],
     third: Pair,
-    at: Location,
+    a: Spot,
     address: u64,
     n: u64,
 ) -> Planned
-    requires { ⌜ Readable b (seen (now bugs) definitions setup (now map) (now storage))
-        × Deliverable b (seen (now bugs) definitions setup (now map) (now storage)) address n at
-        × ((third .form ≡ 0 → ⊥) → isReference (third .value) ≡ true) ⌝ }
+    requires { ⌜ Readable b (seen (now bugs) (now fields) setup (now map) (now storage))
+        × Deliverable b (seen (now bugs) (now fields) setup (now map) (now storage)) address n (a .at)
+        × ((third .form ≡ 0 → ⊥) → isReference (third .value) ≡ true)
+        × (a .holds ≡ contents b (seen (now bugs) (now fields) setup (now map) (now storage)) (a .at)) ⌝ }
     ensures { λ r. ⌜ toldPlanned r ≡ told (planned to
-        (delivering b (seen (now (bugs .entry)) definitions setup (now (map .entry)) (now (storage .entry))) third at address
-        n)) ⌝ }
+        (delivering b (seen (now (bugs .entry)) (now (fields .entry)) setup (now (map .entry)) (now (storage .entry)))
+        third (a .at) address n)) ⌝ }
 {
+    let at = a.at;
     if third.form == 0 {
         return Planned::Does(to, Action::Deliver(address, n, 0, at));
     }
-    let old = contents(b, bugs, setup.s1, storage, at);
     let after = bugs_after(b, bugs, at, address);
-    let pending = Pending::Delivery(address, n, at);
-    let found = locate_through(b, &after, definitions, setup, map, storage, pending, third);
+    let ahead = Delivery {
+        address: address,
+        size: n,
+        at: at,
+    };
+    let found = locate_through(b, &after, fields, setup, map, storage, ahead, third.value);
     match found {
-        Linked::At(a2) => Planned::Does(to, Action::DeliverTwo(address, n, at, a2, old)),
+        Linked::At(second) => {
+            let a2 = second.at;
+            Planned::Does(to, Action::DeliverTwo(address, n, at, a2, a.holds))
+        }
         Linked::Stopped(r) => Planned::Stopped(r),
     }
 }
@@ -84,18 +92,20 @@ pub fn get(
     b: u64,
     to: Place,
     bugs: &[u64; 26],
-    definitions: [Definition; 36],
+    fields: &[u32; 36],
     setup: SetUp,
     map: &[u8],
     storage: &[u64],
     third: Pair,
-    at: Location,
+    a: Spot,
     wanted: u64,
 ) -> Planned
-    requires { ⌜ Readable b (seen (now bugs) definitions setup (now map) (now storage)) × Reached b (setup .s1) (now storage) at
-        × ((third .form ≡ 0 → ⊥) → isReference (third .value) ≡ true) ⌝ }
+    requires { ⌜ Readable b (seen (now bugs) (now fields) setup (now map) (now storage))
+        × Reached b (setup .s1) (now storage) (a .at) × ((third .form ≡ 0 → ⊥) → isReference (third .value) ≡ true)
+        × (a .holds ≡ contents b (seen (now bugs) (now fields) setup (now map) (now storage)) (a .at)) ⌝ }
     ensures { λ r. ⌜ toldPlanned r ≡ told (planned to
-        (getting b (seen (now (bugs .entry)) definitions setup (now (map .entry)) (now (storage .entry))) third at wanted)) ⌝ }
+        (getting b (seen (now (bugs .entry)) (now (fields .entry)) setup (now (map .entry)) (now (storage .entry)))
+        third (a .at) wanted)) ⌝ }
 {
     if wanted == 0 {
         return Planned::Stopped(Refusal::BlockSize);
@@ -109,12 +119,12 @@ pub fn get(
             b,
             to,
             bugs,
-            definitions,
+            fields,
             setup,
             map,
             storage,
             third,
-            at,
+            a,
             address,
             n,
         ),

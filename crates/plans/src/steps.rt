@@ -19,7 +19,6 @@ use crate::places::tests_of;
 use crate::tests::can_use;
 use crate::tests::satisfied;
 use block::SetUp;
-use machine::Definition;
 use machine::Place;
 use machine::Refusal;
 use operations::Action;
@@ -40,18 +39,18 @@ fn plan_tests(
     b: u64,
     line: u16,
     bugs: &[u64; 26],
-    definitions: [Definition; 36],
+    fields: &[u32; 36],
     setup: SetUp,
     map: &[u8],
     storage: &[u64],
     table: &[u64],
     judged: bool,
 ) -> Planned
-    requires { ⌜ Readable b (seen (now bugs) definitions setup (now map) (now storage)) × (lengthFits (now table) ≡ true)
+    requires { ⌜ Readable b (seen (now bugs) (now fields) setup (now map) (now storage)) × (lengthFits (now table) ≡ true)
         × (judged ≡ true → checked b (now table) ≡ Lowest 0) ⌝ }
     ensures { λ r. ⌜ toldPlanned r ≡ told
-        (testsPlan b (seen (now (bugs .entry)) definitions setup (now (map .entry)) (now (storage .entry))) (now (table .entry))
-        line) ⌝ }
+        (testsPlan b (seen (now (bugs .entry)) (now (fields .entry)) setup (now (map .entry)) (now (storage .entry)))
+        (now (table .entry)) line) ⌝ }
 {
     let i = line as usize;
     if !can_use(1, b, table, i, judged) {
@@ -62,7 +61,7 @@ fn plan_tests(
     let held = satisfied(
         b,
         bugs,
-        definitions,
+        fields,
         setup,
         map,
         storage,
@@ -87,7 +86,7 @@ fn plan_stacks(
     b: u64,
     to: Place,
     bugs: &[u64; 26],
-    definitions: [Definition; 36],
+    fields: &[u32; 36],
     setup: SetUp,
     map: &[u8],
     storage: &[u64],
@@ -95,9 +94,10 @@ fn plan_stacks(
     entries: &[u64; 128],
     row: Row,
 ) -> Planned
-    requires { ⌜ Readable b (seen (now bugs) definitions setup (now map) (now storage)) × (counts .contents ≤ 128) × Stacked row ⌝ }
+    requires { ⌜ Readable b (seen (now bugs) (now fields) setup (now map) (now storage))
+        × (counts .contents ≤ 128) × Stacked row ⌝ }
     ensures { λ r. ⌜ toldPlanned r ≡ told (planned to
-        (stackPlan b (seen (now (bugs .entry)) definitions setup (now (map .entry)) (now (storage .entry))) counts
+        (stackPlan b (seen (now (bugs .entry)) (now (fields .entry)) setup (now (map .entry)) (now (storage .entry))) counts
         (now (entries .entry)) row)) ⌝ }
 {
     if 33 < row.code {
@@ -107,7 +107,7 @@ fn plan_stacks(
         b,
         to,
         bugs,
-        definitions,
+        fields,
         setup,
         map,
         storage,
@@ -122,7 +122,7 @@ fn plan_by_code(
     b: u64,
     to: Place,
     bugs: &[u64; 26],
-    definitions: [Definition; 36],
+    fields: &[u32; 36],
     setup: SetUp,
     map: &[u8],
     storage: &[u64],
@@ -132,10 +132,10 @@ fn plan_by_code(
     room: usize,
     row: Row,
 ) -> Planned
-    requires { ⌜ Ready b (sees (now bugs) definitions setup (now map) (now storage) counts (now entries) (now input) room)
+    requires { ⌜ Ready b (sees (now bugs) (now fields) setup (now map) (now storage) counts (now entries) (now input) room)
         × Operates b row ⌝ }
     ensures { λ r. ⌜ toldPlanned r ≡ told (planned to
-        (planOf b (sees (now (bugs .entry)) definitions setup (now (map .entry)) (now (storage .entry)) counts
+        (planOf b (sees (now (bugs .entry)) (now (fields .entry)) setup (now (map .entry)) (now (storage .entry)) counts
         (now (entries .entry)) (now (input .entry)) room) row)) ⌝ }
 {
     let code = row.code;
@@ -144,7 +144,7 @@ fn plan_by_code(
             b,
             to,
             bugs,
-            definitions,
+            fields,
             setup,
             map,
             storage,
@@ -154,13 +154,13 @@ fn plan_by_code(
         );
     }
     match code {
-        2 => plan_define(b, to, bugs, definitions, setup, map, storage, row),
-        7 => plan_swap(b, to, bugs, definitions, setup, map, storage, row),
+        2 => plan_define(b, to, bugs, fields, setup, map, storage, row),
+        7 => plan_swap(b, to, bugs, fields, setup, map, storage, row),
         25 => plan_print(
             b,
             to,
             bugs,
-            definitions,
+            fields,
             setup,
             map,
             storage,
@@ -172,7 +172,7 @@ fn plan_by_code(
             b,
             to,
             bugs,
-            definitions,
+            fields,
             setup,
             map,
             storage,
@@ -188,7 +188,7 @@ fn plan_operation(
     b: u64,
     place: Place,
     bugs: &[u64; 26],
-    definitions: [Definition; 36],
+    fields: &[u32; 36],
     setup: SetUp,
     map: &[u8],
     storage: &[u64],
@@ -199,10 +199,10 @@ fn plan_operation(
     table: &[u64],
     judged: bool,
 ) -> Planned
-    requires { ⌜ Ready b (sees (now bugs) definitions setup (now map) (now storage) counts (now entries) (now input) room)
+    requires { ⌜ Ready b (sees (now bugs) (now fields) setup (now map) (now storage) counts (now entries) (now input) room)
         × (lengthFits (now table) ≡ true) × (judged ≡ true → checked b (now table) ≡ Lowest 0) ⌝ }
     ensures { λ r. ⌜ toldPlanned r ≡ told
-        (operationPlan b (sees (now (bugs .entry)) definitions setup (now (map .entry)) (now (storage .entry)) counts
+        (operationPlan b (sees (now (bugs .entry)) (now (fields .entry)) setup (now (map .entry)) (now (storage .entry)) counts
         (now (entries .entry)) (now (input .entry)) room) (now (table .entry)) place) ⌝ }
 {
     let i = place.row as usize;
@@ -224,7 +224,7 @@ fn plan_operation(
         b,
         to,
         bugs,
-        definitions,
+        fields,
         setup,
         map,
         storage,
@@ -265,7 +265,7 @@ pub fn plan_step(
     b: u64,
     place: Place,
     bugs: &[u64; 26],
-    definitions: [Definition; 36],
+    fields: &[u32; 36],
     setup: SetUp,
     map: &[u8],
     storage: &[u64],
@@ -276,10 +276,10 @@ pub fn plan_step(
     table: &[u64],
     judged: bool,
 ) -> Planned
-    requires { ⌜ Ready b (sees (now bugs) definitions setup (now map) (now storage) counts (now entries) (now input) room)
+    requires { ⌜ Ready b (sees (now bugs) (now fields) setup (now map) (now storage) counts (now entries) (now input) room)
         × (lengthFits (now table) ≡ true) × (judged ≡ true → checked b (now table) ≡ Lowest 0) ⌝ }
     ensures { λ r. ⌜ toldPlanned r ≡ told
-        (stepPlan b (sees (now (bugs .entry)) definitions setup (now (map .entry)) (now (storage .entry)) counts
+        (stepPlan b (sees (now (bugs .entry)) (now (fields .entry)) setup (now (map .entry)) (now (storage .entry)) counts
         (now (entries .entry)) (now (input .entry)) room) (now (table .entry)) place) ⌝ }
 {
     let kind = place.kind;
@@ -288,7 +288,7 @@ pub fn plan_step(
             b,
             place.line,
             bugs,
-            definitions,
+            fields,
             setup,
             map,
             storage,
@@ -299,7 +299,7 @@ pub fn plan_step(
             b,
             place,
             bugs,
-            definitions,
+            fields,
             setup,
             map,
             storage,

@@ -12,7 +12,6 @@ ghost use Rattle.plans.specs.Answers.{toldTested, toldSettled};
 use crate::Settled;
 use crate::Tested;
 use block::SetUp;
-use machine::Definition;
 use machine::Refusal;
 use operands::Got;
 use operands::references::operand;
@@ -71,7 +70,7 @@ fn compared(b: u64, code: u64, c: u64, cd: u64) -> bool
 fn test_at(
     b: u64,
     bugs: &[u64; 26],
-    definitions: [Definition; 36],
+    fields: &[u32; 36],
     setup: SetUp,
     map: &[u8],
     storage: &[u64],
@@ -79,11 +78,11 @@ fn test_at(
     judged: bool,
     r: u64,
 ) -> Tested
-    requires { ⌜ Readable b (seen (now bugs) definitions setup (now map) (now storage))
+    requires { ⌜ Readable b (seen (now bugs) (now fields) setup (now map) (now storage))
         × (judged ≡ true → checked b (now table) ≡ Lowest 0) ⌝ }
     ensures { λ x. ⌜ toldTested x ≡ told
-        (testing b (now (table .entry)) (seen (now (bugs .entry)) definitions setup (now (map .entry)) (now (storage .entry)))
-        r) ⌝ }
+        (testing b (now (table .entry))
+        (seen (now (bugs .entry)) (now (fields .entry)) setup (now (map .entry)) (now (storage .entry))) r) ⌝ }
 {
     let i = r as usize;
     if !can_use(2, b, table, i, judged) {
@@ -92,12 +91,12 @@ fn test_at(
     let row = row_at(table, i);
     let first = row.first;
     let second = row.second;
-    let x = operand(b, bugs, definitions, setup, map, storage, first);
+    let x = operand(b, bugs, fields, setup, map, storage, first);
     let c = match x {
         Got::Value(v, _) => v,
         Got::Stopped(q) => return Tested::Stopped(q),
     };
-    let y = operand(b, bugs, definitions, setup, map, storage, second);
+    let y = operand(b, bugs, fields, setup, map, storage, second);
     match y {
         Got::Value(cd, _) => Tested::Outcome(compared(b, row.code, c, cd), row.next),
         Got::Stopped(q) => Tested::Stopped(q),
@@ -108,7 +107,7 @@ fn test_at(
 pub fn satisfied(
     b: u64,
     bugs: &[u64; 26],
-    definitions: [Definition; 36],
+    fields: &[u32; 36],
     setup: SetUp,
     map: &[u8],
     storage: &[u64],
@@ -117,10 +116,11 @@ pub fn satisfied(
     mode: u64,
     first: u64,
 ) -> Settled
-    requires { ⌜ Readable b (seen (now bugs) definitions setup (now map) (now storage))
+    requires { ⌜ Readable b (seen (now bugs) (now fields) setup (now map) (now storage))
         × (judged ≡ true → checked b (now table) ≡ Lowest 0) × (1 ≤ rows (now table)) ⌝ }
     ensures { λ x. ⌜ toldSettled x ≡ told
-        (satisfiedBy b (now (table .entry)) (seen (now (bugs .entry)) definitions setup (now (map .entry)) (now (storage .entry)))
+        (satisfiedBy b (now (table .entry))
+        (seen (now (bugs .entry)) (now (fields .entry)) setup (now (map .entry)) (now (storage .entry)))
         mode (rows (now (table .entry))) first) ⌝ }
 {
     let mut r = first;
@@ -128,7 +128,7 @@ pub fn satisfied(
         if r == 0 {
             break Settled::Holds(!settled_as(mode));
         }
-        let answer = test_at(b, bugs, definitions, setup, map, storage, table, judged, r);
+        let answer = test_at(b, bugs, fields, setup, map, storage, table, judged, r);
         match answer {
             Tested::Outcome(holds, next) => {
                 if holds == settling(mode) {

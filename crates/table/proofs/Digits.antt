@@ -3,7 +3,7 @@
 use Prim.Native.Nat.{ℕ, zero, suc, _-_, _*_, _/_, _%_, _^_, _≤_, _<_}
 use native.Mathlib.Nat.{div-eq-of-lt, mod-eq-of-lt, pow-suc}
 use native.Mathlib.Omega.{arith}
-use mathlib.Core.Bool.{Bool, true, false, _&&_, cond, and-true}
+use mathlib.Core.Bool.{Bool, true, false, _&&_, cond, and-true, false≢true}
 use mathlib.Core.List.{List, [], _∷_, map}
 use mathlib.Core.Path.{_≡_, refl, ap, sym, _∙_}
 use borrow.Author.Tests.{lt-ltb, le-ltb, ne-eqb, ltb-true, leb-true}
@@ -62,9 +62,15 @@ unfolding isReference digitsOf digitsBefore startsWithBug wellNamed namesBug nam
 reference-zero = refl
 
 -- a reference has six digits at most
-reference-small : (v : ℕ) → isReference v ≡ true → v < 64 ^ 6
+pub reference-small : (v : ℕ) → isReference v ≡ true → v < 64 ^ 6
 unfolding isReference
 reference-small v h = ltb-true v (64 ^ 6) (both-parts (ltb v (64 ^ 6)) (startsWithBug (digitsOf v)) h .0)
+
+-- and is not zero
+pub reference-positive : (v : ℕ) → isReference v ≡ true → 0 < v
+unfolding wellNamed namesBug names
+reference-positive zero h = absurd (false≢true (sym reference-zero ∙ h))
+reference-positive (suc v) h = omega arith
 
 pub is-reference-named : (v : ℕ) → v < 64 ^ 6 → isReference v ≡ wellNamed 5 v
 unfolding isReference digitsOf nameFields
@@ -125,7 +131,7 @@ drop-set (x ∷ xs) zero a h = refl
 drop-set (x ∷ xs) (suc i) a h = drop-set xs i a (omega arith)
 
 -- a digit that names a field is 1 to 36, one that names a bug 11 to 36
-name-range : (lowest x : ℕ) → names lowest x ≡ true → (lowest ≤ x) × (x ≤ 36)
+pub name-range : (lowest x : ℕ) → names lowest x ≡ true → (lowest ≤ x) × (x ≤ 36)
 unfolding names
 name-range lowest x h =
     let (low, high) = both-parts (leb lowest x) (leb x 36) h in

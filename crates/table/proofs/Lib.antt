@@ -3,3 +3,4 @@ pub mod Digits
 pub mod Shapes
 pub mod Formed
 pub mod InRange
+pub mod FromLeft

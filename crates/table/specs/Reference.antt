@@ -1,8 +1,9 @@
 -- References as numbers: a bug, then up to five field names, each name's number plus one a base-64 digit, first name first.
 -- Document 01: "Fields and references" and "The table". Assumes nothing.
-use Prim.Native.Nat.{ℕ, zero, suc, _-_, _/_, _%_, _^_}
+use Prim.Native.Nat.{ℕ, zero, suc, _+_, _-_, _*_, _/_, _%_, _^_, _≤_, _<_}
 use mathlib.Core.Bool.{Bool, true, false, _&&_, cond}
 use mathlib.Core.List.{List, [], _∷_, map}
+use mathlib.Core.Path.{_≡_}
 use lib.Dec.{eqb, leb, ltb}
 use lib.ListN.{drop}
 use Rattle.table.specs.declared.BugLetter.{BugLetter}
@@ -55,3 +56,22 @@ referenceOf v = named (digitsOf v)
 -- the reference that names taken apart stand for
 unfoldable pub namesOf : Names → Reference
 namesOf x = record { bug = x .bug; fields = drop (x .from) (x .fields) }
+
+-- so many bits of v follow its first digit, six for each digit
+pub record Following (v bits : ℕ) : Type 0 where
+  pub count : ℕ
+  pub whole : bits ≡ 6 * count
+  pub low : 2 ^ bits ≤ v
+  pub high : v < 2 ^ (bits + 6)
+
+-- so many bits of v follow a later digit
+pub record FollowingLater (v bits : ℕ) : Type 0 where
+  pub count : ℕ
+  pub whole : bits ≡ 6 * count
+  pub all : ℕ
+  pub later : bits < all
+  pub first : Following v all
+
+-- the field that the digit names which so many bits follow
+unfoldable pub nameAt : ℕ → ℕ → FieldName
+nameAt v bits = record { 0 = v / 2 ^ bits % 64 - 1 }

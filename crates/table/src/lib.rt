@@ -5,7 +5,7 @@ pub mod references;
 pub mod rows;
 
 // A bug's letter: A is 0, Z is 25. It never selects a field's definition.
-pub struct BugLetter(pub u8);
+pub struct BugLetter(pub u64);
 
 // A field's name number: 0 to 9 for the digits, 10 to 35 for A to Z.
 pub struct FieldName(pub u8);

@@ -1,9 +1,9 @@
 // References as numbers: tested, and taken apart into names.
 ghost use mathlib.Core.Bool.{true};
 ghost use mathlib.Core.Path.{_≡_};
+ghost use Prim.Native.Nat.{_<_};
 ghost use lib.ListN.{length};
-ghost use Rattle.table.specs.Reference.{names, isReference};
-ghost use Rattle.table.specs.Reference.{referenceOf, namesOf};
+ghost use Rattle.table.specs.Reference.{names, isReference, referenceOf, namesOf, Following, FollowingLater, nameAt};
 use crate::BugLetter;
 use crate::FieldName;
 use crate::Names;
@@ -46,8 +46,32 @@ pub fn names_in(v: u64) -> Names
         rest = rest / 64;
     }
     Names {
-        bug: BugLetter((rest - 11) as u8),
+        bug: BugLetter(rest - 11),
         from: from,
         fields: fields,
     }
+}
+
+// How many bits of a reference follow its first digit.
+pub fn bits_after(v: u64) -> u64
+    requires { ⌜ isReference v ≡ true ⌝ }
+    ensures { λ r. ⌜ Following v r ⌝ }
+{
+    (63 - u64::leading_zeros(v)) as u64 / 6 * 6
+}
+
+// The bug of a reference, of which so many bits follow it.
+pub fn bug_before(v: u64, bits: u64) -> BugLetter
+    requires { ⌜ isReference v ≡ true × Following v bits ⌝ }
+    ensures { λ r. ⌜ (r ≡ referenceOf v .bug) × (r .0 < 26) ⌝ }
+{
+    BugLetter((v >> bits) - 11)
+}
+
+// The field that a reference names where so many bits follow.
+pub fn name_before(v: u64, bits: u64) -> FieldName
+    requires { ⌜ isReference v ≡ true × FollowingLater v bits ⌝ }
+    ensures { λ r. ⌜ (r ≡ nameAt v bits) × (r .0 < 36) ⌝ }
+{
+    FieldName(((v >> bits) % 64 - 1) as u8)
 }

@@ -1,11 +1,6 @@
 -- `allocations::references::followed` meets its contract. What references rely on: the tests just made. Assumes nothing.
-use native.Mathlib.Omega.{arith}
-use mathlib.Core.Path.{_≡_, sym, _∙_}
-use mathlib.Core.Bool.{true, _||_}
-use mathlib.Core.Logic.{inl}
+use mathlib.Core.Path.{sym, _∙_}
 use borrow.Author.Tests.{not-false}
-use Rattle.operands.proofs.Readable.{numbers, locate-reached}
-use Rattle.operands.proofs.Answers.{at-is}
 use Rattle.allocations.proofs.Readable.{tested-readable}
 use borrow.Author.Needs.{needs}
 use Rattle.allocations.proofs.references.followed.Statement.{statement}
@@ -45,17 +40,7 @@ returns-4 : tie.Need-returns-4
 returns-4 c = search needs
 
 locate-requires : tie.Need-locate-requires
-locate-requires c κs =
-    let at-is-reference = c .before in
-    let at-before = at-is-reference .before in
-    let at-are-words = at-before .before in
-    let at-if2 = at-are-words .before .before in
-    let at-keeps-section = at-if2 .before in
-    let at-if1 = at-keeps-section .before in
-    let at-fits2 = at-if1 .before in
-    let start = at-fits2 .before .before .before .before .before .before in
-    let readable = tested-readable _ _ _ _ _ (sym (at-fits2 .fits2 .ensures) ∙ not-false _ (at-if1 .if1 .left)) (sym (at-keeps-section .keeps-section .ensures) ∙ not-false _ (at-if2 .if2 .left)) (start .pre) (sym (at-are-words .are-words .ensures) ∙ not-false _ (at-before .if3 .left)) in
-    (readable, sym (at-is-reference .is-reference .ensures) ∙ not-false _ (c .if4 .left))
+locate-requires c κs = (tested-readable _ _ _ _ _ (sym (c .before .before .before .before .before .before .before .before .fits2 .ensures) ∙ not-false _ (c .before .before .before .before .before .before .before .if1 .left)) (sym (c .before .before .before .before .before .before .keeps-section .ensures) ∙ not-false _ (c .before .before .before .before .before .if2 .left)) (c .before .before .before .before .before .before .before .before .before .before .before .before .before .before .pre) (sym (c .before .before .before .are-words .ensures) ∙ not-false _ (c .before .before .if3 .left)), sym (c .before .is-reference .ensures) ∙ not-false _ (c .if4 .left))
 
 enum-known-why : tie.Need-enum-known-why
 enum-known-why c = search needs
@@ -63,28 +48,11 @@ enum-known-why c = search needs
 refused-requires : tie.Need-refused-requires
 refused-requires c κs = search needs
 
-enum-known-at : tie.Need-enum-known-at
-enum-known-at c = search needs
+enum-known-spot : tie.Need-enum-known-spot
+enum-known-spot c = search needs
 
 folded-requires : tie.Need-folded-requires
 folded-requires c κs = search needs
-
-contents-requires : tie.Need-contents-requires
-contents-requires c κs =
-    let at-at = c .before .before in
-    let at-before = at-at .before in
-    let at-locate = at-before .before in
-    let at-if4 = at-locate .before in
-    let at-is-reference = at-if4 .before in
-    let at-if3 = at-is-reference .before in
-    let at-are-words = at-if3 .before in
-    let at-if2 = at-are-words .before .before in
-    let at-keeps-section = at-if2 .before in
-    let at-if1 = at-keeps-section .before in
-    let at-fits2 = at-if1 .before in
-    let start = at-fits2 .before .before .before .before .before .before in
-    let readable = tested-readable _ _ _ _ _ (sym (at-fits2 .fits2 .ensures) ∙ not-false _ (at-if1 .if1 .left)) (sym (at-keeps-section .keeps-section .ensures) ∙ not-false _ (at-if2 .if2 .left)) (start .pre) (sym (at-are-words .are-words .ensures) ∙ not-false _ (at-if3 .if3 .left)) in
-    (omega arith, locate-reached _ _ readable _ (sym (at-is-reference .is-reference .ensures) ∙ not-false _ (at-if4 .if4 .left)) _ (at-is _ (at-locate .locate .ensures) (at-at .at .given .1)))
 
 fold-requires : tie.Need-fold-requires
 fold-requires c κs = search needs
@@ -113,9 +81,8 @@ followed-spec =
     locate-requires
     enum-known-why
     refused-requires
-    enum-known-at
+    enum-known-spot
     folded-requires
-    contents-requires
     fold-requires
     returns-5
     returns-6)

@@ -1,6 +1,6 @@
 -- `commit::reports::store_to` meets its contract: by the location and the field's width. Assumes nothing.
 use native.Mathlib.Omega.{arith}
-use Rattle.commit.proofs.Turning.{to-bug, to-null, to-field, field-short}
+use Rattle.commit.proofs.Turning.{to-bug, to-null, to-field, field-short, field-there}
 use borrow.Author.Needs.{needs}
 use Rattle.commit.proofs.reports.store_to.Statement.{statement}
 use Rattle.commit.proofs.reports.store_to.Tie as tie
@@ -14,12 +14,6 @@ no-store-requires c κs = search needs
 enum-known-at : tie.Need-enum-known-at
 enum-known-at c = search needs
 
-cast-width : tie.Need-cast-width
-cast-width c = search needs
-
-cast-width-2 : tie.Need-cast-width-2
-cast-width-2 c = search needs
-
 width-requires : tie.Need-width-requires
 width-requires c κs = omega (arith, field-short 0 (c .before .at .given .1) (c .before .before .before .pre))
 
@@ -29,11 +23,11 @@ no-store-requires-2 c κs = search needs
 returns : tie.Need-returns
 returns c = to-null _ (c .before .before .before .before .at .given .1) (c .before .before .width .ensures) (c .before .if1 .taken) (c .no-store2 .ensures)
 
-cast-kept-bits : tie.Need-cast-kept-bits
-cast-kept-bits c = search needs
+cast-t9 : tie.Need-cast-t9
+cast-t9 c = omega (arith, field-short 0 (c .before .before .before .at .given .1) (c .before .before .before .before .before .pre), field-there (c .before .width .ensures) (c .if1 .left))
 
-cast-kept-bits-2 : tie.Need-cast-kept-bits-2
-cast-kept-bits-2 c = search needs
+cast-t10 : tie.Need-cast-t10
+cast-t10 c = omega (arith, field-short 0 (c .before .before .before .at .given .1) (c .before .before .before .before .before .pre))
 
 kept-bits-requires : tie.Need-kept-bits-requires
 kept-bits-requires c κs = field-short 0 (c .before .before .before .at .given .1) (c .before .before .before .before .before .pre)
@@ -51,13 +45,11 @@ store-to-spec =
     enum-told
     no-store-requires
     enum-known-at
-    cast-width
-    cast-width-2
     width-requires
     no-store-requires-2
     returns
-    cast-kept-bits
-    cast-kept-bits-2
+    cast-t9
+    cast-t10
     kept-bits-requires
     returns-2
     returns-3)

@@ -10,9 +10,6 @@ Inv-loop fields i₀ sum₀ i sum = Unit {0}
 abbrev μ-loop : tie.MeasureT-loop
 μ-loop fields i₀ sum₀ i sum = 5 - i
 
-cast-sum : tie.Need-cast-sum Inv-loop μ-loop
-cast-sum c = search needs
-
 loop-holds : tie.Need-loop-holds Inv-loop μ-loop
 loop-holds c = tt
 
@@ -43,7 +40,6 @@ taken-apart-spec =
     (tie.spec
     Inv-loop
     μ-loop
-    cast-sum
     loop-holds
     array-copy-out-name
     cast-fold

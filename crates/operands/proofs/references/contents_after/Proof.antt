@@ -8,34 +8,23 @@ use Rattle.operands.proofs.references.contents_after.Tie as tie
 enum-known-place : tie.Need-enum-known-place
 enum-known-place c = search needs
 
-cast-i : tie.Need-cast-i
-cast-i c = search needs
-
 mul-result : tie.Need-mul-result
-mul-result c = search needs
+mul-result c = let letter = bug-letter _ _ _ (c .before .place .given .1) (c .before .before .before .before .pre .4) in search needs
 
 element-copy-out-result : tie.Need-element-copy-out-result
-element-copy-out-result c = bug-letter _ _ _ (c .before .before .place .given .1) (c .before .before .before .before .before .pre .4)
+element-copy-out-result c = bug-letter _ _ _ (c .before .place .given .1) (c .before .before .before .before .pre .4)
 
 enum-known-place-2 : tie.Need-enum-known-place-2
 enum-known-place-2 c = search needs
 
 word-after-requires : tie.Need-word-after-requires
-word-after-requires c κs =
-    let place = field-reached _ _ _ (c .before .place2 .given .1) (c .before .before .before .before .pre .4) in
-    (c .before .before .before .before .pre .0, c .before .before .before .before .pre .1, c .before .before .before .before .pre .2, c .before .before .before .before .pre .3, place .1, place .2)
-
-cast-read-field : tie.Need-cast-read-field
-cast-read-field c = search needs
-
-cast-read-field-2 : tie.Need-cast-read-field-2
-cast-read-field-2 c = search needs
+word-after-requires c κs = let place = field-reached _ _ _ (c .before .place2 .given .1) (c .before .before .before .before .pre .4) in (c .before .before .before .before .pre .0, c .before .before .before .before .pre .1, c .before .before .before .before .pre .2, c .before .before .before .before .pre .3, place .1, place .2)
 
 read-field-requires : tie.Need-read-field-requires
 read-field-requires c κs = (omega (arith, c .before .before .before .before .before .pre .0), field-reached _ _ _ (c .before .before .place2 .given .1) (c .before .before .before .before .before .pre .4) .0)
 
 returns : tie.Need-returns
-returns c = bug-contents _ _ _ _ (c .before .before .before .place .given .1)
+returns c = bug-contents _ _ _ _ (c .before .before .place .given .1)
 
 returns-2 : tie.Need-returns-2
 returns-2 c = field-contents _ _ _ _ (c .before .before .before .place2 .given .1) (c .before .word-after .ensures) (c .read-field .ensures)
@@ -45,13 +34,10 @@ contents-after-spec =
     tie.close
     (tie.spec
     enum-known-place
-    cast-i
     mul-result
     element-copy-out-result
     enum-known-place-2
     word-after-requires
-    cast-read-field
-    cast-read-field-2
     read-field-requires
     returns
     returns-2)

@@ -1,37 +1,54 @@
 -- `operands::references::link` meets its contract: each return by the checks that led there. Assumes nothing.
-use borrow.Author.Needs.{needs}
-use borrow.Author.Tests.{not-true, not-false, eqb-true}
 use native.Mathlib.Omega.{arith}
-use Rattle.machine.proofs.Checks.{nonzero}
+use borrow.Author.Tests.{not-true, not-false}
+use Rattle.machine.specs.Storage.{wordAt}
 use Rattle.operands.proofs.Links.{link-undefined, link-no-block, link-outside, link-inside}
+use borrow.Author.Needs.{needs}
 use Rattle.operands.proofs.references.link.Statement.{statement}
 use Rattle.operands.proofs.references.link.Tie as tie
 
 returns : tie.Need-returns
-returns c = link-undefined _ _ _ (not-true _ (c .if1 .taken))
+returns c = link-undefined _ _ _ _ _ _ (not-true _ (c .if1 .taken))
 
 returns-2 : tie.Need-returns-2
-returns-2 c =
-    link-no-block _ _ _ (not-false _ (c .before .if1 .left)) (eqb-true _ _ (not-false _ (not-true _ (c .if2 .taken))))
+returns-2 c = link-no-block _ _ _ _ _ _ (not-false _ (c .before .if1 .left)) (c .if2 .taken)
 
 cast-word : tie.Need-cast-word
 cast-word c = search needs
 
 returns-3 : tie.Need-returns-3
-returns-3 c =
-    let e = c .before .before in
-    link-outside _ _ _ (not-false _ (e .before .if1 .left)) (nonzero _ (not-false _ (e .if2 .left))) (c .if3 .taken)
+returns-3 c = link-outside _ _ _ _ _ _ (not-false _ (c .before .before .before .if1 .left)) (c .before .before .if2 .left) (c .if3 .taken)
 
 add-address : tie.Need-add-address
-add-address c =
-    let e = c .before .before in
-    let small = e .before .before .before .pre (nonzero _ (not-false _ (e .if2 .left))) in
-    search needs
+add-address c = let small = c .before .before .before .before .before .before .pre .1 .small (c .before .before .if2 .left) in search needs
+
+cast-left : tie.Need-cast-left
+cast-left c = search needs
+
+cast-right : tie.Need-cast-right
+cast-right c = search needs
+
+word-at-requires : tie.Need-word-at-requires
+word-at-requires c κs = let low = c .before .before .before .before .before .before .before .before .pre .1 .low (c .before .before .before .before .if2 .left) in let high = c .before .before .before .before .before .before .before .before .pre .1 .high (c .before .before .before .before .if2 .left) in let less = c .before .before .if3 .left in (omega arith, omega arith)
+
+read-field-requires : tie.Need-read-field-requires
+read-field-requires c κs = (omega (arith, c .before .before .before .before .before .before .before .before .before .pre .0), c .before .before .before .before .before .before .before .before .before .pre .1 .right (not-false _ (c .before .before .before .before .before .before .if1 .left)))
 
 returns-4 : tie.Need-returns-4
-returns-4 c =
-    let e = c .before .before in
-    link-inside _ _ _ (not-false _ (e .before .if1 .left)) (nonzero _ (not-false _ (e .if2 .left))) (c .if3 .left)
+unfolding wordAt
+returns-4 c = link-inside _ _ _ _ _ _ (not-false _ (c .before .before .before .before .before .before .before .if1 .left)) (c .before .before .before .before .before .before .if2 .left) (c .before .before .before .before .if3 .left) (c .before .word-at .ensures) (c .read-field .ensures)
 
 pub link-spec : {M : Type 1} → statement M
-link-spec = tie.close (tie.spec returns returns-2 cast-word returns-3 add-address returns-4)
+link-spec =
+    tie.close
+    (tie.spec
+    returns
+    returns-2
+    cast-word
+    returns-3
+    add-address
+    cast-left
+    cast-right
+    word-at-requires
+    read-field-requires
+    returns-4)

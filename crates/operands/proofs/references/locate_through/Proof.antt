@@ -1,38 +1,75 @@
 -- `operands::references::locate_through` meets its contract. The loop's invariant: what the first links leave to follow leads where the
--- whole reference does, from a location that can be read. The measure is the number of places left. Assumes nothing.
-use Prim.Native.Nat.{_-_}
+-- whole reference does, from a spot that can be read, once the block is delivered. The measure is what is left. Assumes nothing.
 use native.Mathlib.Omega.{arith}
-use mathlib.Core.Path.{refl, ap, _∙_}
-use Rattle.machine.specs.Answer.{told}
-use Rattle.operands.specs.Reading.{seen}
+use mathlib.Core.Path.{refl, sym, ap, _∙_}
+use Rattle.operands.specs.Reading.{seen, toldLinked}
 use Rattle.operands.specs.Through.{through}
-use Rattle.operands.proofs.Follows.{Followed, bug-reached, followed-next, followed-stopped, followed-all, bug-named, field-named, from-bug}
-use Rattle.operands.proofs.Through.{through-readable, through-reached}
+use Rattle.operands.proofs.Answers.{at-is, stopped-is}
+use Rattle.operands.proofs.Follows.{Followed, followed-first, followed-all, name-left, followed-at, followed-refused, link-reached}
+use Rattle.operands.proofs.Through.{delivery-low, delivery-lies, through-readable, through-reached, through-contents, through-lying, through-link}
+use Rattle.operands.proofs.Unpacking.{unpacked-at}
 use borrow.Author.Needs.{needs}
 use Rattle.operands.proofs.references.locate_through.Statement.{statement}
 use Rattle.operands.proofs.references.locate_through.Tie as tie
 
 abbrev Inv-loop : tie.InvT-loop
-Inv-loop b bugs definitions setup map storage pending fields at₀ i₀ at i = Followed b (through b pending (seen bugs definitions setup map storage)) fields at₀ i₀ at i
+Inv-loop b bugs fields setup map storage ahead value bits₀ i spot₀ bits spot =
+    Followed b (through b ahead (seen bugs fields setup map storage)) value bits₀ spot bits
 
 abbrev μ-loop : tie.MeasureT-loop
-μ-loop b bugs definitions setup map storage pending fields at₀ i₀ at i = 5 - i
+μ-loop b bugs fields setup map storage ahead value bits₀ i spot₀ bits spot = bits
 
-names-in-requires : tie.Need-names-in-requires Inv-loop μ-loop
-names-in-requires c κs = c .before .before .pre .2
+bits-after-requires : tie.Need-bits-after-requires Inv-loop μ-loop
+bits-after-requires c κs = c .before .before .pre .2
+
+bug-before-requires : tie.Need-bug-before-requires Inv-loop μ-loop
+bug-before-requires c κs = (c .before .before .before .pre .2, c .bits-after .ensures)
+
+mul-t21 : tie.Need-mul-t21 Inv-loop μ-loop
+mul-t21 c = search needs
+
+element-copy-out-t24 : tie.Need-element-copy-out-t24 Inv-loop μ-loop
+element-copy-out-t24 c = c .bug-before .ensures .1
 
 loop-holds : tie.Need-loop-holds Inv-loop μ-loop
-loop-holds c = record { left = refl; reached = bug-reached _ _ _ _ (bug-named (c .before .before .names-in .result) _ (c .before .before .before .before .before .pre .2) (c .before .before .names-in .ensures .0)); from = omega arith }
+unfolding through
+loop-holds c =
+    let at-bug-before = c .before in
+    let at-bits-after = at-bug-before .before in
+    let start = at-bits-after .before .before .before in
+    followed-first _ _ _ (start .pre .2) (at-bits-after .bits-after .ensures) (at-bug-before .bug-before .ensures)
 
-array-copy-out-link-from : tie.Need-array-copy-out-link-from Inv-loop μ-loop
-array-copy-out-link-from c = omega arith
+sub-bits : tie.Need-sub-bits Inv-loop μ-loop
+sub-bits c = omega (arith, c .before .loop .inv .whole)
 
-link-from-requires : tie.Need-link-from-requires Inv-loop μ-loop
-link-from-requires c κs =
-    let at-names-in = c .before .before .before .before .before in
-    let start = at-names-in .before .before .before in
-    let so-far = c .before .before .loop .inv in
-    (start .pre .0, start .pre .1, through-reached _ _ (start .pre .0) _ (start .pre .1) _ (so-far .reached), field-named (at-names-in .names-in .result) _ (start .pre .2) (at-names-in .names-in .ensures .0) _ (so-far .from))
+name-before-requires : tie.Need-name-before-requires Inv-loop μ-loop
+name-before-requires c κs = (c .before .before .before .before .before .before .before .pre .2, name-left _ _ _ (c .before .loop .inv) (c .loop-test .taken))
+
+cast-j : tie.Need-cast-j Inv-loop μ-loop
+cast-j c = search needs
+
+size-after-requires : tie.Need-size-after-requires Inv-loop μ-loop
+size-after-requires c κs =
+    let start = c .before .before .before .before .before .before .before .before .before in
+    (start .pre .0 .whole, start .pre .0 .kept)
+
+mul-unpack : tie.Need-mul-unpack Inv-loop μ-loop
+mul-unpack c = search needs
+
+element-copy-out-unpack : tie.Need-element-copy-out-unpack Inv-loop μ-loop
+element-copy-out-unpack c = c .before .before .name-before .ensures .1
+
+unpack-requires : tie.Need-unpack-requires Inv-loop μ-loop
+unpack-requires c κs = search needs
+
+link-requires : tie.Need-link-requires Inv-loop μ-loop
+link-requires c κs =
+    let at-size-after = c .before .before in
+    let start = at-size-after .before .before .before .before .before .before .before .before .before .before in (
+      start .pre .0 .width,
+      through-lying _ _ (start .pre .0) _ (start .pre .1) _ (at-size-after .size-after .ensures) _
+          (c .unpack .ensures ∙ unpacked-at _ _),
+    )
 
 enum-known-answer : tie.Need-enum-known-answer Inv-loop μ-loop
 enum-known-answer c = search needs
@@ -41,32 +78,58 @@ enum-told : tie.Need-enum-told Inv-loop μ-loop
 enum-told c = search needs
 
 returns : tie.Need-returns Inv-loop μ-loop
+unfolding toldLinked
 returns c =
-    let turn = c .before .before .before .before .before in
-    let at-names-in = turn .before .before .before in
-    let start = at-names-in .before .before .before in
-    followed-stopped _ _ _ _ _ _ _ _ (turn .loop .inv) (omega (arith, at-names-in .names-in .ensures .1)) (c .before .before .link-from .ensures) _ (c .enum-told .given .1)
-    ∙ ap told (from-bug (at-names-in .names-in .result) _ (start .pre .2) (at-names-in .names-in .ensures .0) _ _ _ refl)
+    let at-link = c .before .before in
+    let at-unpack = at-link .before in
+    let at-size-after = at-unpack .before .before in
+    let at-name-before = at-size-after .before .before in
+    let at-loop-test = at-name-before .before in
+    let turn = at-loop-test .before in
+    let start = turn .before .before .before .before .before .before in
+    ap toldLinked (c .enum-told .given .1) ∙ followed-refused _ _ _ (turn .loop .inv) (at-loop-test .loop-test .taken)
+    (at-name-before .name-before .ensures .0) (sym (through-link _ _ (start .pre .0) _ (start .pre .1) _ (at-size-after .size-after .ensures) _
+    (at-unpack .unpack .ensures ∙ unpacked-at _ _)) ∙ stopped-is _ _ (at-link .link .ensures) (c .enum-told .given .1))
 
-add-i : tie.Need-add-i Inv-loop μ-loop
-add-i c = omega arith
+contents-after-requires : tie.Need-contents-after-requires Inv-loop μ-loop
+unfolding through
+contents-after-requires c κs =
+    let at-answer = c .before in
+    let at-link = at-answer .before .before in
+    let at-unpack = at-link .before in
+    let at-size-after = at-unpack .before .before in
+    let start = at-size-after .before .before .before .before .before .before .before .before .before .before in (
+      start .pre .0 .width,
+      delivery-low _ _ (start .pre .0) _ _ _ (start .pre .1),
+      delivery-lies _ _ (start .pre .0) _ _ _ (start .pre .1),
+      start .pre .1 .reached,
+      through-reached _ _ (start .pre .0) _ (start .pre .1) _
+          (link-reached _ _ (through-readable _ _ (start .pre .0) _ (start .pre .1)) _ _ _
+          (sym (through-link _ _ (start .pre .0) _ (start .pre .1) _ (at-size-after .size-after .ensures) _ (at-unpack .unpack .ensures ∙ unpacked-at _ _))
+          ∙ at-is _ _ (at-link .link .ensures) (at-answer .answer .given .1))),
+    )
 
 loop-less : tie.Need-loop-less Inv-loop μ-loop
-loop-less c = omega arith
+loop-less c = omega (arith, c .before .before .before .before .before .before .before .before .before .before .before .loop .inv .whole)
 
 loop-again : tie.Need-loop-again Inv-loop μ-loop
 loop-again c =
-    let at-link-from = c .before .before .before in
-    let turn = at-link-from .before .before .before in
-    let at-names-in = turn .before .before .before in
-    let start = at-names-in .before .before .before in
-    followed-next _ _ _ _ _ _ _ _ (turn .loop .inv) (omega (arith, at-names-in .names-in .ensures .1)) (at-link-from .link-from .ensures) (through-readable _ _ (start .pre .0) _ (start .pre .1)) _
-    (c .before .answer .given .1)
+    let at-answer = c .before .before in
+    let at-link = at-answer .before .before in
+    let at-unpack = at-link .before in
+    let at-size-after = at-unpack .before .before in
+    let at-name-before = at-size-after .before .before in
+    let at-loop-test = at-name-before .before in
+    let turn = at-loop-test .before in
+    let start = turn .before .before .before .before .before .before in
+    followed-at _ _ _ (turn .loop .inv) (at-loop-test .loop-test .taken) (at-name-before .name-before .ensures .0)
+    (through-readable _ _ (start .pre .0) _ (start .pre .1))
+    (sym (through-link _ _ (start .pre .0) _ (start .pre .1) _ (at-size-after .size-after .ensures) _ (at-unpack .unpack .ensures ∙ unpacked-at _ _))
+    ∙ at-is _ _ (at-link .link .ensures) (at-answer .answer .given .1)) (through-contents _ _ (start .pre .0) _ (start .pre .1) _
+    (c .contents-after .ensures))
 
 returns-2 : tie.Need-returns-2 Inv-loop μ-loop
-returns-2 c =
-    followed-all _ _ _ _ _ _ _ (c .before .loop .inv) (omega (arith, c .before .before .before .before .names-in .ensures .1))
-    ∙ ap told (from-bug (c .before .before .before .before .names-in .result) _ (c .before .before .before .before .before .before .before .pre .2) (c .before .before .before .before .names-in .ensures .0) _ _ _ refl)
+returns-2 c = followed-all _ _ _ (c .before .loop .inv) (omega arith)
 
 pub locate-through-spec : {M : Type 1} → statement M
 locate-through-spec =
@@ -74,14 +137,23 @@ locate-through-spec =
     (tie.spec
     Inv-loop
     μ-loop
-    names-in-requires
+    bits-after-requires
+    bug-before-requires
+    mul-t21
+    element-copy-out-t24
     loop-holds
-    array-copy-out-link-from
-    link-from-requires
+    sub-bits
+    name-before-requires
+    cast-j
+    size-after-requires
+    mul-unpack
+    element-copy-out-unpack
+    unpack-requires
+    link-requires
     enum-known-answer
     enum-told
     returns
-    add-i
+    contents-after-requires
     loop-less
     loop-again
     returns-2)

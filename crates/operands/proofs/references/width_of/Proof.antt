@@ -11,12 +11,6 @@ enum-told c = search needs
 enum-known-at : tie.Need-enum-known-at
 enum-known-at c = search needs
 
-cast-width : tie.Need-cast-width
-cast-width c = search needs
-
-cast-width-2 : tie.Need-cast-width-2
-cast-width-2 c = search needs
-
 width-requires : tie.Need-width-requires
 width-requires c κs = field-narrow (c .before .at .given .1) (c .before .before .before .pre)
 
@@ -32,8 +26,6 @@ width-of-spec =
     (tie.spec
     enum-told
     enum-known-at
-    cast-width
-    cast-width-2
     width-requires
     returns
     returns-2)

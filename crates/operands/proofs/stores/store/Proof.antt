@@ -9,17 +9,14 @@ use Rattle.operands.proofs.stores.store.Tie as tie
 enum-known-at : tie.Need-enum-known-at
 enum-known-at c = search needs
 
-cast-i : tie.Need-cast-i
-cast-i c = search needs
-
 low-bits-requires : tie.Need-low-bits-requires
 low-bits-requires c κs = search needs
 
 mul-bugs : tie.Need-mul-bugs
-mul-bugs c = search needs
+mul-bugs c = let letter = bug-letter _ _ _ (c .before .before .at .given .1) (c .before .before .before .before .before .pre .1) in search needs
 
 element-write-bugs : tie.Need-element-write-bugs
-element-write-bugs c = bug-letter _ _ _ (c .before .before .before .at .given .1) (c .before .before .before .before .before .before .pre .1)
+element-write-bugs c = bug-letter _ _ _ (c .before .before .at .given .1) (c .before .before .before .before .before .pre .1)
 
 enum-known-at-2 : tie.Need-enum-known-at-2
 enum-known-at-2 c = search needs
@@ -27,37 +24,23 @@ enum-known-at-2 c = search needs
 sub-offset : tie.Need-sub-offset
 sub-offset c = field-reached _ _ _ (c .before .at2 .given .1) (c .before .before .before .before .pre .1) .1
 
-cast-store-field : tie.Need-cast-store-field
-cast-store-field c = search needs
-
-cast-store-field-2 : tie.Need-cast-store-field-2
-cast-store-field-2 c = search needs
-
 mul-store-field : tie.Need-mul-store-field
-mul-store-field c =
-    let (_, _, high) = field-reached _ _ _ (c .before .at2 .given .1) (c .before .before .before .before .pre .1) in
-    search needs
+mul-store-field c = let (_, _, high) = field-reached _ _ _ (c .before .at2 .given .1) (c .before .before .before .before .pre .1) in search needs
 
 slice-read-store-field : tie.Need-slice-read-store-field
-slice-read-store-field c =
-    let (_, low, high) = field-reached _ _ _ (c .before .before .at2 .given .1) (c .before .before .before .before .before .pre .1) in
-    omega arith
+slice-read-store-field c = let (_, low, high) = field-reached _ _ _ (c .before .before .at2 .given .1) (c .before .before .before .before .before .pre .1) in omega arith
 
 store-field-requires : tie.Need-store-field-requires
 store-field-requires c κs = (omega (arith, c .before .before .before .before .before .pre .0), field-reached _ _ _ (c .before .before .at2 .given .1) (c .before .before .before .before .before .pre .1) .0)
 
 mul-storage : tie.Need-mul-storage
-mul-storage c =
-    let (_, _, high) = field-reached _ _ _ (c .before .before .before .at2 .given .1) (c .before .before .before .before .before .before .pre .1) in
-    search needs
+mul-storage c = let (_, _, high) = field-reached _ _ _ (c .before .before .before .at2 .given .1) (c .before .before .before .before .before .before .pre .1) in search needs
 
 slice-write-storage : tie.Need-slice-write-storage
-slice-write-storage c =
-    let (_, low, high) = field-reached _ _ _ (c .before .before .before .at2 .given .1) (c .before .before .before .before .before .before .pre .1) in
-    omega arith
+slice-write-storage c = let (_, low, high) = field-reached _ _ _ (c .before .before .before .at2 .given .1) (c .before .before .before .before .before .before .pre .1) in omega arith
 
 returns : tie.Need-returns
-returns c = stored-bug _ _ _ _ _ (c .before .before .before .at .given .1) (c .low-bits .ensures)
+returns c = stored-bug _ _ _ _ _ (c .before .before .at .given .1) (c .low-bits .ensures)
 
 same-length : tie.Need-same-length
 same-length c = search needs
@@ -70,14 +53,11 @@ store-spec =
     tie.close
     (tie.spec
     enum-known-at
-    cast-i
     low-bits-requires
     mul-bugs
     element-write-bugs
     enum-known-at-2
     sub-offset
-    cast-store-field
-    cast-store-field-2
     mul-store-field
     slice-read-store-field
     store-field-requires

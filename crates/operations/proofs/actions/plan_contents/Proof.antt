@@ -3,7 +3,7 @@ use native.Mathlib.Omega.{arith}
 use mathlib.Core.Path.{_∙_}
 use Rattle.machine.proofs.Checks.{bind-no}
 use Rattle.operands.proofs.Readable.{locate-reached}
-use Rattle.operands.proofs.Answers.{at-is, stopped-is}
+use Rattle.operands.proofs.Answers.{at-is, holds-is, stopped-is}
 use Rattle.operations.specs.Plans.{contentsPlan}
 use Rattle.operations.proofs.Answers.{does, stops}
 use Rattle.operations.proofs.Stacks.{save-full, save-done, restore-empty, restore-done}
@@ -22,23 +22,16 @@ enum-known-found-2 c = search needs
 
 returns : tie.Need-returns
 unfolding contentsPlan
-returns c = stops _ (bind-no _ _ (stopped-is _ (c .before .before .before .locate .ensures) (c .before .found2 .given .1)))
+returns c = stops _ (bind-no _ _ (stopped-is _ _ (c .before .before .before .locate .ensures) (c .before .found2 .given .1)))
 
 returns-2 : tie.Need-returns-2
-returns-2 c = stops _ (save-full _ _ _ _ _ (at-is _ (c .before .before .before .before .before .before .locate .ensures) (c .before .before .before .before .found .given .1)) (c .before .if1 .taken) (c .if2 .taken))
-
-contents-requires : tie.Need-contents-requires
-contents-requires c κs =
-    let at-found = c .before .before .before .before in
-    let at-locate = at-found .before .before in
-    let start = at-locate .before .before .before .before in
-    (start .pre .0 .width, locate-reached _ _ (start .pre .0) _ (start .pre .2) _ (at-is _ (at-locate .locate .ensures) (at-found .found .given .1)))
+returns-2 c = stops _ (save-full _ _ _ _ _ (at-is _ _ (c .before .before .before .before .before .before .locate .ensures) (c .before .before .before .before .found .given .1)) (c .before .if1 .taken) (c .if2 .taken))
 
 returns-3 : tie.Need-returns-3
-returns-3 c = does _ (save-done _ _ _ _ _ (at-is _ (c .before .before .before .before .before .before .before .locate .ensures) (c .before .before .before .before .before .found .given .1)) (c .before .before .if1 .taken) (c .before .if2 .left) (c .contents .ensures))
+returns-3 c = does _ (save-done _ _ _ _ _ (at-is _ _ (c .before .before .before .before .before .before .locate .ensures) (c .before .before .before .before .found .given .1)) (c .before .if1 .taken) (c .if2 .left) (holds-is _ _ (c .before .before .before .before .before .before .locate .ensures) (c .before .before .before .before .found .given .1)))
 
 returns-4 : tie.Need-returns-4
-returns-4 c = stops _ (restore-empty _ _ _ _ _ (at-is _ (c .before .before .before .before .before .before .locate .ensures) (c .before .before .before .before .found .given .1)) (c .before .if1 .left) (c .if3 .taken))
+returns-4 c = stops _ (restore-empty _ _ _ _ _ (at-is _ _ (c .before .before .before .before .before .before .locate .ensures) (c .before .before .before .before .found .given .1)) (c .before .if1 .left) (c .if3 .taken))
 
 sub-i : tie.Need-sub-i
 sub-i c = search needs
@@ -50,7 +43,7 @@ element-copy-out-t27 : tie.Need-element-copy-out-t27
 element-copy-out-t27 c = search needs
 
 returns-5 : tie.Need-returns-5
-returns-5 c = does _ (restore-done _ _ _ _ _ (at-is _ (c .before .before .before .before .before .before .before .locate .ensures) (c .before .before .before .before .before .found .given .1)) (c .before .before .if1 .left) (c .before .if3 .left))
+returns-5 c = does _ (restore-done _ _ _ _ _ (at-is _ _ (c .before .before .before .before .before .before .before .locate .ensures) (c .before .before .before .before .before .found .given .1)) (c .before .before .if1 .left) (c .before .if3 .left))
 
 pub plan-contents-spec : {M : Type 1} → statement M
 plan-contents-spec =
@@ -61,7 +54,6 @@ plan-contents-spec =
     enum-known-found-2
     returns
     returns-2
-    contents-requires
     returns-3
     returns-4
     sub-i

@@ -2,7 +2,7 @@
 use mathlib.Core.Path.{_∙_}
 use Rattle.machine.proofs.Checks.{bind-yes, bind-no}
 use Rattle.operands.proofs.Readable.{locate-reached}
-use Rattle.operands.proofs.Answers.{at-is, stopped-is}
+use Rattle.operands.proofs.Answers.{at-is, holds-is, stopped-is}
 use Rattle.operations.specs.Plans.{swapPlan}
 use Rattle.operations.proofs.Answers.{does, stops}
 use Rattle.operations.proofs.Doing.{swaps}
@@ -21,7 +21,7 @@ enum-known-found-2 c = search needs
 
 returns : tie.Need-returns
 unfolding swapPlan
-returns c = stops _ (bind-no _ _ (stopped-is _ (c .before .before .before .locate .ensures) (c .before .found2 .given .1)))
+returns c = stops _ (bind-no _ _ (stopped-is _ _ (c .before .before .before .locate .ensures) (c .before .found2 .given .1)))
 
 locate-requires-2 : tie.Need-locate-requires-2
 locate-requires-2 c κs = (c .before .before .before .before .before .before .before .before .pre .0, c .before .before .before .before .before .before .before .before .pre .2)
@@ -34,28 +34,10 @@ enum-known-other-2 c = search needs
 
 returns-2 : tie.Need-returns-2
 unfolding swapPlan
-returns-2 c = stops _ (bind-yes _ _ (at-is _ (c .before .before .before .before .before .before .before .locate .ensures) (c .before .before .before .before .before .found .given .1)) ∙ bind-no _ _ (stopped-is _ (c .before .before .before .locate2 .ensures) (c .before .other2 .given .1)))
-
-contents-requires : tie.Need-contents-requires
-contents-requires c κs =
-    let at-locate2 = c .before .before .before in
-    let start = at-locate2 .before .before .before .before .before .before .before .before .before in
-    (start .pre .0 .width, locate-reached _ _ (start .pre .0) _ (start .pre .2) _ (at-is _ (at-locate2 .locate2 .ensures) (c .before .other .given .1)))
-
-contents-requires-2 : tie.Need-contents-requires-2
-contents-requires-2 c κs =
-    let at-found = c .before .before .before .before .before .before in
-    let at-locate = at-found .before .before in
-    let start = at-locate .before .before .before .before .before in
-    (start .pre .0 .width, locate-reached _ _ (start .pre .0) _ (start .pre .1) _ (at-is _ (at-locate .locate .ensures) (at-found .found .given .1)))
+returns-2 c = stops _ (bind-yes _ _ (at-is _ _ (c .before .before .before .before .before .before .before .locate .ensures) (c .before .before .before .before .before .found .given .1)) ∙ bind-no _ _ (stopped-is _ _ (c .before .before .before .locate2 .ensures) (c .before .other2 .given .1)))
 
 returns-3 : tie.Need-returns-3
-returns-3 c =
-    let at-other = c .before .before .before in
-    let at-locate2 = at-other .before .before in
-    let at-found = at-locate2 .before .before in
-    let at-locate = at-found .before .before in
-    does _ (swaps _ _ _ (at-is _ (at-locate .locate .ensures) (at-found .found .given .1)) (at-is _ (at-locate2 .locate2 .ensures) (at-other .other .given .1)) (c .before .contents .ensures) (c .contents2 .ensures))
+returns-3 c = does _ (swaps _ _ _ (at-is _ _ (c .before .before .before .before .before .before .before .locate .ensures) (c .before .before .before .before .before .found .given .1)) (at-is _ _ (c .before .before .before .locate2 .ensures) (c .before .other .given .1)) (holds-is _ _ (c .before .before .before .locate2 .ensures) (c .before .other .given .1)) (holds-is _ _ (c .before .before .before .before .before .before .before .locate .ensures) (c .before .before .before .before .before .found .given .1)))
 
 pub plan-swap-spec : {M : Type 1} → statement M
 plan-swap-spec =
@@ -69,6 +51,4 @@ plan-swap-spec =
     enum-known-other
     enum-known-other-2
     returns-2
-    contents-requires
-    contents-requires-2
     returns-3)

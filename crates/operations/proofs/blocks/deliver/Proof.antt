@@ -1,5 +1,4 @@
 -- `operations::blocks::deliver` meets its contract: one store, or a2 located after the delivery. Assumes nothing.
-use Rattle.operands.specs.Through.{Ahead}
 use Rattle.operands.proofs.Storing.{reached-bugs}
 use Rattle.operations.proofs.Answers.{does, stops}
 use Rattle.operations.proofs.Doing.{delivers-one, delivers-two, delivers-stopped, stored-readable, stored-deliverable}
@@ -10,19 +9,11 @@ use Rattle.operations.proofs.blocks.deliver.Tie as tie
 returns : tie.Need-returns
 returns c = does _ (delivers-one _ _ _ _ _ _ (c .if1 .taken))
 
-contents-requires : tie.Need-contents-requires
-contents-requires c κs = (c .before .before .before .before .pre .0 .width, c .before .before .before .before .pre .1 .reached)
-
 bugs-after-requires : tie.Need-bugs-after-requires
-bugs-after-requires c κs = (c .before .before .before .before .before .pre .0 .width, reached-bugs _ _ _ _ (c .before .before .before .before .before .pre .1 .reached))
+bugs-after-requires c κs = (c .before .before .before .before .pre .0 .width, reached-bugs _ _ _ _ (c .before .before .before .before .pre .1 .reached))
 
 locate-through-requires : tie.Need-locate-through-requires
-unfolding Ahead
-locate-through-requires c κs =
-    let at-if1 = c .before .before .before in
-    let start = at-if1 .before .before .before .before in
-    let ahead = stored-deliverable _ _ (c .before .bugs-after .result) _ _ _ (start .pre .1) in
-    (stored-readable _ _ _ _ (start .pre .0) (c .before .bugs-after .ensures), search needs, start .pre .2 (at-if1 .if1 .left))
+locate-through-requires c κs = (stored-readable _ _ _ _ (c .before .before .before .before .before .before .pre .0) (c .before .bugs-after .ensures), stored-deliverable _ _ (c .before .bugs-after .result) _ _ _ (c .before .before .before .before .before .before .pre .1), c .before .before .before .before .before .before .pre .2 (c .before .before .if1 .left))
 
 enum-known-found : tie.Need-enum-known-found
 enum-known-found c = search needs
@@ -31,22 +22,16 @@ enum-known-found-2 : tie.Need-enum-known-found-2
 enum-known-found-2 c = search needs
 
 returns-2 : tie.Need-returns-2
-returns-2 c =
-    let at-locate-through = c .before .before .before in
-    let at-bugs-after = at-locate-through .before .before in
-    let at-contents = at-bugs-after .before in
-    let at-if1 = at-contents .before in
-    does _ (delivers-two _ _ _ _ _ _ (at-if1 .if1 .left) (at-bugs-after .bugs-after .ensures) (at-locate-through .locate-through .ensures) (c .before .found .given .1) (at-contents .contents .ensures))
+returns-2 c = does _ (delivers-two _ _ _ _ _ _ (c .before .before .before .before .before .before .if1 .left) (c .before .before .before .before .before .bugs-after .ensures) (c .before .before .before .locate-through .ensures) (c .before .found .given .1) (c .before .before .before .before .before .before .before .before .before .before .pre .3))
 
 returns-3 : tie.Need-returns-3
-returns-3 c = stops _ (delivers-stopped _ _ _ _ _ _ (c .before .before .before .before .before .before .before .if1 .left) (c .before .before .before .before .before .bugs-after .ensures) (c .before .before .before .locate-through .ensures) (c .before .found2 .given .1))
+returns-3 c = stops _ (delivers-stopped _ _ _ _ _ _ (c .before .before .before .before .before .before .if1 .left) (c .before .before .before .before .before .bugs-after .ensures) (c .before .before .before .locate-through .ensures) (c .before .found2 .given .1))
 
 pub deliver-spec : {M : Type 1} → statement M
 deliver-spec =
     tie.close
     (tie.spec
     returns
-    contents-requires
     bugs-after-requires
     locate-through-requires
     enum-known-found

@@ -9,10 +9,10 @@ use Rattle.plans.proofs.tests.satisfied.Statement.{statement}
 use Rattle.plans.proofs.tests.satisfied.Tie as tie
 
 abbrev Inv-loop : tie.InvT-loop
-Inv-loop b bugs definitions setup map storage table judged mode first r₀ r = Open b (seen bugs definitions setup map storage) table mode first r
+Inv-loop b bugs fields setup map storage table judged mode first r₀ r = Open b (seen bugs fields setup map storage) table mode first r
 
 abbrev μ-loop : tie.MeasureT-loop
-μ-loop b bugs definitions setup map storage table judged mode first r₀ r = testsLeft (rows table) r
+μ-loop b bugs fields setup map storage table judged mode first r₀ r = testsLeft (rows table) r
 
 loop-holds : tie.Need-loop-holds Inv-loop μ-loop
 loop-holds c = open-first _ _ _ _ _ (c .before .before .before .pre .2)

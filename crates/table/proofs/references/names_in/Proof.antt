@@ -36,13 +36,10 @@ loop-again c = found-next (c .before .loop .inv) (c .loop-test .taken)
 sub-t13 : tie.Need-sub-t13 Inv-loop μ-loop
 sub-t13 c = let l = found-last (c .before .loop .inv) (c .loop-test .left) in omega (arith, l .low)
 
-cast-t14 : tie.Need-cast-t14 Inv-loop μ-loop
-cast-t14 c = let l = found-last (c .before .loop .inv) (c .loop-test .left) in omega (arith, l .high)
-
 returns : tie.Need-returns Inv-loop μ-loop
 returns c = let so-far = c .before .loop .inv in (found-last so-far (c .loop-test .left) .whole, so-far .room)
 
 pub names-in-spec : {M : Type 1} → statement M
 names-in-spec =
     tie.close
-    (tie.spec Inv-loop μ-loop loop-holds sub-from sub-t8 cast-t9 array-set-from-fields loop-less loop-again sub-t13 cast-t14 returns)
+    (tie.spec Inv-loop μ-loop loop-holds sub-from sub-t8 cast-t9 array-set-from-fields loop-less loop-again sub-t13 returns)
