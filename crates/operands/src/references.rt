@@ -270,10 +270,12 @@ pub fn locate(
     storage: &[u64],
     operand: Pair,
 ) -> Linked
-    requires { ⌜ Readable b (seen (now bugs) (now fields) setup (now map) (now storage)) × (isReference (operand .value) ≡ true) ⌝ }
+    requires { ⌜ Readable b (seen (now bugs) (now fields) setup (now map) (now storage))
+        × (isReference (operand .value) ≡ true) ⌝ }
     ensures { λ r. ⌜ toldLinked r ≡ told
         (standing (contents b (seen (now (bugs .entry)) (now (fields .entry)) setup (now (map .entry)) (now (storage .entry))))
-        (locationOf b (seen (now (bugs .entry)) (now (fields .entry)) setup (now (map .entry)) (now (storage .entry))) operand)) ⌝ }
+        (locationOf b (seen (now (bugs .entry)) (now (fields .entry)) setup (now (map .entry)) (now (storage .entry)))
+        operand)) ⌝ }
 {
     if operand.value < 64 {
         let bug = bug_before(operand.value, 0);

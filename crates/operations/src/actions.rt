@@ -238,8 +238,8 @@ pub fn plan_swap(
     storage: &[u64],
     row: Row,
 ) -> Planned
-    requires { ⌜ Readable b (seen (now bugs) (now fields) setup (now map) (now storage)) × (isReference (row .first .value) ≡ true)
-        × (isReference (row .second .value) ≡ true) ⌝ }
+    requires { ⌜ Readable b (seen (now bugs) (now fields) setup (now map) (now storage))
+        × (isReference (row .first .value) ≡ true) × (isReference (row .second .value) ≡ true) ⌝ }
     ensures { λ r. ⌜ toldPlanned r ≡ told (planned to
         (swapPlan b (seen (now (bugs .entry)) (now (fields .entry)) setup (now (map .entry)) (now (storage .entry))) row)) ⌝ }
 {
@@ -287,8 +287,8 @@ pub fn plan_print(
     room: usize,
     row: Row,
 ) -> Planned
-    requires { ⌜ Readable b (seen (now bugs) (now fields) setup (now map) (now storage)) × (written ≤ room) × Taken b (row .first)
-        × Taken b (row .second) ⌝ }
+    requires { ⌜ Readable b (seen (now bugs) (now fields) setup (now map) (now storage))
+        × (written ≤ room) × Taken b (row .first) × Taken b (row .second) ⌝ }
     ensures { λ r. ⌜ toldPlanned r ≡ told (planned to
         (printPlan b (seen (now (bugs .entry)) (now (fields .entry)) setup (now (map .entry)) (now (storage .entry)))
         written room row)) ⌝ }
