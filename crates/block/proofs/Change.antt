@@ -11,7 +11,8 @@ use lib.ListN.{length, replicate, length-replicate}
 use Rattle.block.specs.declared.SetUp.{SetUp}
 use Rattle.block.specs.Blocks.{size, Tree, Free, Live, Halves, joined, freed, delivered, changed}
 use Rattle.block.specs.SetUp.{top, words, fitting}
-use Rattle.block.specs.Map.{isFree, canonical, allCanonical, allWritten, trees, mapOf, keeps, freshMap, freedMap, deliveredMap}
+use Rattle.block.specs.Map.{isFree, canonical, allCanonical, allWritten, trees, mapOf, keeps, freshMap, freedMap}
+use Rattle.block.specs.Map.{deliveredMap}
 use Rattle.word.proofs.Tests.{and-true, and-false, either-way, by-leb}
 use Rattle.block.proofs.Size.{fitting-facts}
 use Rattle.block.proofs.Map.{canonical-halves, keeps-parts, keeps-words, keeps-mapOf, trees-mapOf, trees-fill, length-mapOf}

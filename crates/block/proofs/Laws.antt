@@ -11,7 +11,8 @@ use lib.Dec.{leb, ltb}
 use lib.ListN.{length}
 use borrow.Author.Tests.{lt-ltb, le-ltb}
 use Rattle.block.specs.declared.SetUp.{SetUp}
-use Rattle.block.specs.Blocks.{size, Block, Tree, Free, Live, Halves, joined, liveIn, freed, delivered, gathered, changed, outside}
+use Rattle.block.specs.Blocks.{size, Block, Tree, Free, Live, Halves, joined, liveIn, freed, delivered, gathered, changed}
+use Rattle.block.specs.Blocks.{outside}
 use Rattle.block.specs.SetUp.{top, fitting}
 use Rattle.block.specs.Map.{isFree, canonical, allCanonical, trees, keeps, live, free, freedMap, deliveredMap}
 use Rattle.word.proofs.Tests.{and-true, either-way, by-leb}

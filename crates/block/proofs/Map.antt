@@ -13,7 +13,8 @@ use borrow.Author.Tests.{eqb-true, eq-eqb, ne-eqb}
 use Rattle.block.specs.declared.SetUp.{SetUp}
 use Rattle.block.specs.Blocks.{size, Tree, Free, Live, Halves, gathered}
 use Rattle.block.specs.SetUp.{top, words}
-use Rattle.block.specs.Map.{freeTag, liveTag, written, told, isFree, canonical, allWritten, allTold, allCanonical, same, trees, mapOf, keeps, live, free}
+use Rattle.block.specs.Map.{freeTag, liveTag, written, told, isFree, canonical, allWritten, allTold, allCanonical, same}
+use Rattle.block.specs.Map.{trees, mapOf, keeps, live, free}
 use Rattle.word.proofs.Tests.{and-true}
 use Rattle.block.proofs.Size.{size-zero, size-suc, size-pos}
 

@@ -40,7 +40,8 @@ use Rattle.machine.proofs.Plan.{Planned, settingUp, moving, planned}
 use Rattle.machine.proofs.Steps.{Stepping, refusing, staying, forward, stepping-at, step-is, step-width}
 use Rattle.book.specs.Book.{start, inserted, without}
 use Rattle.book.specs.Steps.{Event, stepped, isRefused}
-use Rattle.book.specs.Alike.{Alike, Ordinary, Further, begin, after, Request, freeOf, getOf, Asked, freed, delivered, noRun, request, askedBy, wantedBy, refusedGet, askedOf, askedIn, EitherOrder}
+use Rattle.book.specs.Alike.{Alike, Ordinary, Further, begin, after, Request, freeOf, getOf, Asked, freed, delivered, noRun}
+use Rattle.book.specs.Alike.{request, askedBy, wantedBy, refusedGet, askedOf, askedIn, EitherOrder}
 use Rattle.book.proofs.Moved.{freed-some, gone-live, new-live}
 use Rattle.book.proofs.Demand3.{holds}
 use Rattle.book.proofs.Served.{without-run}
@@ -126,7 +127,8 @@ module _ (b : ℕ) (l : Lent) (e : Engine) (ordinary : Ordinary l e (stepAt b l 
     asked-forward : askedOf b l e (carriedOut b x l e) ≡ askedBy (x .report)
     unfolding askedOf carriedOut isRefused
     asked-forward =
-        elim (isFinished (x .state .core .place)) as (λ t. cond (isRefused (cond t Finished Running)) (refusedGet b l e) (askedBy (x .report)) ≡ askedBy (x .report))
+        elim (isFinished (x .state .core .place)) as (λ t. cond (isRefused (cond t Finished Running)) (refusedGet b l e) (askedBy (x .report))
+        ≡ askedBy (x .report))
         [ true ↦ refl | false ↦ refl ]
 
     moves-does : Moves b u (e .state .map) x → Does b l e (carriedOut b x l e)

@@ -20,7 +20,8 @@ use Rattle.block.proofs.Tiling.{lies-pos, order-each}
 use Rattle.block.proofs.Runs.{outside-mem}
 use Rattle.book.specs.Book.{start, inserted, without, times, around, lower, upper, halvedOnce}
 use Rattle.book.proofs.Apart.{offset-mod, both-free}
-use Rattle.book.proofs.Local.{Local, local-after, local-times, times-fixed, local-without, local-halved, local-inserted, narrows-outside, Reads, live-reads, free-reads, Here, tree-local, forest-local}
+use Rattle.book.proofs.Local.{Local, local-after, local-times, times-fixed, local-without, local-halved, local-inserted}
+use Rattle.book.proofs.Local.{narrows-outside, Reads, live-reads, free-reads, Here, tree-local, forest-local}
 
 -- of n addresses one is a multiple of n
 aligned-same : (n at a : ℕ) → at % n ≡ 0 → a % n ≡ 0 → at ≤ a → a < at + n → at ≡ a

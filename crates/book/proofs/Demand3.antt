@@ -39,8 +39,10 @@ use Rattle.machine.proofs.Plan.{Planned, settingUp, moving, planned}
 use Rattle.machine.proofs.Steps.{Stepping, refusing, staying, forward, stepping-at, step-is}
 use Rattle.machine.proofs.Keeps.{planned-facts}
 use Rattle.machine.proofs.Extend.{Extends, refusing as declining, growing, extends-at, extend-is, set-up-fits, extended-facts}
-use Rattle.book.specs.Book.{Book, emptyBook, Entry, blocks, enter, enterSetUp, enterFreed, enterDelivered, enterCopied, enterStore}
-use Rattle.book.specs.Steps.{Event, stepped, extended, Leads, begin, after, after-extension, isRefused, reportOf, entryOf, bookAfter, LiveBy}
+use Rattle.book.specs.Book.{Book, emptyBook, Entry, blocks, enter, enterSetUp, enterFreed, enterDelivered, enterCopied}
+use Rattle.book.specs.Book.{enterStore}
+use Rattle.book.specs.Steps.{Event, stepped, extended, Leads, begin, after, after-extension, isRefused, reportOf, entryOf}
+use Rattle.book.specs.Steps.{bookAfter, LiveBy}
 use Rattle.book.specs.Claim.{Tiled, AlignedRun, Served, Claim}
 use Rattle.book.proofs.Maps.{fresh-live, extended-live-map, tiled}
 use Rattle.book.proofs.Moved.{freed-fits, gone-live, new-live}
@@ -104,7 +106,8 @@ module _ (b : ℕ) (events : List Event) (e : Engine) (h : Holds b events e) (l 
         wide = h .wide;
         width = h .width;
         facts = h .facts;
-        matches = subst (Matches b u (e .state .map) (e .storage)) (sym (ap (λ x. enter x (bookAfter events)) nothing ∙ enter-nothing (bookAfter events))) (h .matches);
+        matches = subst (Matches b u (e .state .map) (e .storage)) (sym (ap (λ x. enter x (bookAfter events)) nothing
+            ∙ enter-nothing (bookAfter events))) (h .matches);
         reported = reported-still (stepped l e (unchanged answer l e)) events (liveBlocks e) (h .reported) (positive (h .facts)) refl refl;
       }
 
@@ -132,8 +135,10 @@ module _ (b : ℕ) (events : List Event) (e : Engine) (h : Holds b events e) (l 
           wide = h .wide;
           width = h .width;
           facts = facts;
-          matches = subst (λ k. Matches b (x .state .core .setup) (x .state .map) (storageAfter b x (e .storage)) (enter k (bookAfter events))) (sym (entry-forward x))
-              (subst (λ v. Matches b v (x .state .map) (storageAfter b x (e .storage)) (enter (record { setup = setUpAt l e; report = x .report }) (bookAfter events))) (sym is) match);
+          matches = subst (λ k. Matches b (x .state .core .setup) (x .state .map) (storageAfter b x (e .storage)) (enter k (bookAfter events)))
+              (sym (entry-forward x))
+              (subst (λ v. Matches b v (x .state .map) (storageAfter b x (e .storage)) (enter (record { setup = setUpAt l e; report = x .report })
+              (bookAfter events))) (sym is) match);
           reported = subst (λ v. (y : Block) → List·Memᴰ y (live v (x .state .map)) ↔ LiveBy y (event ∷ events)) (sym is) reported;
         }
 
@@ -147,7 +152,8 @@ module _ (b : ℕ) (events : List Event) (e : Engine) (h : Holds b events e) (l 
         let fits = freed-fits b e (h .facts) x f in
         subst (λ m. (y : Block) → List·Memᴰ y (live u m) ↔ LiveBy y (event ∷ events)) (sym (f .map))
         (subst (λ bs. (y : Block) → List·Memᴰ y bs ↔ LiveBy y (event ∷ events)) (sym (gone-live b e (h .facts) x f))
-        (reported-freed event events (liveBlocks e) (h .reported) (positive (h .facts)) (map-order _ u fits (e .state .map) .0) (x .report .freed) refl (f .size)))
+        (reported-freed event events (liveBlocks e) (h .reported) (positive (h .facts)) (map-order _ u fits (e .state .map) .0) (x .report .freed)
+        refl (f .size)))
     moves-reported (delivers d) =
         subst (λ m. (y : Block) → List·Memᴰ y (live u m) ↔ LiveBy y (event ∷ events)) (sym (d .map))
         (subst (λ bs. (y : Block) → List·Memᴰ y bs ↔ LiveBy y (event ∷ events)) (sym (new-live b e (h .facts) x d))
@@ -158,7 +164,8 @@ module _ (b : ℕ) (events : List Event) (e : Engine) (h : Holds b events e) (l 
     after-moves : setUpAt l e ≡ noSetUp → Done b e x → Facts b (engineAfter b x e) → Holds b (event ∷ events) (engineOf (carriedOut b x l e))
     after-moves none d facts =
         moved facts u (moves-setup (d .moves))
-        (subst (λ v. Matches b u (x .state .map) (storageAfter b x (e .storage)) (enter (record { setup = v; report = x .report }) (bookAfter events))) (sym none)
+        (subst (λ v. Matches b u (x .state .map) (storageAfter b x (e .storage)) (enter (record { setup = v; report = x .report })
+        (bookAfter events))) (sym none)
         (entered b e (h .facts) x (bookAfter events) (h .matches) (d .moves)))
         (moves-reported (d .moves))
 
@@ -171,7 +178,8 @@ module _ (b : ℕ) (events : List Event) (e : Engine) (h : Holds b events e) (l 
         let empty = before-set-up none in
         moved facts v (up .setup)
         (subst (λ m. Matches b v m (storageAfter b x (e .storage)) (enter (record { setup = v; report = x .report }) (bookAfter events))) (sym (up .map))
-        (subst (λ r. Matches b v (freshMap v (length (e .state .map))) (storageAfter b x (e .storage)) (enter (record { setup = v; report = r }) (bookAfter events))) (sym (up .report))
+        (subst (λ r. Matches b v (freshMap v (length (e .state .map))) (storageAfter b x (e .storage))
+        (enter (record { setup = v; report = r }) (bookAfter events))) (sym (up .report))
         (subst (Matches b v (freshMap v (length (e .state .map))) _) (sym (enter-set-up v (bookAfter events)))
         (matches-set-up b _ v (length (e .state .map)) _ (bookAfter events) (up .fits) (sym (h .matches .live) ∙ empty)))))
         (subst (λ bs. (y : Block) → List·Memᴰ y bs ↔ LiveBy y (event ∷ events)) (empty ∙ sym (fresh-live _ v (up .fits) _) ∙ ap (live v) (sym (up .map)))
@@ -187,7 +195,8 @@ module _ (b : ℕ) (events : List Event) (e : Engine) (h : Holds b events e) (l 
             (ap (λ (r : Report). r .freed) (up .report)) (ap (λ (r : Report). r .size) (up .report))
 
   -- the step of a plan
-  after-plan : (x : Effects) → Planned b l e x → Facts b (engineAfter b x e) → Holds b (stepped l e (carriedOut b x l e) ∷ events) (engineOf (carriedOut b x l e))
+  after-plan : (x : Effects) → Planned b l e x → Facts b (engineAfter b x e)
+      → Holds b (stepped l e (carriedOut b x l e) ∷ events) (engineOf (carriedOut b x l e))
   after-plan x (settingUp none core up) facts = after-set-up x none up facts
   after-plan x (moving none d) facts = after-moves x none d facts
 

@@ -140,7 +140,8 @@ module _ (b : ℕ) (e : Engine) (h : Facts b e) (x : Effects) (k : Book) (old : 
     new-one : List·Memᴰ (record { address = r .delivered; size = r .size }) (live u m₁)
     new-one = rw (new-live b e h x d) (inserted-new start _ (live u m))
 
-    others-apart : (y : Block) → List·Memᴰ y (live u m₁) → (y .address ≡ r .delivered → ⊥) → (y .address + y .size ≤ r .delivered) ⊎ (r .delivered + r .size ≤ y .address)
+    others-apart : (y : Block) → List·Memᴰ y (live u m₁) → (y .address ≡ r .delivered → ⊥) → (y .address + y .size ≤ r .delivered)
+        ⊎ (r .delivered + r .size ≤ y .address)
     others-apart y i other =
         ⊎-elim (λ same. absurd (other (ap (λ (z : Block). z .address) same)))
         (λ o. rw (d .size) (outside-mem (r .delivered) (size (d .level)) (live u m)

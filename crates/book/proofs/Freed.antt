@@ -19,8 +19,10 @@ use Rattle.block.proofs.Change.{freed-canonical, changed-canonical}
 use Rattle.block.proofs.Each.{each-mem}
 use Rattle.block.proofs.Tiling.{lies-pos, order-each, forest-order, sizeAt-mem}
 use Rattle.book.specs.Book.{start, inserted, without, times, halves, joinedOnce}
-use Rattle.book.proofs.Apart.{Separate, facts-halves, refuted, separate-after, halves-meet, tree-separate, later-separate, forest-separate}
-use Rattle.book.proofs.Local.{Local, times-fixed, local-without, local-inserted, narrows-member, Reads, live-reads, free-reads, Here, tree-local, forest-local}
+use Rattle.book.proofs.Apart.{Separate, facts-halves, refuted, separate-after, halves-meet, tree-separate, later-separate}
+use Rattle.book.proofs.Apart.{forest-separate}
+use Rattle.book.proofs.Local.{Local, times-fixed, local-without, local-inserted, narrows-member, Reads, live-reads}
+use Rattle.book.proofs.Local.{free-reads, Here, tree-local, forest-local}
 
 -- the live block around address a becomes free, and nothing is rejoined
 emptied : ℕ → ℕ → ℕ → Tree → Tree

@@ -121,7 +121,8 @@ pub narrows-member : (x : Block) → Narrows (x .address) (List·Memᴰ x)
 narrows-member x =
     record {
       left = λ xs order l m. ⊎-elim (λ p. p) (λ p. absurd (omega (arith, each-mem (order-each order) p))) (List·Memᴰ·append-cases xs m);
-      right = λ {xs} ys order l m. ⊎-elim (λ p. let h = each-mem (order-each order) p in absurd (omega (arith, lies-pos h))) (λ p. p) (List·Memᴰ·append-cases xs m);
+      right = λ {xs} ys order l m. ⊎-elim (λ p. let h = each-mem (order-each order) p in absurd (omega (arith, lies-pos h))) (λ p. p)
+          (List·Memᴰ·append-cases xs m);
     }
 
 -- g reads blocks off a tree, half by half and in order

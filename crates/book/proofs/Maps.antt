@@ -97,14 +97,24 @@ module _ (lent : ℕ) (u : SetUp) (fits : fitting lent u ≡ true) where
       pub extended-live-map : live (extendedTo last u) (extendedMap last u m) ≡ live u m
       unfolding live extendedTo
       extended-live-map =
-          rw (tells, gathered-append (liveIn k) k (u .s1) (trees u m) _, fresh-blocks k (u .s1 + length (trees u m) * size k) ((last - u .s2) / size k) .1, append-nil)
+          rw (
+            tells,
+            gathered-append (liveIn k) k (u .s1) (trees u m) _,
+            fresh-blocks k (u .s1 + length (trees u m) * size k) ((last - u .s2) / size k) .1,
+            append-nil,
+          )
 
       pub extended-free-map : free (extendedTo last u) (extendedMap last u m)
           ≡ free u m ++ blocksFrom (u .d) (suc (u .s2)) ((last - u .s2) / u .d)
       unfolding free extendedTo
       extended-free-map =
           let first : u .s1 + length (trees u m) * size k ≡ suc (u .s2) = omega (arith, fill, first-added lent lent last u fits taken) in
-          rw (tells, gathered-append (freeIn k) k (u .s1) (trees u m) _, fresh-blocks k (u .s1 + length (trees u m) * size k) ((last - u .s2) / size k) .0, first)
+          rw (
+            tells,
+            gathered-append (freeIn k) k (u .s1) (trees u m) _,
+            fresh-blocks k (u .s1 + length (trees u m) * size k) ((last - u .s2) / size k) .0,
+            first,
+          )
           (ap (λ d. gathered (freeIn k) k (u .s1) (trees u m) ++ blocksFrom d (suc (u .s2)) ((last - u .s2) / d)) largest)
 
     -- live and free blocks tile the set-up words

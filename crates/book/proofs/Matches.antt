@@ -25,9 +25,13 @@ use Rattle.machine.specs.declared.Store.{Store}
 use Rattle.machine.specs.declared.Report.{Report}
 use Rattle.machine.specs.Storage.{wordAt, placed, withStore, withDelivery, withCopy}
 use Rattle.machine.proofs.Located.{StoreFacts, nowhere, inBlock}
-use Rattle.book.specs.Book.{Book, LiveBlock, start, liveStart, inserted, without, times, joinedOnce, halvedOnce, blocks, noBits, bitsAt, storedBits, enterSetUp, enterExtension, enterFreed, enterDelivered, enterCopied, enterStore}
-use Rattle.book.proofs.Maps.{fresh-live, fresh-free, extended-live-map, extended-free-map, freed-live-map, freed-free-map, delivered-live-map, delivered-free-map}
-use Rattle.book.proofs.Lists.{each-inserted, each-without, each-blocks, each-both, each-changed, blocks-inserted, blocks-without}
+use Rattle.book.specs.Book.{Book, LiveBlock, start, liveStart, inserted, without, times, joinedOnce, halvedOnce, blocks}
+use Rattle.book.specs.Book.{noBits, bitsAt, storedBits, enterSetUp, enterExtension, enterFreed, enterDelivered, enterCopied}
+use Rattle.book.specs.Book.{enterStore}
+use Rattle.book.proofs.Maps.{fresh-live, fresh-free, extended-live-map, extended-free-map, freed-live-map, freed-free-map}
+use Rattle.book.proofs.Maps.{delivered-live-map, delivered-free-map}
+use Rattle.book.proofs.Lists.{each-inserted, each-without, each-blocks, each-both, each-changed, blocks-inserted}
+use Rattle.book.proofs.Lists.{blocks-without}
 use Rattle.book.proofs.Bits.{BlockBits, store-bits, placed-other, zero-bits, copy-bits}
 
 -- the book's blocks are those of the map, and its bits those of the storage
@@ -121,7 +125,8 @@ module _ (b : ℕ) (u : SetUp) (m : List ℕ) where
       })
     where
       same : (let more = inserted start (record { address = a; size = sizeAt a (live u m) }) (free u m) in times (length more) (joinedOnce (u .d)) more)
-          ≡ (let more = inserted start (record { address = a; size = sizeAt a (blocks (k .live)) }) (k .free) in times (length more) (joinedOnce (k .setup .d)) more)
+          ≡ (let more = inserted start (record { address = a; size = sizeAt a (blocks (k .live)) }) (k .free) in
+          times (length more) (joinedOnce (k .setup .d)) more)
       same = rw (h .live, h .free, h .setup) refl
 
   -- a delivery
@@ -153,8 +158,12 @@ module _ (b : ℕ) (u : SetUp) (m : List ℕ) where
         let a = r .delivered in
         let (from, inside) = run-lies in
         let fits′ : a - u .s1 + length (replicate {A = ℕ} (r .size) 0) ≤ length ws = rw length-replicate inside in
-        let out : Each (λ (x : LiveBlock). (x .block .address + x .block .size ≤ a) ⊎ (a + length (replicate {A = ℕ} (r .size) 0) ≤ x .block .address)) (k .live)
-        = each-blocks (k .live) (rw (length-replicate, isSize) (subst (Each _) (h .live) (outside-each a (size j) (live u m) (runs-sound (size j) u (live u m) pos run .2)))) in
+        let out : Each (λ (x : LiveBlock). (x .block .address + x .block .size ≤ a)
+        ⊎ (a + length (replicate {A = ℕ} (r .size) 0) ≤ x .block .address)) (k .live)
+        = each-blocks (k .live) (rw (
+          length-replicate,
+          isSize,
+        ) (subst (Each _) (h .live) (outside-each a (size j) (live u m) (runs-sound (size j) u (live u m) pos run .2)))) in
         rw (ne-eqb (r .size) 0 (λ z. absurd (omega (arith, isSize))))
         (record {
           setup = h .setup;

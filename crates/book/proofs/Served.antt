@@ -23,7 +23,8 @@ use Rattle.machine.specs.State.{isFinished, onCore, movedTo, isSetUp}
 use Rattle.machine.specs.Sound.{Lent, Engine, sound}
 use Rattle.machine.specs.Locate.{world, liveBlocks, locate, contents}
 use Rattle.machine.specs.Effects.{Effects, engineAfter}
-use Rattle.machine.specs.Operations.{Given, Wanted, getWants, duplicateWants, delivering, andStoring, get, duplicate, firstRun, lowestRun, meaning, meaningOf, operationOf, operations}
+use Rattle.machine.specs.Operations.{Given, Wanted, getWants, duplicateWants, delivering, andStoring, get, duplicate, firstRun}
+use Rattle.machine.specs.Operations.{lowestRun, meaning, meaningOf, operationOf, operations}
 use Rattle.machine.specs.Step.{given, inTurn, operationStep, plan, outcome, unchanged, carriedOut, stepAt}
 use Rattle.machine.proofs.Checks.{need-passed, bind-passed, passed-same}
 use Rattle.machine.proofs.Facts.{Facts}
@@ -247,7 +248,8 @@ module _ (b : ℕ) (l : Lent) (e : Engine) (k : stepAt b l e .stepped .answer �
         get-refused b (given l e) w wants .0 (subst (λ n. meaning n b (given l e) ≡ refused NoRun) code (turned-so (λ q. absurd (omega arith)) .1))
 
     abbrev IsCleared : Wanted → Type 0
-    IsCleared w = ((rowAt (l .table) there .code ≡ 3) × (getWants b (given l e) ≡ passed w)) ⊎ ((rowAt (l .table) there .code ≡ 5) × (duplicateWants b (given l e) ≡ passed w))
+    IsCleared w = ((rowAt (l .table) there .code ≡ 3) × (getWants b (given l e) ≡ passed w))
+        ⊎ ((rowAt (l .table) there .code ≡ 5) × (duplicateWants b (given l e) ≡ passed w))
 
     cleared-wants : (w : Wanted) → (rowAt (l .table) there .code ≡ 1 → ⊥) → IsCleared w → Wants b l e w
     unfolding plan operationStep
@@ -265,14 +267,16 @@ module _ (b : ℕ) (l : Lent) (e : Engine) (k : stepAt b l e .stepped .answer �
     unfolding meaning meaningOf operationOf operations get
     wants-get code =
         let other : rowAt (l .table) there .code ≡ 1 → ⊥ = λ q. omega arith in
-        let (w, k₁) = bind-cleared (getWants b (given l e)) _ (never (get-wants-fine b (given l e))) (subst (λ n. meaning n b (given l e) ≡ refused NoRun) code (turned-so other .1)) in
+        let (w, k₁) = bind-cleared (getWants b (given l e)) _ (never (get-wants-fine b (given l e)))
+        (subst (λ n. meaning n b (given l e) ≡ refused NoRun) code (turned-so other .1)) in
         (w, cleared-wants w other (inl (code, k₁)))
 
     wants-duplicate : rowAt (l .table) there .code ≡ 5 → (w : Wanted) × Wants b l e w
     unfolding meaning meaningOf operationOf operations duplicate
     wants-duplicate code =
         let other : rowAt (l .table) there .code ≡ 1 → ⊥ = λ q. omega arith in
-        let (w, k₁) = bind-cleared (duplicateWants b (given l e)) _ (never (duplicate-wants-fine b (given l e))) (subst (λ n. meaning n b (given l e) ≡ refused NoRun) code (turned-so other .1)) in
+        let (w, k₁) = bind-cleared (duplicateWants b (given l e)) _ (never (duplicate-wants-fine b (given l e)))
+        (subst (λ n. meaning n b (given l e) ≡ refused NoRun) code (turned-so other .1)) in
         (w, cleared-wants w other (inr (code, k₁)))
 
 -- so a step that is refused for want of storage is a get or a duplicate that has cleared its earlier checks

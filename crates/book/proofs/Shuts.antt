@@ -112,7 +112,11 @@ module _ (b : ℕ) (ws : List ℕ) (events : List Event) (e : Engine) (leads : L
       let g = extending-facts lent last u taken in
       let next : u .s1 + words u ≡ suc (u .s2) = first-added lent lent last u fits taken in
       let all : words (extendedTo last u) ≡ words u + (last - u .s2) = extended-words lent lent last u fits taken in
-      let large : u .d ≤ last - u .s2 = at-least (u .d) (last - u .s2) ((last - u .s2) / u .d) (omega (arith, div-add-mod' (last - u .s2) (u .d), g .whole)) (omega (arith, g .later)) in
+      let large : u .d ≤ last - u .s2 = at-least (u .d) (last - u .s2) ((last - u .s2) / u .d) (omega (
+        arith,
+        div-add-mod' (last - u .s2) (u .d),
+        g .whole,
+      )) (omega (arith, g .later)) in
       let small : n ≤ u .d = rw same (subst (λ d. size j ≤ d) (f .largest) (size-mono low)) in
       let d = demand-3 b ws now wider (after-extension leads last) in
       let before = demand-3 b ws events e leads in

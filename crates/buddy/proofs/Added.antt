@@ -92,6 +92,11 @@ module _ (u : SetUp) (last : ℕ) (m : List ℕ) (taken : (lent : ℕ) × (fitti
   unfolding extendedMap mapOf extendedTo
   added-map ys made =
       let rest : drop (length m - w) (drop w m) ≡ [] = drop-of-length-le (drop w m) {i = length m - w} (rw length-drop (omega arith)) in
-      let zeros : length (take (length m - w) (drop w m)) - added / n * size k ≡ length m - words (extendedTo last u) = omega (arith, fill, all-words, part-long) in
+      let zeros : length (take (length m - w) (drop w m)) - added / n * size k ≡ length m - words (extendedTo last u) = omega (
+        arith,
+        fill,
+        all-words,
+        part-long,
+      ) in
       rw (rest, append-nil, trees-before, made, zeros, written-append (top (u .d)) (trees u m) _)
       (rw (en, ek) (sym (append-assoc before _ _)))

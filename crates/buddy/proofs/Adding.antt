@@ -119,7 +119,8 @@ module _ (k : ℕ) (m : List ℕ) where
           let odd : q ≡ half + half + 1 = omega arith in
           let twice : half * (size j + size j) ≡ half * size j + half * size j = omega arith in
           let parts : q * size j ≡ half * size (suc j) + size j = rw size-suc (ap (λ (n : ℕ). n * size j) odd ∙ omega arith) in
-          let rest : (half * size (suc j) + size j) % size (suc j) ≡ size j = mul-add-mod-self-right half (size (suc j)) (size j) ∙ mod-eq-of-lt (omega (arith, size-suc j, size-pos j)) in
+          let rest : (half * size (suc j) + size j) % size (suc j) ≡ size j = mul-add-mod-self-right half (size (suc j)) (size j)
+          ∙ mod-eq-of-lt (omega (arith, size-suc j, size-pos j)) in
           omega (arith, sym rest ∙ ap (λ (n : ℕ). n % size (suc j)) (sym parts) ∙ e, size-pos j)
 
   -- nor one above the tree's level
@@ -210,11 +211,13 @@ module _ (k : ℕ) (m : List ℕ) where
     pass-step {s} {r} apart more halves =
         by-eqb (λ t. ((t || eqb first (liveTag j)) ≡ false → Adds k m (q * size j) s r) → Adds k m (q * size j) s r) first (freeTag j)
         (λ e _. block-passed j q (freeTag j) inside e (level-free j) (free-starts j q low e (λ o. apart o e))
-        (subst (λ (n : ℕ). Adds k m (q * size j + size j) (s + n) r) (ap (λ (t : Tree). marks (written j t)) (free-tree e) ∙ unfold written marks mark freeTag liveTag in rw marks-zeros (omega arith)) more))
+        (subst (λ (n : ℕ). Adds k m (q * size j + size j) (s + n) r) (ap (λ (t : Tree). marks (written j t)) (free-tree e)
+        ∙ unfold written marks mark freeTag liveTag in rw marks-zeros (omega arith)) more))
         (λ f other.
         by-eqb (λ t. (t ≡ false → Adds k m (q * size j) s r) → Adds k m (q * size j) s r) first (liveTag j)
         (λ e _. block-passed j q (liveTag j) inside e (level-live j) (live-starts j q low e)
-        (subst (λ (n : ℕ). Adds k m (q * size j + size j) (s + n) r) (ap (λ (t : Tree). marks (written j t)) (live-tree e) ∙ unfold written marks mark freeTag liveTag in rw marks-zeros (omega arith)) more))
+        (subst (λ (n : ℕ). Adds k m (q * size j + size j) (s + n) r) (ap (λ (t : Tree). marks (written j t)) (live-tree e)
+        ∙ unfold written marks mark freeTag liveTag in rw marks-zeros (omega arith)) more))
         (λ g neither. neither refl) other)
         halves
 
@@ -243,7 +246,12 @@ module _ (k : ℕ) (m : List ℕ) where
       → getD m ((q + q) * size j) 0 ≡ freeTag j → getD m ((q + q + 1) * size j) 0 ≡ freeTag j → ⊥
   not-both j q h low high =
       let both : (isFree (tells j (q + q)) && isFree (tells j (q + q + 1))) ≡ true
-      = rw (free-first j (q + q), free-first j (q + q + 1), eq-eqb (getD m ((q + q) * size j) 0) (freeTag j) low, eq-eqb (getD m ((q + q + 1) * size j) 0) (freeTag j) high) in
+      = rw (
+        free-first j (q + q),
+        free-first j (q + q + 1),
+        eq-eqb (getD m ((q + q) * size j) 0) (freeTag j) low,
+        eq-eqb (getD m ((q + q + 1) * size j) 0) (freeTag j) high,
+      ) in
       let z : _≡_ {A = ℕ} 0 1 = unlike' (sym (ap not both) ∙ h) in omega arith
     where
       unlike' : false ≡ true → _≡_ {A = ℕ} 0 1
@@ -270,7 +278,8 @@ module _ (k : ℕ) (m : List ℕ) where
       let high = passed j (q + q + 1) (omega arith) (omega arith) (parts .1)
       (λ o here before. not-both j q (parts .2) (ap (λ (n : ℕ). getD m n 0) (sym (low-of j q)) ∙ before) here) last in
       subst (λ (n : ℕ). Adds k m n s r) (low-place j q)
-      (passed j (q + q) (omega arith) (omega arith) (parts .0) (λ o. absurd (even q o)) (subst (λ (n : ℕ). Adds k m n (s + marks (written j (tells j (q + q)))) r) (sym next) high)))
+      (passed j (q + q) (omega arith) (omega arith) (parts .0) (λ o. absurd (even q o))
+      (subst (λ (n : ℕ). Adds k m n (s + marks (written j (tells j (q + q)))) r) (sym next) high)))
 
   -- a tag first tells one block, which is canonical
   tag-whole : (j q : ℕ) → canonical j (tells j q) ≡ false → isTag j (getD m (q * size j) 0) ≡ false
@@ -311,9 +320,11 @@ module _ (k : ℕ) (m : List ℕ) where
           → (getD m ((q + q) * size j) 0 ≡ freeTag j) × (getD m ((q + q + 1) * size j) 0 ≡ freeTag j)
       both-free =
           rw (free-first j (q + q), free-first j (q + q + 1))
-          (by-eqb (λ t. not (t && eqb (getD m ((q + q + 1) * size j) 0) (freeTag j)) ≡ false → (getD m ((q + q) * size j) 0 ≡ freeTag j) × (getD m ((q + q + 1) * size j) 0 ≡ freeTag j))
+          (by-eqb (λ t. not (t && eqb (getD m ((q + q + 1) * size j) 0) (freeTag j)) ≡ false → (getD m ((q + q) * size j) 0 ≡ freeTag j)
+          × (getD m ((q + q + 1) * size j) 0 ≡ freeTag j))
           (getD m ((q + q) * size j) 0) (freeTag j)
-          (λ e. by-eqb (λ t. not t ≡ false → (getD m ((q + q) * size j) 0 ≡ freeTag j) × (getD m ((q + q + 1) * size j) 0 ≡ freeTag j)) (getD m ((q + q + 1) * size j) 0) (freeTag j)
+          (λ e. by-eqb (λ t. not t ≡ false → (getD m ((q + q) * size j) 0 ≡ freeTag j) × (getD m ((q + q + 1) * size j) 0 ≡ freeTag j))
+          (getD m ((q + q + 1) * size j) 0) (freeTag j)
           (λ f _. (e, f)) (λ f h. absurd (unlike h refl)))
           (λ e h. absurd (unlike h refl)))
 
@@ -358,7 +369,8 @@ module _ (k : ℕ) (m : List ℕ) where
       let past : length m ≤ 0 * size k + size k = omega arith in
       let done : Adds k m (0 * size k + size k) (0 + marks (written k (tells k 0))) (marks (written k (told k m)))
       = rw (here, sum) (ends past) in
-      subst (λ (n : ℕ). Adds k m n 0 (marks (written k (told k m)))) none (passed k 0 (omega arith) fits (ap (canonical k) here ∙ h) (λ o. absurd (omega arith)) done))
+      subst (λ (n : ℕ). Adds k m n 0 (marks (written k (told k m)))) none (passed k 0 (omega arith) fits (ap (canonical k) here
+      ∙ h) (λ o. absurd (omega arith)) done))
       (λ _ h.
       by-leb (λ _. Adds k m 0 0 0) (getD m 0 0) (liveTag k)
       (λ below. subst (λ (n : ℕ). Adds k m n 0 0) none (stopped k 0 (omega arith) fits (rw none below) (ap (canonical k) here ∙ h)))

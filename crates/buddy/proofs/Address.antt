@@ -63,7 +63,8 @@ module _ (u : SetUp) (m : List ℕ) where
           ∙ ap (λ (xs : List ℕ). tagSize (getD xs (a - u .s1) 0)) (keeps-parts u m kept .1)
 
       -- a live block starts in them, and its byte is its tag
-      live-here : (a : ℕ) → (sizeAt a (live u m) ≡ 0 → ⊥) → (u .s1 ≤ a) × (a < u .s1 + words u) × (getD m (a - u .s1) 0 ≡ liveTag (getD m (a - u .s1) 0 / 2 - 1))
+      live-here : (a : ℕ) → (sizeAt a (live u m) ≡ 0 → ⊥) → (u .s1 ≤ a) × (a < u .s1 + words u)
+          × (getD m (a - u .s1) 0 ≡ liveTag (getD m (a - u .s1) 0 / 2 - 1))
       live-here a some =
           let low : u .s1 ≤ a = by-leb (λ _. u .s1 ≤ a) (u .s1) a (λ h. h) (λ l. absurd (some (live-below a l))) in
           let high : a < u .s1 + words u = by-leb (λ _. a < u .s1 + words u) (u .s1 + words u) a (λ l. absurd (some (live-above a l))) (λ h. h) in
@@ -144,7 +145,8 @@ module _ (u : SetUp) (m : List ℕ) where
         byte-there =
             let small = mod-lt (a - u .s1) n-pos in
             let far : start + (a - u .s1) % n ≡ a - u .s1 = div-add-mod' (a - u .s1) n in
-            getD-take (start + n - start) (drop start m) ((a - u .s1) % n) 0 (omega arith) ∙ getD-drop start m ((a - u .s1) % n) 0 ∙ ap (λ (i : ℕ). getD m i 0) far
+            getD-take (start + n - start) (drop start m) ((a - u .s1) % n) 0 (omega arith) ∙ getD-drop start m ((a - u .s1) % n) 0
+            ∙ ap (λ (i : ℕ). getD m i 0) far
 
         module _ (i : ℕ) (tag : getD m (a - u .s1) 0 ≡ liveTag i) where
           abbrev part : List ℕ

@@ -111,7 +111,8 @@ none-outside (suc k) at a n (Halves x y) l h whole used =
     let e = size-suc k in
     rw (outside-append n a (liveIn k at x) (liveIn k (at + size k) y))
     (by-test (λ b. isFree x ≡ b → not (b && isFree y) ≡ true → (outside a n (liveIn k at x) && outside a n (liveIn k (at + size k) y)) ≡ false) (isFree x)
-    (λ _ free other. rw (none-outside k (at + size k) a n y (omega arith) (omega arith) right (not-not (isFree y) other)) (and-false (outside a n (liveIn k at x))))
+    (λ _ free other. rw (none-outside k (at + size k) a n y (omega arith) (omega arith) right (not-not (isFree y) other))
+    (and-false (outside a n (liveIn k at x))))
     (λ _ taken other. rw (none-outside k at a n x (omega arith) (omega arith) left taken))
     refl apart)
   where
@@ -159,7 +160,8 @@ lowest-runs (suc k) j count at (Halves x y) l e whole =
     let twice : count ≡ q + q = eq-of-mul-eq-mul-right (size j) (size-pos j) count (q + q) times in
     let two = runs-two (size j) at q q (at + size k) ((at + size k) + size k) lows highs (live-within k at x) (live-within k (at + size k) y) (omega arith) in
     ap₂ orElse (lowest-runs k j q at x (omega arith) (sym same) left) (lowest-runs k j q (at + size k) y (omega arith) (sym same) right)
-    ∙ sym (ap (λ (c : ℕ). firstOf (runsFrom (size j) at (lows ++ highs) c)) twice ∙ ap firstOf two ∙ first-append (runsFrom (size j) at lows q) (runsFrom (size j) (at + size k) highs q)))
+    ∙ sym (ap (λ (c : ℕ). firstOf (runsFrom (size j) at (lows ++ highs) c)) twice ∙ ap firstOf two
+    ∙ first-append (runsFrom (size j) at lows q) (runsFrom (size j) (at + size k) highs q)))
 
 -- and in one tree after the other
 all-runs : (k j c at : ℕ) (ts : List Tree) → j ≤ k → c * size j ≡ size k → allCanonical k ts ≡ true
@@ -172,9 +174,11 @@ all-runs k j c at (t ∷ ts) l e whole =
     let (first, others) = and-true (canonical k t) _ whole in
     let later = gathered (liveIn k) k (at + size k) ts in
     let more : suc (length ts) * c ≡ c + length ts * c = omega arith in
-    let two = runs-two (size j) at c (length ts * c) (at + size k) ((at + size k) + length ts * size k) (liveIn k at t) later (live-within k at t) (all-within k (at + size k) ts) (omega arith) in
+    let two = runs-two (size j) at c (length ts * c) (at + size k) ((at + size k) + length ts * size k) (liveIn k at t) later (live-within k at t)
+    (all-within k (at + size k) ts) (omega arith) in
     ap₂ orElse (lowest-runs k j c at t l e first) (all-runs k j c (at + size k) ts l e others)
-    ∙ sym (ap (λ (i : ℕ). firstOf (runsFrom (size j) at (liveIn k at t ++ later) i)) more ∙ ap firstOf two ∙ first-append (runsFrom (size j) at (liveIn k at t) c) (runsFrom (size j) (at + size k) later (length ts * c)))
+    ∙ sym (ap (λ (i : ℕ). firstOf (runsFrom (size j) at (liveIn k at t ++ later) i)) more ∙ ap firstOf two
+    ∙ first-append (runsFrom (size j) at (liveIn k at t) c) (runsFrom (size j) (at + size k) later (length ts * c)))
 
 -- the first of the runs of a map that keeps the section
 pub first-run : (u : SetUp) (m : List ℕ) (j : ℕ) → words u % size (top (u .d)) ≡ 0 → keeps u m ≡ true → j ≤ top (u .d)

@@ -52,7 +52,8 @@ all-thinned k (suc c) m h =
 
 -- numbers that are compared after a test
 tested : (b : Bool) (x y : ℕ) → (b && eqb x y) ≡ eqb (cond b (1 + x) 0) (1 + y)
-tested true x y = by-eqb (λ t. t ≡ eqb (1 + x) (1 + y)) x y (λ e. sym (eq-eqb (1 + x) (1 + y) (omega arith))) (λ f. sym (ne-eqb (1 + x) (1 + y) (λ e. f (omega arith))))
+tested true x y = by-eqb (λ t. t ≡ eqb (1 + x) (1 + y)) x y (λ e. sym (eq-eqb (1 + x) (1 + y) (omega arith)))
+    (λ f. sym (ne-eqb (1 + x) (1 + y) (λ e. f (omega arith))))
 tested false x y = sym (ne-eqb 0 (1 + y) (λ e. omega arith))
 
 -- a map keeps the section if its trees' tags are all that is not zero

@@ -105,7 +105,8 @@ pub all-tag : (k at o : ℕ) (ts : List Tree) (rest : List ℕ) → k ≤ 7 → 
 unfolding gathered allWritten
 all-tag k at o [] rest h l = absurd (omega arith)
 all-tag k at o (t ∷ ts) rest h l =
-    by-leb (λ b. sizeAt (at + o) (liveIn k at t ++ gathered (liveIn k) k (at + size k) ts) ≡ tagSize (getD ((written k t ++ allWritten k ts) ++ rest) o 0)) (suc o) (size k)
+    by-leb (λ b. sizeAt (at + o) (liveIn k at t ++ gathered (liveIn k) k (at + size k) ts)
+    ≡ tagSize (getD ((written k t ++ allWritten k ts) ++ rest) o 0)) (suc o) (size k)
     (λ low.
     size-first (at + o) (liveIn k at t) (each-map (past-other (omega arith)) (all-within k (at + size k) ts))
     ∙ tree-tag k at o t h low

@@ -16,7 +16,8 @@ use Rattle.buddy.specs.Lowest.{firstOf, orElse, lowestIn, Passed, here, 
 use Rattle.word.proofs.Tests.{by-leb}
 use Rattle.block.proofs.Map.{first-append, canonical-halves}
 use Rattle.buddy.proofs.Tags.{halves-first}
-use Rattle.buddy.proofs.Rest.{Made, Rest, none, more, After, Reached, first-byte, halves-bytes, halves-words, after, second-half, goes-on, none-left, starts}
+use Rattle.buddy.proofs.Rest.{Made, Rest, none, more, After, Reached, first-byte, halves-bytes, halves-words, after}
+use Rattle.buddy.proofs.Rest.{second-half, goes-on, none-left, starts}
 use Rattle.buddy.proofs.Lowest.{lowestOf, lowest-large, lowest-none}
 use Rattle.buddy.proofs.First.{first-run}
 
@@ -88,7 +89,8 @@ module _ (s w i : ℕ) (m : List ℕ) {j : ℕ} {r : Found} where
         go p (small h a) = absurd (omega arith)
 
     -- an even one is that of a live block, which is passed
-    pub meets-live : freeTag j ≤ getD m i 0 → getD m i 0 % 2 ≡ 0 → (getD m i 0 / 2 - 1 ≤ 7) × ((n : ℕ) → n ≡ size (getD m i 0 / 2 - 1) → Scanned j s w m r (i + n))
+    pub meets-live : freeTag j ≤ getD m i 0 → getD m i 0 % 2 ≡ 0 → (getD m i 0 / 2 - 1 ≤ 7)
+        × ((n : ℕ) → n ≡ size (getD m i 0 / 2 - 1) → Scanned j s w m r (i + n))
     unfolding freeTag liveTag
     meets-live large even = go (first-byte m i) block
       where
@@ -96,8 +98,11 @@ module _ (s w i : ℕ) (m : List ℕ) {j : ℕ} {r : Found} where
             → (getD m i 0 / 2 - 1 ≤ 7) × ((n : ℕ) → n ≡ size (getD m i 0 / 2 - 1) → Scanned j s w m r (i + n))
         go p (free k l e found) = absurd (omega arith)
         go p (taken k l h e a) =
-            let same : k ≡ getD m i 0 / 2 - 1 = omega arith in
-            (omega arith, λ n is. goes-on s w i m (omega arith) (subst (λ (x : ℕ). After (lowestMade j) j x (s + i) (w - i) (drop i m) r) (ap size same ∙ sym is) a))
+            let same : k ≡ getD m i 0 / 2 - 1 = omega arith in (
+              omega arith,
+              λ n is. goes-on s w i m (omega arith) (subst (λ (x : ℕ). After (lowestMade j) j x (s + i) (w - i) (drop i m) r)
+                  (ap size same ∙ sym is) a),
+            )
         go p (small h a) = absurd (omega arith)
 
     -- with a smaller tag there is no run in as many words as are wanted

@@ -70,7 +70,8 @@ around (low {j} r p) =
       before = a .before;
       after = written j r ++ a .after;
       long = a .long;
-      bytes = λ t. a .bytes (Halves t r) ∙ ap (λ (xs : List ℕ). a .before ++ (xs ++ a .after)) (written-halves j t r) ∙ ap (λ (xs : List ℕ). a .before ++ xs) (append-assoc (written j t) (written j r) (a .after));
+      bytes = λ t. a .bytes (Halves t r) ∙ ap (λ (xs : List ℕ). a .before ++ (xs ++ a .after)) (written-halves j t r)
+          ∙ ap (λ (xs : List ℕ). a .before ++ xs) (append-assoc (written j t) (written j r) (a .after));
     }
 around (high {j} l p) =
     let a = around p in
@@ -78,7 +79,8 @@ around (high {j} l p) =
       before = a .before ++ written j l;
       after = a .after;
       long = rw (length-append, length-written) (ap (λ (n : ℕ). n + size j) (a .long));
-      bytes = λ t. a .bytes (Halves l t) ∙ ap (λ (xs : List ℕ). a .before ++ (xs ++ a .after)) (written-halves j l t) ∙ ap (λ (xs : List ℕ). a .before ++ xs) (append-assoc (written j l) (written j t) (a .after)) ∙ sym (append-assoc (a .before) (written j l) _);
+      bytes = λ t. a .bytes (Halves l t) ∙ ap (λ (xs : List ℕ). a .before ++ (xs ++ a .after)) (written-halves j l t)
+          ∙ ap (λ (xs : List ℕ). a .before ++ xs) (append-assoc (written j l) (written j t) (a .after)) ∙ sym (append-assoc (a .before) (written j l) _);
     }
 
 -- one block there: its tag, and the bytes with another
@@ -121,11 +123,14 @@ module _ {j k : ℕ} (p : Path (suc j) k) where
       let rest = replicate {A = ℕ} (n - 1) 0 in
       let long : length (a .before ++ first) ≡ place p + n = rw (length-append, length-written') (ap (λ (i : ℕ). i + n) (a .long)) in
       let whole : written k (plug p (Halves Free Free)) ≡ (a .before ++ first) ++ freeTag j ∷ (rest ++ a .after)
-      = a .bytes (Halves Free Free) ∙ ap (λ (xs : List ℕ). a .before ++ xs) (append-assoc first (freeTag j ∷ rest) (a .after)) ∙ sym (append-assoc (a .before) first _) in
+      = a .bytes (Halves Free Free) ∙ ap (λ (xs : List ℕ). a .before ++ xs) (append-assoc first (freeTag j ∷ rest) (a .after))
+      ∙ sym (append-assoc (a .before) first _) in
       ap (λ (xs : List ℕ). set (set xs (place p + n) 0) (place p) (freeTag (suc j))) whole
-      ∙ ap (λ (xs : List ℕ). set xs (place p) (freeTag (suc j))) (set-at (a .before ++ first) (freeTag j) (rest ++ a .after) 0 (place p + n) long ∙ append-assoc (a .before) first (0 ∷ (rest ++ a .after)))
+      ∙ ap (λ (xs : List ℕ). set xs (place p) (freeTag (suc j))) (set-at (a .before ++ first) (freeTag j) (rest ++ a .after) 0 (place p + n) long
+      ∙ append-assoc (a .before) first (0 ∷ (rest ++ a .after)))
       ∙ set-at (a .before) (freeTag j) (rest ++ 0 ∷ (rest ++ a .after)) (freeTag (suc j)) (place p) (a .long)
-      ∙ sym (a .bytes Free ∙ ap (λ (xs : List ℕ). a .before ++ (xs ++ a .after)) (free-halves j) ∙ ap (λ (xs : List ℕ). a .before ++ xs) (append-assoc (freeTag (suc j) ∷ rest) (0 ∷ rest) (a .after)))
+      ∙ sym (a .bytes Free ∙ ap (λ (xs : List ℕ). a .before ++ (xs ++ a .after)) (free-halves j)
+      ∙ ap (λ (xs : List ℕ). a .before ++ xs) (append-assoc (freeTag (suc j) ∷ rest) (0 ∷ rest) (a .after)))
     where
       length-written' : length (freeTag j ∷ replicate (size j - 1) 0) ≡ size j
       length-written' = length-written j Free
@@ -156,10 +161,12 @@ module _ {j k : ℕ} (p : Path (suc j) k) (at : ℕ) (l : List ℕ) where
     low-widens e =
         let a = place p in
         let apart : a ≢ a + size j = λ z. omega (arith, size-pos j) in
-        let here : set l a (freeTag j) ≡ written k (plug p (Halves Free Free)) = ap (λ (n : ℕ). set l n (freeTag j)) (sym (t .0)) ∙ t .1 ∙ ap (λ (x : Tree). written k (plug p (Halves Free x))) e in
+        let here : set l a (freeTag j) ≡ written k (plug p (Halves Free Free)) = ap (λ (n : ℕ). set l n (freeTag j)) (sym (t .0)) ∙ t .1
+        ∙ ap (λ (x : Tree). written k (plug p (Halves Free x))) e in
         rw low-start
         (sym (set-set (set l (a + size j) 0) a (freeTag j) (freeTag (suc j)))
-        ∙ ap (λ (xs : List ℕ). set xs a (freeTag (suc j))) (sym (set-comm l a (a + size j) (freeTag j) 0 apart) ∙ ap (λ (xs : List ℕ). set xs (a + size j) 0) here)
+        ∙ ap (λ (xs : List ℕ). set xs a (freeTag (suc j))) (sym (set-comm l a (a + size j) (freeTag j) 0 apart)
+        ∙ ap (λ (xs : List ℕ). set xs (a + size j) 0) here)
         ∙ widened p)
 
   module _ (r : Tree) (t : Tagged (high r p)) where
@@ -182,7 +189,8 @@ module _ {j k : ℕ} (p : Path (suc j) k) (at : ℕ) (l : List ℕ) where
     unfolding place plug
     high-widens e =
         let b = place p + size j in
-        let here : set l b (freeTag j) ≡ written k (plug p (Halves Free Free)) = ap (λ (n : ℕ). set l n (freeTag j)) (sym (t .0)) ∙ t .1 ∙ ap (λ (x : Tree). written k (plug p (Halves x Free))) e in
+        let here : set l b (freeTag j) ≡ written k (plug p (Halves Free Free)) = ap (λ (n : ℕ). set l n (freeTag j)) (sym (t .0)) ∙ t .1
+        ∙ ap (λ (x : Tree). written k (plug p (Halves x Free))) e in
         rw high-start
         (ap (λ (xs : List ℕ). set xs (place p) (freeTag (suc j))) (sym (set-set l b (freeTag j) 0) ∙ ap (λ (xs : List ℕ). set xs b 0) here) ∙ widened p)
 
@@ -195,18 +203,32 @@ widens-from root at l new h here tagged risen free = absurd (omega arith)
 widens-from (low {j} {k} r p) at l new h here tagged risen free =
     let t : Tagged p at l (low r p) = (here, tagged) in
     let e = first-free j r (sym (low-byte p at l r t) ∙ free) in
-    record { path = p; here = low-start p at l r t; tagged = low-widens p at l r t e; risen = risen ∙ ap (λ (x : Tree). written k (rejoined p (joined Free x))) e }
+    record {
+      path = p;
+      here = low-start p at l r t;
+      tagged = low-widens p at l r t e;
+      risen = risen
+          ∙ ap (λ (x : Tree). written k (rejoined p (joined Free x))) e;
+    }
 widens-from (high {j} {k} r p) at l new h here tagged risen free =
     let t : Tagged p at l (high r p) = (here, tagged) in
     let e = first-free j r (sym (high-byte p at l r t) ∙ free) in
-    record { path = p; here = high-start p at l r t; tagged = high-widens p at l r t e; risen = risen ∙ ap (λ (x : Tree). written k (rejoined p (joined x Free))) e }
+    record {
+      path = p;
+      here = high-start p at l r t;
+      tagged = high-widens p at l r t e;
+      risen = risen
+          ∙ ap (λ (x : Tree). written k (rejoined p (joined x Free))) e;
+    }
 
 -- halves stay halves all the way up
 halves-rejoined : {j k : ℕ} (p : Path j k) (l r : Tree) → rejoined p (Halves l r) ≡ plug p (Halves l r)
 unfolding rejoined plug
 halves-rejoined root l r = refl
-halves-rejoined (low s p) l r = ap (rejoined p) (joined-first (Halves l r) s (λ e. let z : _≡_ {A = ℕ} 0 1 = cc in omega arith)) ∙ halves-rejoined p (Halves l r) s
-halves-rejoined (high s p) l r = ap (rejoined p) (joined-second s (Halves l r) (λ e. let z : _≡_ {A = ℕ} 0 1 = cc in omega arith)) ∙ halves-rejoined p s (Halves l r)
+halves-rejoined (low s p) l r = ap (rejoined p) (joined-first (Halves l r) s (λ e. let z : _≡_ {A = ℕ} 0 1 = cc in omega arith))
+    ∙ halves-rejoined p (Halves l r) s
+halves-rejoined (high s p) l r = ap (rejoined p) (joined-second s (Halves l r) (λ e. let z : _≡_ {A = ℕ} 0 1 = cc in omega arith))
+    ∙ halves-rejoined p s (Halves l r)
 
 -- and where it is not, the tag is all
 stays : {j k : ℕ} (p : Path j k) (at : ℕ) (l : List ℕ) → at ≡ place p → set l at (freeTag j) ≡ written k (plug p Free)
@@ -288,7 +310,8 @@ record Lies (i k o : ℕ) (t : Tree) : Type 0 where
 tag-place : (tag n i o : ℕ) → o < n → getD (tag ∷ replicate (n - 1) 0) o 0 ≡ liveTag i → (o ≡ 0) × (tag ≡ liveTag i)
 unfolding liveTag
 tag-place tag n i zero h e = (refl, e)
-tag-place tag n i (suc o) h e = absurd (let z : getD (replicate (n - 1) 0) o 0 ≡ 0 = getD-replicate (n - 1) o 0 0 (omega arith) in let y : getD (tag ∷ replicate (n - 1) 0) (suc o) 0 ≡ 0 = z in omega arith)
+tag-place tag n i (suc o) h e = absurd (let z : getD (replicate (n - 1) 0) o 0 ≡ 0 = getD-replicate (n - 1) o 0 0 (omega arith) in
+    let y : getD (tag ∷ replicate (n - 1) 0) (suc o) 0 ≡ 0 = z in omega arith)
 
 lies : (m : ℕ) {k : ℕ} (p : Path m k) (t : Tree) (i o : ℕ) → o < size m → getD (written m t) o 0 ≡ liveTag i → Lies i k (place p + o) (plug p t)
 unfolding written plug place
@@ -319,5 +342,6 @@ rises k i o at t l h w e =
       path = b .path;
       here = sym here;
       tagged = ap₂ (λ (xs : List ℕ) (n : ℕ). set xs n (freeTag i)) (w ∙ ap (written k) (sym (b .same))) (sym here) ∙ freed-bytes (b .path);
-      risen = ap (λ (x : Tree). written k (freed (at + o) k at x)) (sym (b .same)) ∙ ap (written k) (freed-plug (b .path) (at + o) at Live (omega arith) (omega (arith, size-pos i)));
+      risen = ap (λ (x : Tree). written k (freed (at + o) k at x)) (sym (b .same))
+          ∙ ap (written k) (freed-plug (b .path) (at + o) at Live (omega arith) (omega (arith, size-pos i)));
     }

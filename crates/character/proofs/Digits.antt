@@ -4,14 +4,17 @@ use mathlib.Core.Path.{_≡_, refl, sym, ap, _∙_}
 use mathlib.Core.Bool.{cond}
 use mathlib.Core.List.{List, [], _∷_, _++_}
 use Prim.Native.Nat.{ℕ, zero, suc, _+_, _-_, _*_, _/_, _%_, _^_, _≤_, _<_, min}
-use native.Mathlib.Nat.{add-comm, add-sub-of-le, sub-self, zero-mul, zero-add, one-mul, mul-zero, mul-suc, pow-zero, pow-suc, pow-succ', pow-le-pow-right, mul-le-mul-left, div-div-eq-div-mul, mod-eq-of-lt}
+use native.Mathlib.Nat.{add-comm, add-sub-of-le, sub-self, zero-mul, zero-add, one-mul, mul-zero, mul-suc, pow-zero, pow-suc}
+use native.Mathlib.Nat.{pow-succ', pow-le-pow-right, mul-le-mul-left, div-div-eq-div-mul, mod-eq-of-lt}
 use native.Mathlib.Omega.{arith}
 use lib.Arith.{digits-lt, digits-mod}
 use lib.Pow.{pow-add, pow-lt}
-use lib.ListN.{length, take, drop, getD, replicate, length-take, length-drop, drop-of-length-le, length-append, length-replicate, getD-replicate, List·getD-append}
+use lib.ListN.{length, take, drop, getD, replicate, length-take, length-drop, drop-of-length-le, length-append, length-replicate}
+use lib.ListN.{getD-replicate, List·getD-append}
 use lib.Seq.{drop-cons, getD-take, getD-drop, getD-append-add}
 use borrow.Author.Tests.{lt-ltb, le-ltb, eq-eqb, ne-eqb}
-use Rattle.character.specs.Character.{digits, number, characters, packed, holds, blank, leading, allBelow, printed, fromBinary}
+use Rattle.character.specs.Character.{digits, number, characters, packed, holds, blank, leading, allBelow, printed}
+use Rattle.character.specs.Character.{fromBinary}
 use Rattle.character.proofs.RoundTrip.{length-digits, number-digits, digits-number, digits-below, fromBinary-lt}
 
 -- a power of a power
@@ -170,7 +173,12 @@ module _ (base : ℕ) where
   -- a conversion in two groups
   fromBinary-more : (k n v : ℕ) → fromBinary base (k + n) v ≡ fromBinary base k (v / base ^ n) * 64 ^ n + fromBinary base n v
   unfolding fromBinary packed
-  fromBinary-more k n v = rw (digits-append k n v, number-append 64 0, number-from 64 (number 64 0 (digits base k (v / base ^ n))) (digits base n v), length-digits)
+  fromBinary-more k n v = rw (
+    digits-append k n v,
+    number-append 64 0,
+    number-from 64 (number 64 0 (digits base k (v / base ^ n))) (digits base n v),
+    length-digits,
+  )
 
   -- a conversion of the last digits
   fromBinary-low : (n v : ℕ) → 0 < base → fromBinary base n (v % base ^ n) ≡ fromBinary base n v
@@ -182,7 +190,8 @@ module _ (base : ℕ) where
   fromBinary-last k n v h small = rw fromBinary-more (digits-mod _ (fromBinary-lt base n v h small))
 
 -- nine decimal digits, three at a time
-pub threes : (v : ℕ) → (fromBinary 10 3 (v / 1000000 % 1000) * 262144 + fromBinary 10 3 (v / 1000 % 1000)) * 262144 + fromBinary 10 3 (v % 1000) ≡ fromBinary 10 9 v
+pub threes : (v : ℕ) → (fromBinary 10 3 (v / 1000000 % 1000) * 262144 + fromBinary 10 3 (v / 1000 % 1000)) * 262144 + fromBinary 10 3 (v % 1000)
+    ≡ fromBinary 10 9 v
 threes v =
     let e : v / 1000000 ≡ v / 1000 / 1000 = omega arith in
     let low : (x : ℕ) → fromBinary 10 3 (x % 1000) ≡ fromBinary 10 3 x = λ x. fromBinary-low 10 3 x (omega arith) in

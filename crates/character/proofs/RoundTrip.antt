@@ -5,7 +5,8 @@ use mathlib.Core.Bool.{Bool, true, false, cond, _||_}
 use mathlib.Core.List.{List, [], _∷_}
 use mathlib.Core.Option.{none, some}
 use Prim.Native.Nat.{ℕ, zero, suc, _+_, _*_, _/_, _%_, _^_, _≤_, _<_, min}
-use native.Mathlib.Nat.{zero-add, add-zero, zero-mul, mul-one, one-mul, sub-self, div-one, mod-one, mod-lt, mod-eq-of-lt, pow-zero, pow-suc, pow-succ', one-le-pow, div-div-eq-div-mul, div-lt-iff-lt-mul}
+use native.Mathlib.Nat.{zero-add, add-zero, zero-mul, mul-one, one-mul, sub-self, div-one, mod-one, mod-lt, mod-eq-of-lt, pow-zero}
+use native.Mathlib.Nat.{pow-suc, pow-succ', one-le-pow, div-div-eq-div-mul, div-lt-iff-lt-mul}
 use native.Mathlib.Omega.{arith}
 use lib.Arith.{digits-div, digits-mod, mod-mul}
 use lib.Dec.{eqb, ltb}
@@ -13,7 +14,8 @@ use lib.ListN.{length}
 use borrow.Author.Tests.{ltb-true, lt-ltb, eqb-true, eq-eqb, ne-eqb}
 use Rattle.word.specs.Word.{isWidth}
 use Rattle.word.proofs.Tests.{and-true, by-eqb}
-use Rattle.character.specs.Character.{digits, number, characters, packed, holds, blank, leading, allBelow, printed, blanksToZeros, toBinary, fromBinary, zerosToBlanks}
+use Rattle.character.specs.Character.{digits, number, characters, packed, holds, blank, leading, allBelow, printed}
+use Rattle.character.specs.Character.{blanksToZeros, toBinary, fromBinary, zerosToBlanks}
 
 module _ (base : ℕ) where
   -- the first of digits is below the base, and so are the others

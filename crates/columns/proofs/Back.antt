@@ -63,7 +63,8 @@ module _ (b : ℕ) (ws : List ℕ) (fits : fitsWidth b ws ≡ true) where
   unfolding isSaved saved filledUp
   saved-accepted =
       rw (eq-eqb (length (saved b ws)) (b * groupsOf n) (length-saved b ws))
-      (ap (λ (l : List ℕ). eachBelow 1 (drop n l)) all-back ∙ ap (eachBelow 1) (drop-at ws (replicate (8 * groupsOf n - n) 0) n refl) ∙ zeros-below 1 (8 * groupsOf n - n) (omega arith))
+      (ap (λ (l : List ℕ). eachBelow 1 (drop n l)) all-back ∙ ap (eachBelow 1) (drop-at ws (replicate (8 * groupsOf n - n) 0) n refl)
+      ∙ zeros-below 1 (8 * groupsOf n - n) (omega arith))
 
 -- loading, then saving
 module _ (b n : ℕ) (bytes : List ℕ) (are-bytes : eachBelow 256 bytes ≡ true) (accepted : isSaved b n bytes ≡ true) where

@@ -13,7 +13,8 @@ use Rattle.word.specs.Word.{isWidth}
 use Rattle.word.proofs.Width.{width-range}
 use Rattle.columns.specs.declared.Kept.{Kept}
 use Rattle.columns.specs.declared.Kept.the-variants.{Count, NoWidth, WordTooWide, NotSaved, OutputShort}
-use Rattle.columns.specs.Columns.{Left, groupsOf, saved, allLoaded, loaded, fitsWidth, eachBelow, isSaved, written, saving, loading, turnedGroups, toldKept, writtenTold, savingTold, loadingTold}
+use Rattle.columns.specs.Columns.{Left, groupsOf, saved, allLoaded, loaded, fitsWidth, eachBelow, isSaved, written, saving}
+use Rattle.columns.specs.Columns.{loading, turnedGroups, toldKept, writtenTold, savingTold, loadingTold}
 use Rattle.columns.proofs.Back.{room, length-saved}
 use Rattle.columns.proofs.Turning.{length-groups}
 

@@ -16,7 +16,8 @@ use Rattle.columns.specs.Columns.{bitsAt, turned, turnedGroups, groupsOf
 use Rattle.columns.specs.Packing.{unpacked, packedTurned, octets, longer}
 use Rattle.columns.proofs.Turning.{length-turned, turned-below, length-groups}
 use Rattle.columns.proofs.Bits.{turned-at, groups-at}
-use Rattle.columns.proofs.Packing.{length-unpacked, unpacked-at, length-longer, longer-at, length-octets, bits-small, packed-at, bytes-less}
+use Rattle.columns.proofs.Packing.{length-unpacked, unpacked-at, length-longer, longer-at, length-octets, bits-small}
+use Rattle.columns.proofs.Packing.{packed-at, bytes-less}
 
 -- a bit of a byte of a number is a bit of the number
 low-bit : (y k : ℕ) → k < 8 → y % 256 / 2 ^ k % 2 ≡ y / 2 ^ k % 2
@@ -42,7 +43,8 @@ module _ (b p n right : ℕ) (ws : List ℕ) (eight : length ws ≡ 8) (few : n 
   byte i h =
       ap (λ (k : ℕ). k % 256) (div-div-eq-div-mul all (256 ^ (8 - n)) (256 ^ i))
       ∙ ap (λ (k : ℕ). all / k % 256) (sym (pow-add 256 (8 - n) i))
-      ∙ packed-at 8 (λ (j : ℕ). number 2 0 (bitsAt 8 j (octets right ws))) (λ j. bits-small 8 j (octets right ws) (omega (arith, length-octets right ws))) (8 - n + i) (omega arith)
+      ∙ packed-at 8 (λ (j : ℕ). number 2 0 (bitsAt 8 j (octets right ws)))
+      (λ j. bits-small 8 j (octets right ws) (omega (arith, length-octets right ws))) (8 - n + i) (omega arith)
       ∙ ap (number 2 0) (octet-bits right (8 - n + i) b (p + i) ws (omega arith) (omega arith))
       ∙ sym (turned-at b (p + i) ws (omega arith))
 

@@ -103,7 +103,8 @@ unfolding bitRows numbers eachBelow
 numbers-back n [] small = refl
 numbers-back n (x ∷ xs) small =
     let (first, others) = and-true (ltb x (2 ^ n)) _ small in
-    ap₂ (λ (y : ℕ) (l : List ℕ). y ∷ l) (number-digits 2 0 n x (omega arith) ∙ rw (mod-eq-of-lt (ltb-true x (2 ^ n) first)) (omega arith)) (numbers-back n xs others)
+    ap₂ (λ (y : ℕ) (l : List ℕ). y ∷ l) (number-digits 2 0 n x (omega arith) ∙ rw (mod-eq-of-lt (ltb-true x (2 ^ n) first)) (omega arith))
+    (numbers-back n xs others)
 
 numbers-below : {n : ℕ} {rows : List (List ℕ)} → Rows n rows → eachBelow (2 ^ n) (numbers rows) ≡ true
 unfolding numbers eachBelow
@@ -119,7 +120,8 @@ module _ (n : ℕ) (xs : List ℕ) where
   -- turned numbers have as many bits as there were numbers
   pub turned-below : eachBelow (2 ^ length xs) (turned n xs) ≡ true
   unfolding turned
-  turned-below = subst (λ (m : ℕ). eachBelow (2 ^ m) (numbers (columns n (bitRows n xs))) ≡ true) (length-bit-rows n xs) (numbers-below (columns-rows n (bit-rows n xs)))
+  turned-below = subst (λ (m : ℕ). eachBelow (2 ^ m) (numbers (columns n (bitRows n xs))) ≡ true) (length-bit-rows n xs)
+      (numbers-below (columns-rows n (bit-rows n xs)))
 
   -- and turned again they are what they were
   pub turned-back : eachBelow (2 ^ n) xs ≡ true → turned (length xs) (turned n xs) ≡ xs

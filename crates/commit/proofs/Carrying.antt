@@ -17,7 +17,9 @@ use Rattle.machine.specs.declared.Location.{Location}
 use Rattle.machine.specs.Storage.{placed}
 use Rattle.operands.specs.Storing.{bugsStored, wordsStored}
 use Rattle.operations.specs.declared.Action.{Action}
-use Rattle.operations.specs.declared.Action.the-variants.{Nothing, Store, StoreTwo, SetUpWords, Define, Deliver, DeliverTwo, Free, Input, Print, Save, Restore, SaveDefinition, RestoreDefinition, Call, Return}
+use Rattle.operations.specs.declared.Action.the-variants.{Nothing, Store, StoreTwo, SetUpWords, Define, Deliver, DeliverTwo, Free}
+use Rattle.operations.specs.declared.Action.the-variants.{Input, Print, Save, Restore, SaveDefinition, RestoreDefinition, Call}
+use Rattle.operations.specs.declared.Action.the-variants.{Return}
 use Rattle.commit.specs.Carried.{bugsAfter, entriesAfter, mapAfter, zeroed, copied, wordsAfter, outputAfter}
 use Rattle.commit.specs.Feasible.{Ground, Run, Copy, ReachedIn, Feasible}
 use Rattle.commit.proofs.Others.{Among}

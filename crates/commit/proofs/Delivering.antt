@@ -71,7 +71,8 @@ module _ (g : Ground) {address n : ℕ} (r : Run g address n) where
         let is : size j ≡ n = rw place (sym (r .isSize)) in
         rw is (found .0)
 
-    pub run-delivered : {l : List ℕ} → l ≡ deliveredMap j address (g .setup) (g .map) → l ≡ deliveredMap (level (top (g .setup .d)) n) address (g .setup) (g .map)
+    pub run-delivered : {l : List ℕ} → l ≡ deliveredMap j address (g .setup) (g .map)
+        → l ≡ deliveredMap (level (top (g .setup .d)) n) address (g .setup) (g .map)
     run-delivered e = rw run-level at e
 
 -- the words of a block, zeroed and copied

@@ -14,7 +14,8 @@ use Rattle.machine.specs.declared.Location.{Location}
 use Rattle.machine.specs.declared.Location.the-variants.{Bug, Field}
 use Rattle.machine.specs.declared.Core.{Core}
 use Rattle.machine.specs.declared.State.{State}
-use Rattle.machine.specs.State.{withWidth, movedTo, withBug, withDefinition, withContents, withSaved, withCalls, withSetUp, withTaken, withWritten, onCore, withMap}
+use Rattle.machine.specs.State.{withWidth, movedTo, withBug, withDefinition, withContents, withSaved, withCalls, withSetUp}
+use Rattle.machine.specs.State.{withTaken, withWritten, onCore, withMap}
 use Rattle.machine.specs.Storage.{noStore, noReport, placed, wordAt, withStore, withDelivery, withCopy, afterReport}
 use Rattle.machine.specs.Sound.{Engine}
 use Rattle.machine.specs.Operations.{delivering, andStoring}
@@ -25,10 +26,13 @@ use Rattle.operands.proofs.Reported.{NotNull, store-words}
 use Rattle.operands.specs.Storing.{bugsStored, wordsStored}
 use Rattle.operations.specs.declared.Counts.{Counts}
 use Rattle.operations.specs.declared.Action.{Action}
-use Rattle.operations.specs.declared.Action.the-variants.{Nothing, Store, StoreTwo, SetUpWords, Define, Deliver, DeliverTwo, Free, Input, Print, Save, Restore, SaveDefinition, RestoreDefinition, Call, Return}
+use Rattle.operations.specs.declared.Action.the-variants.{Nothing, Store, StoreTwo, SetUpWords, Define, Deliver, DeliverTwo, Free}
+use Rattle.operations.specs.declared.Action.the-variants.{Input, Print, Save, Restore, SaveDefinition, RestoreDefinition, Call}
+use Rattle.operations.specs.declared.Action.the-variants.{Return}
 use Rattle.operations.specs.Effects.{effects}
 use Rattle.commit.specs.declared.Records.{Records}
-use Rattle.commit.specs.Carried.{bugsAfter, entriesAfter, mapAfter, zeroed, copied, wordsAfter, outputAfter, setupAfter, countsAfter, placeAfter, recordsAfter, isRecorded}
+use Rattle.commit.specs.Carried.{bugsAfter, entriesAfter, mapAfter, zeroed, copied, wordsAfter, outputAfter, setupAfter}
+use Rattle.commit.specs.Carried.{countsAfter, placeAfter, recordsAfter, isRecorded}
 use Rattle.commit.specs.Reported.{reportOf}
 use Rattle.commit.specs.Then.{engineThen}
 
@@ -94,7 +98,8 @@ module _ (b : ℕ) (x : Effects) (ws : List ℕ) (z : x .zeroed ≡ 0) (size : x
       not-zeroed b x ws z ∙ stores-only b (x .state .core .setup .s1) (x .report) ws size none ∙ rw (second, first)
 
 -- the storage after effects that deliver, and store once or twice
-module _ (b : ℕ) (x : Effects) (ws : List ℕ) (z : x .zeroed ≡ 0) (a : Location) (h : NotNull a) (first : x .report .first ≡ storeTo a (x .report .delivered)) where
+module _ (b : ℕ) (x : Effects) (ws : List ℕ) (z : x .zeroed ≡ 0) (a : Location) (h : NotNull a) (first : x .report .first
+    ≡ storeTo a (x .report .delivered)) where
   delivered-once : x .report .second ≡ noStore
       → storageAfter b x ws
       ≡ wordsStored b (x .state .core .setup .s1) a (x .report .delivered)
@@ -131,7 +136,8 @@ module _ (b : ℕ) (e : Engine) (to : Place) where
   given x = effects b x (onCore (movedTo to) (e .state))
 
   state-as : (x : Action) → given x .state ≡ engineThen b to x e .state
-  unfolding effects quietly reporting storing andStoring delivering onCore movedTo withMap withDefinition withContents withSaved withCalls withSetUp withTaken withWritten placeAfter bugsAfter recordsAfter entriesAfter countsAfter setupAfter mapAfter
+  unfolding effects quietly reporting storing andStoring delivering onCore movedTo withMap withDefinition withContents withSaved withCalls withSetUp
+      withTaken withWritten placeAfter bugsAfter recordsAfter entriesAfter countsAfter setupAfter mapAfter
   state-as Nothing = refl
   state-as (Store at v) = rw assigned-as
   state-as (StoreTwo a v c x) = rw (assigned-as b a v, assigned-as b c x)
@@ -150,7 +156,8 @@ module _ (b : ℕ) (e : Engine) (to : Place) where
   state-as Return = refl
 
   words-as : (x : Action) → Sure x → storageAfter b (given x) (e .storage) ≡ engineThen b to x e .storage
-  unfolding Sure effects quietly reporting storing andStoring delivering onCore movedTo withMap withDefinition withContents withSaved withCalls withSetUp withTaken withWritten assigned withBug noReport wordsAfter
+  unfolding Sure effects quietly reporting storing andStoring delivering onCore movedTo withMap withDefinition withContents withSaved withCalls
+      withSetUp withTaken withWritten assigned withBug noReport wordsAfter
   words-as Nothing h = stored-none b (given Nothing) (e .storage) refl refl refl refl refl
   words-as (Store at v) h = stored-once b (given (Store at v)) (e .storage) refl refl refl at v h refl refl ∙ rw assigned-as
   words-as (StoreTwo a v c x) h =

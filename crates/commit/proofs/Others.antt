@@ -9,7 +9,9 @@ use Rattle.block.specs.declared.SetUp.{SetUp}
 use Rattle.machine.specs.Storage.{noReport}
 use Rattle.operations.specs.declared.Counts.{Counts}
 use Rattle.operations.specs.declared.Action.{Action}
-use Rattle.operations.specs.declared.Action.the-variants.{Nothing, Store, StoreTwo, SetUpWords, Define, Deliver, DeliverTwo, Free, Input, Print, Save, Restore, SaveDefinition, RestoreDefinition, Call, Return}
+use Rattle.operations.specs.declared.Action.the-variants.{Nothing, Store, StoreTwo, SetUpWords, Define, Deliver, DeliverTwo, Free}
+use Rattle.operations.specs.declared.Action.the-variants.{Input, Print, Save, Restore, SaveDefinition, RestoreDefinition, Call}
+use Rattle.operations.specs.declared.Action.the-variants.{Return}
 use Rattle.operations.proofs.Action.{the-type}
 use Rattle.commit.specs.Carried.{setupAfter, countsAfter, isRecorded, onward}
 use Rattle.commit.specs.Reported.{reportOf}

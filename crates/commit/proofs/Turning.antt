@@ -22,7 +22,9 @@ use Rattle.operands.specs.Packing.{unpacked, unpackedAll}
 use Rattle.operands.specs.Reading.{Reached}
 use Rattle.operations.specs.declared.Counts.{Counts}
 use Rattle.operations.specs.declared.Action.{Action}
-use Rattle.operations.specs.declared.Action.the-variants.{Nothing, Store, StoreTwo, SetUpWords, Define, Deliver, DeliverTwo, Free, Input, Print, Save, Restore, SaveDefinition, RestoreDefinition, Call, Return}
+use Rattle.operations.specs.declared.Action.the-variants.{Nothing, Store, StoreTwo, SetUpWords, Define, Deliver, DeliverTwo, Free}
+use Rattle.operations.specs.declared.Action.the-variants.{Input, Print, Save, Restore, SaveDefinition, RestoreDefinition, Call}
+use Rattle.operations.specs.declared.Action.the-variants.{Return}
 use Rattle.commit.specs.declared.Records.{Records}
 use Rattle.commit.specs.Carried.{recording, placeAfter, recordsAfter, isRecorded}
 use Rattle.commit.specs.Feasible.{Ground, Feasible, Countable, Counted}
@@ -30,7 +32,8 @@ use Rattle.commit.specs.Reported.{Short, Reportable}
 use Rattle.operands.proofs.Reported.{NotNull}
 use Rattle.operands.proofs.Unpacking.{unpacked-set}
 use Rattle.commit.proofs.Engines.{Sure, not-recorded}
-use Rattle.commit.proofs.Carrying.{define-asks, input-asks, print-asks, save-asks, restore-asks, save-definition-asks, restore-definition-asks, call-asks, return-asks}
+use Rattle.commit.proofs.Carrying.{define-asks, input-asks, print-asks, save-asks, restore-asks, save-definition-asks}
+use Rattle.commit.proofs.Carrying.{restore-definition-asks, call-asks, return-asks}
 
 -- inside a list no other value counts
 pub any-place : (l : List Place) (i : ℕ) (d f : Place) → i < length l → getD l i d ≡ getD l i f
@@ -80,7 +83,8 @@ module _ {counts : Counts} {x : Action} (k : Countable counts x) where
   return-room e = subst (λ (c : Counts). (0 < c .calls) × (c .calls ≤ 128)) (k .same) (return-asks (k .width) (k .on) (k .feasible) e)
 
 -- a turn by the parts that change in place: the place, the definitions with the numbers that they are packed into, and two stacks
-pub record Turned (x : Action) (to : Place) (c : Counts) (r : Records) (y : Action) (p : Place) (ds ss : List Definition) (ps : List Place) (fields : List ℕ) : Type 0 where
+pub record Turned (x : Action) (to : Place) (c : Counts) (r : Records) (y : Action) (p : Place) (ds ss : List Definition) (ps : List Place)
+    (fields : List ℕ) : Type 0 where
   pub same : y ≡ x
   pub place : p ≡ placeAfter x to (r .calls) (c .calls)
   pub records : recording ds ss ps ≡ recordsAfter x to c r

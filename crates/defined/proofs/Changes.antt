@@ -19,15 +19,21 @@ use Rattle.machine.specs.declared.Core.{Core}
 use Rattle.machine.specs.declared.Definition.{Definition}
 use Rattle.machine.specs.declared.Location.{Location}
 use Rattle.machine.specs.declared.Location.the-variants.{Bug, Field}
-use Rattle.machine.specs.declared.Refusal.the-variants.{SetUpNumbers, InputByte, InputShort, DefinitionNumber, BlockSize, CharacterCount, NotABlock, NoRun, FieldFreed, StackFull, StackEmpty, OutputFull}
+use Rattle.machine.specs.declared.Refusal.the-variants.{SetUpNumbers, InputByte, InputShort, DefinitionNumber, BlockSize}
+use Rattle.machine.specs.declared.Refusal.the-variants.{CharacterCount, NotABlock, NoRun, FieldFreed, StackFull, StackEmpty}
+use Rattle.machine.specs.declared.Refusal.the-variants.{OutputFull}
 use Rattle.machine.specs.Answer.{Checked, passed, _>>=_, refusalNumber}
-use Rattle.machine.specs.State.{testsOf, movedTo, withBug, withDefinition, withContents, withSaved, withCalls, withSetUp, withTaken, withWritten, onCore, withMap}
+use Rattle.machine.specs.State.{testsOf, movedTo, withBug, withDefinition, withContents, withSaved, withCalls, withSetUp, withTaken}
+use Rattle.machine.specs.State.{withWritten, onCore, withMap}
 use Rattle.machine.specs.Locate.{World, world, Value, locate, operand}
 use Rattle.machine.specs.Effects.{Effects, quietly, reporting, assigned, storing, engineAfter}
-use Rattle.machine.specs.Operations.{Given, setUp, theName, define, firstRun, lowestRun, delivering, andStoring, getWants, get, free, duplicateWants, duplicate, interchange, computing, input, print, saveContents, restoreContents, saveDefinition, restoreDefinition, do-line}
+use Rattle.machine.specs.Operations.{Given, setUp, theName, define, firstRun, lowestRun, delivering, andStoring, getWants, get}
+use Rattle.machine.specs.Operations.{free, duplicateWants, duplicate, interchange, computing, input, print, saveContents}
+use Rattle.machine.specs.Operations.{restoreContents, saveDefinition, restoreDefinition, do-line}
 use Rattle.machine.proofs.Checks.{need-passed, bind-passed, passed-same, or-parts, clash}
 use Rattle.defined.proofs.Refers.{refersTo, rowRefers, first-refers, second-refers, third-refers}
-use Rattle.defined.proofs.Safe.{Safe, Known, other-refusal, safe-passed, safe-need, safe-bind, safe-cond, locate-safe, operand-safe}
+use Rattle.defined.proofs.Safe.{Safe, Known, other-refusal, safe-passed, safe-need, safe-bind, safe-cond, locate-safe}
+use Rattle.defined.proofs.Safe.{operand-safe}
 
 -- the same definitions, calls and place
 pub record Kept (c d : Core) : Type 0 where

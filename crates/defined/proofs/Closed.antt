@@ -12,14 +12,19 @@ use lib.ListN.{length}
 use Rattle.table.specs.declared.Row.{Row}
 use Rattle.table.specs.Row.{rows, rowAt, firstTest, firstOperation, goTo, done}
 use Rattle.machine.proofs.Checks.{and-true, clash}
-use Rattle.defined.specs.Paths.{Point, line, test, operation, exit, operationOr, AfterDo, afterDo, Leads, toTests, noTests, nextTest, satisfied, otherwise, doing, nextOperation, going, nextLine, returning, Fields, after, passing, Path, start, along, StandsAt, atTest, atOperation, UsesUndefined}
-use Rattle.defined.specs.Search.{has, reached, without, including, setAfter, Sets, setAt, joinedAt, setPast, marking, testsMarked, chainMarked, lineMarked, linesMarked}
+use Rattle.defined.specs.Paths.{Point, line, test, operation, exit, operationOr, AfterDo, afterDo, Leads, toTests, noTests}
+use Rattle.defined.specs.Paths.{nextTest, satisfied, otherwise, doing, nextOperation, going, nextLine, returning, Fields}
+use Rattle.defined.specs.Paths.{after, passing, Path, start, along, StandsAt, atTest, atOperation, UsesUndefined}
+use Rattle.defined.specs.Search.{has, reached, without, including, setAfter, Sets, setAt, joinedAt, setPast, marking}
+use Rattle.defined.specs.Search.{testsMarked, chainMarked, lineMarked, linesMarked}
 use Rattle.defined.specs.Answer.{Passes, IsRow, RowOrNone}
 use Rattle.defined.proofs.Refers.{or-left, or-right}
 use Rattle.defined.proofs.Numbers.{Sub, has-without, has-including}
 use Rattle.defined.proofs.Final.{Grows, grows-refl, grows-trans, joined-grows, visited-grows, long-none}
-use Rattle.defined.proofs.Fit.{first-line, next-row, test-row, operation-row, go-to-row, definition-name, restore-name, do-row, operation-below, test-below}
-use Rattle.defined.proofs.Chains.{Comes, here, comes-on, comes-row, comes-split, in-chain-comes, begins, set-inside, visited-settles, lines-settled}
+use Rattle.defined.proofs.Fit.{first-line, next-row, test-row, operation-row, go-to-row, definition-name, restore-name}
+use Rattle.defined.proofs.Fit.{do-row, operation-below, test-below}
+use Rattle.defined.proofs.Chains.{Comes, here, comes-on, comes-row, comes-split, in-chain-comes, begins, set-inside}
+use Rattle.defined.proofs.Chains.{visited-settles, lines-settled}
 use Rattle.defined.proofs.Settled.{Led, LineLed, RestLed, joined-sub}
 
 -- the set of a point has each field that a path to it misses, and the point is reached

@@ -16,10 +16,14 @@ use Rattle.machine.specs.declared.Refusal.the-variants.{NotADigit, ZeroDivisor,
 use Rattle.machine.specs.Answer.{Checked, passed, refusalNumber}
 use Rattle.machine.specs.Locate.{Value}
 use Rattle.machine.specs.Effects.{Effects}
-use Rattle.machine.specs.Operations.{Given, Meaning, Operation, makes, operations, operationOf, meaningOf, meaning, orRefuse, computing, difference, quotient}
+use Rattle.machine.specs.Operations.{Given, Meaning, Operation, makes, operations, operationOf, meaningOf, meaning, orRefuse}
+use Rattle.machine.specs.Operations.{computing, difference, quotient}
 use Rattle.defined.proofs.Refers.{rowRefers}
 use Rattle.defined.proofs.Safe.{Safe, Known, other-refusal, safe-passed, safe-need}
-use Rattle.defined.proofs.Changes.{Change, plain, ref-form, either-form, computing-right, setUp-right, define-right, get-right, free-right, duplicate-right, interchange-right, input-right, print-right, saveContents-right, restoreContents-right, saveDefinition-right, restoreDefinition-right, do-line-right}
+use Rattle.defined.proofs.Changes.{Change, plain, ref-form, either-form, computing-right, setUp-right, define-right}
+use Rattle.defined.proofs.Changes.{get-right, free-right, duplicate-right, interchange-right, input-right, print-right}
+use Rattle.defined.proofs.Changes.{saveContents-right, restoreContents-right, saveDefinition-right, restoreDefinition-right}
+use Rattle.defined.proofs.Changes.{do-line-right}
 
 infixr 10 _⨾_
 -- each operation of a list, from code i on, has what is asked of it

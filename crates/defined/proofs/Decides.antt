@@ -21,7 +21,8 @@ use Rattle.defined.specs.declared.Used.{Used}
 use Rattle.defined.specs.declared.Used.the-variants.{Field, Nothing}
 use Rattle.defined.specs.Kinds.{isKind, wrongRow}
 use Rattle.defined.specs.Paths.{StandsAt, Path, names, fieldsOf, UsesUndefined, SomeUse, FirstSuch, here, later, ToldUse}
-use Rattle.defined.specs.Search.{has, Sets, setAt, Rounds, finalSets, linesMarked, finalMarks, firstIn, useAt, orLater, lowestUsing, lowestUse, firstUse}
+use Rattle.defined.specs.Search.{has, Sets, setAt, Rounds, finalSets, linesMarked, finalMarks, firstIn, useAt, orLater}
+use Rattle.defined.specs.Search.{lowestUsing, lowestUse, firstUse}
 use Rattle.defined.specs.Answer.{Passes, illFormedRow, saying, fieldsChecked, Meant, IsRow}
 use Rattle.defined.proofs.Refers.{or-right}
 use Rattle.defined.proofs.Final.{finalRounds, final-same, final-holds}

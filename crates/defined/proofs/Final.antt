@@ -17,7 +17,9 @@ use Rattle.word.specs.Word.{either, ones}
 use Rattle.table.specs.declared.Row.{Row}
 use Rattle.table.specs.Row.{rows, rowAt, firstTest, firstOperation, goTo, done}
 use Rattle.defined.specs.Kinds.{isKind}
-use Rattle.defined.specs.Search.{has, Sets, setAt, joinedAt, joinedTo, leaving, entering, Visit, visited, walking, chainWalked, testsWalked, lineWalked, eachLine, Rounds, changedWalked, linesWalked, restsWalked, returnsWalked, rounded, times, everything, firstSets, firstRounds}
+use Rattle.defined.specs.Search.{has, Sets, setAt, joinedAt, joinedTo, leaving, entering, Visit, visited, walking}
+use Rattle.defined.specs.Search.{chainWalked, testsWalked, lineWalked, eachLine, Rounds, changedWalked, linesWalked}
+use Rattle.defined.specs.Search.{restsWalked, returnsWalked, rounded, times, everything, firstSets, firstRounds}
 use Rattle.defined.specs.Answer.{IsRow}
 use Rattle.defined.proofs.Numbers.{has-either, either-below, either-grows, ones-few}
 

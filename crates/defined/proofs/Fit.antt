@@ -16,9 +16,11 @@ use Rattle.table.specs.declared.Pair.{Pair}
 use Rattle.table.specs.declared.Row.{Row}
 use Rattle.table.specs.declared.Shape.{Shape}
 use Rattle.table.specs.Operands.{takes, isRef, isLiteral, isAbsent, isZero, testShape, shapes}
-use Rattle.table.specs.Reference.{isReference, startsWithBug, nameFields, namesField, namesBug, digitsOf, referenceOf, named, names as digitNames}
+use Rattle.table.specs.Reference.{isReference, startsWithBug, nameFields, namesField, namesBug, digitsOf, referenceOf, named}
+use Rattle.table.specs.Reference.{names as digitNames}
 use Rattle.table.specs.Row.{lengthFits, rows, rowAt, firstTest, firstOperation, goTo, done}
-use Rattle.table.specs.Table.{chained, rowOrNone, namesRows, complete, isLine, isTest, isOperation, fitPairs, shapeOf, shaped, wellFormedAs, wellFormed, lowestFrom, largestName}
+use Rattle.table.specs.Table.{chained, rowOrNone, namesRows, complete, isLine, isTest, isOperation, fitPairs, shapeOf, shaped}
+use Rattle.table.specs.Table.{wellFormedAs, wellFormed, lowestFrom, largestName}
 use Rattle.machine.proofs.Checks.{or-parts, clash}
 use Rattle.defined.specs.Kinds.{isKind, namesKind, lineNames, operationNames, rowNames, lowestWrong, wrongRow}
 use Rattle.defined.specs.Paths.{names}

@@ -12,12 +12,14 @@ use Rattle.word.proofs.Tests.{and-true as and-parts}
 use Rattle.table.specs.declared.Row.{Row}
 use Rattle.table.specs.Operands.{shapes, testShape, takes}
 use Rattle.table.specs.Row.{lengthFits, rows, rowAt, firstTest, firstOperation, goTo, done}
-use Rattle.table.specs.Table.{usable, wellFormedAs, chained, shaped, isLine, isTest, isOperation, fitPairs, shapeOf, largestName, namesRows, complete, hasMode, hasTests, goesOn, restUnused}
+use Rattle.table.specs.Table.{usable, wellFormedAs, chained, shaped, isLine, isTest, isOperation, fitPairs, shapeOf, largestName}
+use Rattle.table.specs.Table.{namesRows, complete, hasMode, hasTests, goesOn, restUnused}
 use Rattle.machine.specs.declared.Answer.the-variants.{Running, Finished, Refused}
 use Rattle.machine.specs.declared.Definition.{Definition}
 use Rattle.machine.specs.declared.Place.{Place}
 use Rattle.machine.specs.declared.Refusal.{Refusal}
-use Rattle.machine.specs.declared.Refusal.the-variants.{TableLength, BadRow, Unsound, BeforeSetUp, SecondSetUp, StackEmpty, UndefinedField}
+use Rattle.machine.specs.declared.Refusal.the-variants.{TableLength, BadRow, Unsound, BeforeSetUp, SecondSetUp, StackEmpty}
+use Rattle.machine.specs.declared.Refusal.the-variants.{UndefinedField}
 use Rattle.machine.specs.Answer.{Checked, refused, passed, _>>_, need, refusalNumber, isRunning}
 use Rattle.machine.specs.State.{testsOf, undefined, fresh, movedTo, withDefinition, withCalls, onCore, isFinished}
 use Rattle.machine.specs.Sound.{Lent, Engine, sound}
@@ -25,15 +27,23 @@ use Rattle.machine.specs.Locate.{World, world, operand}
 use Rattle.machine.specs.Test.{Made, testing, satisfied as settled, settling, settledAs}
 use Rattle.machine.specs.Effects.{Effects, quietly}
 use Rattle.machine.specs.Operations.{meaning, theName}
-use Rattle.machine.specs.Step.{nextLine as nextLineOf, operationOrExit, goingTo, testsStep, inTurn, given, operationStep, return, exitStep, plan, Outcome, unchanged, carriedOut, outcome, stepAt, step, engineOf, ending, runFrom, RunOutcome, engineRan}
+use Rattle.machine.specs.Step.{nextLine as nextLineOf, operationOrExit, goingTo, testsStep, inTurn, given, operationStep, return}
+use Rattle.machine.specs.Step.{exitStep, plan, Outcome, unchanged, carriedOut, outcome, stepAt, step, engineOf, ending, runFrom}
+use Rattle.machine.specs.Step.{RunOutcome, engineRan}
 use Rattle.machine.proofs.Steps.{by-width}
 use Rattle.machine.proofs.Checks.{clash, need-passed, bind-passed, then-passed, passed-same}
-use Rattle.defined.specs.Paths.{Point, line, test, operation, exit, InChain, first, further, afterDo, toTests, noTests, nextTest, satisfied, otherwise, doing, nextOperation, going, nextLine, returning, Fields, noField, after, passing, Path, start, along, StandsAt, atTest, atOperation as atOperationRow, SomeUse}
+use Rattle.defined.specs.Paths.{Point, line, test, operation, exit, InChain, first, further, afterDo, toTests, noTests}
+use Rattle.defined.specs.Paths.{nextTest, satisfied, otherwise, doing, nextOperation, going, nextLine, returning, Fields}
+use Rattle.defined.specs.Paths.{noField, after, passing, Path, start, along, StandsAt, atTest, atOperation as atOperationRow}
+use Rattle.defined.specs.Paths.{SomeUse}
 use Rattle.defined.proofs.Refers.{rowRefers, first-refers, second-refers}
-use Rattle.defined.proofs.Safe.{Safe, Known, other-refusal, safe-passed, safe-when, safe-need, safe-bind, safe-cond, operand-safe}
+use Rattle.defined.proofs.Safe.{Safe, Known, other-refusal, safe-passed, safe-when, safe-need, safe-bind, safe-cond}
+use Rattle.defined.proofs.Safe.{operand-safe}
 use Rattle.defined.proofs.Changes.{Change, keeps, defines, restores, does, ref-form, either-form}
 use Rattle.defined.proofs.Codes.{meaning-right}
-use Rattle.defined.proofs.Standing.{Covers, Standing, ended, atLine, atOperation, atExit, OnPath, kept-on-path, at-operation-or-exit, at-next-line, plain-parts, other-covers, defined-covers, restored-covers, pushed}
+use Rattle.defined.proofs.Standing.{Covers, Standing, ended, atLine, atOperation, atExit, OnPath, kept-on-path}
+use Rattle.defined.proofs.Standing.{at-operation-or-exit, at-next-line, plain-parts, other-covers, defined-covers}
+use Rattle.defined.proofs.Standing.{restored-covers, pushed}
 
 -- a usable row: it is there, of its kind, and its numbers are those of its kind
 usable-parts : (kind b : ℕ) (table : List ℕ) (r : ℕ) → usable kind b table r ≡ true

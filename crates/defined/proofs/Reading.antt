@@ -22,7 +22,8 @@ use Rattle.defined.specs.Kinds.{isKind, namesKind, lineNames, operationN
 use Rattle.defined.specs.declared.Used.{Used}
 use Rattle.defined.specs.declared.Used.the-variants.{Field, Nothing}
 use Rattle.defined.specs.Paths.{pairFields, fieldsOf}
-use Rattle.defined.specs.Search.{has, without, including, setAfter, Sets, joinedAt, joinedTo, leaving, setPast, entering, testsWalked, firstIn}
+use Rattle.defined.specs.Search.{has, without, including, setAfter, Sets, joinedAt, joinedTo, leaving, setPast, entering}
+use Rattle.defined.specs.Search.{testsWalked, firstIn}
 use Rattle.defined.proofs.Refers.{reference-fields, other-fields}
 
 -- the kind of a row that is there, and of one that is not

@@ -15,10 +15,16 @@ use Rattle.table.specs.declared.Row.{Row}
 use Rattle.table.specs.Row.{rows, rowAt, firstTest, firstOperation, goTo, done}
 use Rattle.machine.proofs.Checks.{clash}
 use Rattle.defined.specs.Kinds.{isKind}
-use Rattle.defined.specs.Search.{has, without, including, setAfter, Sets, setAt, joinedAt, joinedTo, leaving, setPast, entering, walking, chainWalked, testsWalked, lineWalked, eachLine, Rounds, changedWalked, linesWalked, restsWalked, returnsWalked, rounded, everything, firstSets, firstRounds}
+use Rattle.defined.specs.Search.{has, without, including, setAfter, Sets, setAt, joinedAt, joinedTo, leaving, setPast}
+use Rattle.defined.specs.Search.{entering, walking, chainWalked, testsWalked, lineWalked, eachLine, Rounds, changedWalked}
+use Rattle.defined.specs.Search.{linesWalked, restsWalked, returnsWalked, rounded, everything, firstSets, firstRounds}
 use Rattle.defined.specs.Answer.{Passes, IsRow, RowOrNone}
-use Rattle.defined.proofs.Numbers.{Sub, sub-same, either-sub, either-absorbs, has-everything, has-nothing, has-without, has-including}
-use Rattle.defined.proofs.Final.{Small, Grows, joined-grows, entering-grows, leaving-grows, chain-grows, tests-grow, line-grows, rests-grow, GrowsBoth, SmallBoth, both-small, between, each-holds, each-changed-grows, changed-grows, lines-grow, returns-grow, small-first, long-none, long-first}
+use Rattle.defined.proofs.Numbers.{Sub, sub-same, either-sub, either-absorbs, has-everything, has-nothing, has-without}
+use Rattle.defined.proofs.Numbers.{has-including}
+use Rattle.defined.proofs.Final.{Small, Grows, joined-grows, entering-grows, leaving-grows, chain-grows, tests-grow}
+use Rattle.defined.proofs.Final.{line-grows, rests-grow, GrowsBoth, SmallBoth, both-small, between, each-holds}
+use Rattle.defined.proofs.Final.{each-changed-grows, changed-grows, lines-grow, returns-grow, small-first, long-none}
+use Rattle.defined.proofs.Final.{long-first}
 use Rattle.defined.proofs.Fit.{next-row, operation-row, go-to-row, do-row}
 use Rattle.defined.proofs.Chains.{Comes, here, on, begins, set-inside, visited-settles, lines-settled}
 

@@ -16,8 +16,13 @@ use Rattle.word.proofs.Tests.{and-true as and-parts}
 use Rattle.table.specs.declared.Row.{Row}
 use Rattle.table.specs.Row.{rows, rowAt, firstTest, firstOperation, goTo, done}
 use Rattle.machine.proofs.Checks.{or-parts, clash}
-use Rattle.defined.specs.Paths.{Point, line, test, operation, exit, operationOr, InChain, first, further, afterDo, Leads, toTests, noTests, nextTest, satisfied, otherwise, doing, nextOperation, going, nextLine, returning, Fields, noField, after, passing, Path, start, along, StandsAt, atTest, atOperation}
-use Rattle.defined.specs.Search.{has, reached, everything, without, including, setAfter, Sets, setAt, joinedAt, joinedTo, leaving, setPast, entering, Visit, visited, walking, chainWalked, testsWalked, lineWalked, Rounds, changedWalked, linesWalked, restsWalked, returnsWalked, rounded, firstSets, firstRounds, marking, testsMarked, chainMarked, lineMarked, linesMarked}
+use Rattle.defined.specs.Paths.{Point, line, test, operation, exit, operationOr, InChain, first, further, afterDo, Leads}
+use Rattle.defined.specs.Paths.{toTests, noTests, nextTest, satisfied, otherwise, doing, nextOperation, going, nextLine}
+use Rattle.defined.specs.Paths.{returning, Fields, noField, after, passing, Path, start, along, StandsAt, atTest, atOperation}
+use Rattle.defined.specs.Search.{has, reached, everything, without, including, setAfter, Sets, setAt, joinedAt, joinedTo}
+use Rattle.defined.specs.Search.{leaving, setPast, entering, Visit, visited, walking, chainWalked, testsWalked, lineWalked}
+use Rattle.defined.specs.Search.{Rounds, changedWalked, linesWalked, restsWalked, returnsWalked, rounded, firstSets}
+use Rattle.defined.specs.Search.{firstRounds, marking, testsMarked, chainMarked, lineMarked, linesMarked}
 use Rattle.defined.specs.Answer.{Passes, IsRow, RowOrNone}
 use Rattle.defined.proofs.Numbers.{has-either, has-without, has-including, has-nothing}
 use Rattle.defined.proofs.Final.{set-there, each-holds}

@@ -48,9 +48,12 @@ use Rattle.operands.proofs.Storing.{bugs-below}
 use Rattle.operands.proofs.Through.{through-readable, through-reached}
 use Rattle.operations.proofs.Doing.{stored-readable}
 use Rattle.operations.specs.declared.Action.{Action}
-use Rattle.operations.specs.declared.Action.the-variants.{Nothing, Deliver, DeliverTwo, Save, Restore, SaveDefinition, RestoreDefinition, Call, Return}
+use Rattle.operations.specs.declared.Action.the-variants.{Nothing, Deliver, DeliverTwo, Save, Restore, SaveDefinition}
+use Rattle.operations.specs.declared.Action.the-variants.{RestoreDefinition, Call, Return}
 use Rattle.operations.specs.Seen.{sight, Ready, countsOf}
-use Rattle.operations.specs.Plans.{setUpPlan, defining, definePlan, sizeOf, afterDelivery, delivering, getting, freeing, duplicating, taking, valueBy, storing, acting, twoPlan, swapPlan, printing, printPlan, contentsPlan, recordPlan, stackPlan, planOf, nameOf}
+use Rattle.operations.specs.Plans.{setUpPlan, defining, definePlan, sizeOf, afterDelivery, delivering, getting, freeing}
+use Rattle.operations.specs.Plans.{duplicating, taking, valueBy, storing, acting, twoPlan, swapPlan, printing, printPlan}
+use Rattle.operations.specs.Plans.{contentsPlan, recordPlan, stackPlan, planOf, nameOf}
 use Rattle.plans.specs.Rows.{Two, Three, Operates}
 use Rattle.operations.specs.Answers.{Plan}
 use Rattle.plans.specs.Steps.{goingTo, testsPlan, orderedPlan, operationPlan, exitPlan, stepPlan}
@@ -133,7 +136,8 @@ module _ (b : ℕ) (l : Lent) (e : Engine) (h : Facts b e) (ready : Ready b (sig
       able-is k₂ (record { feasible = (fa .reached, fc .reached); sure = (fa .sure, fc .sure) })
 
   -- 25 print
-  print-able : (row : Row) → Taken b (row .second) → (x : Action) → printPlan b (world e) (e .state .core .written) (length (l .output)) row ≡ passed x → Able b l e x
+  print-able : (row : Row) → Taken b (row .second) → (x : Action) → printPlan b (world e) (e .state .core .written) (length (l .output)) row
+      ≡ passed x → Able b l e x
   unfolding printPlan printing Feasible Sure
   print-able row t x k =
       let (n, _, k₁) = bind-passed _ _ k in
@@ -245,7 +249,8 @@ module _ (b : ℕ) (l : Lent) (e : Engine) (h : Facts b e) (ready : Ready b (sig
       unfolding delivering Feasible Sure
       delivering-able p is x k =
           by-eqb (λ t. cond t (passed (Deliver address n 0 a))
-          (locate b (afterDelivery b address n a (world e)) p >>= λ a2. passed (DeliverTwo address n a a2 (contents b (world e) a))) ≡ passed x → Able b l e x) (p .form) 0
+          (locate b (afterDelivery b address n a (world e)) p >>= λ a2. passed (DeliverTwo address n a a2 (contents b (world e) a))) ≡ passed x
+          → Able b l e x) (p .form) 0
           (λ none j. able-is j (record { feasible = (run-able, (λ some. absurd (some refl)), fa .reached); sure = fa .sure }))
           (λ there j.
           let (a2, at, j₁) = bind-passed _ _ j in
@@ -343,7 +348,8 @@ module _ (b : ℕ) (l : Lent) (e : Engine) (h : Facts b e) (ready : Ready b (sig
       k
 
   -- an operation but the set-up
-  operation-able : (row : Row) → Operates b row → (row .code ≡ 36 → row .first .value < 65536) → (x : Action) → planOf b (sight l e) row ≡ passed x → Able b l e x
+  operation-able : (row : Row) → Operates b row → (row .code ≡ 36 → row .first .value < 65536) → (x : Action) → planOf b (sight l e) row ≡ passed x
+      → Able b l e x
   unfolding planOf
   operation-able row o few x k =
       let code = row .code in
@@ -416,7 +422,8 @@ module _ (b : ℕ) (l : Lent) (e : Engine) (h : Facts b e) (ready : Ready b (sig
       unfolding stepPlan
       step-able k =
           let place = e .state .core .place in
-          let others = cond (eqb (place .kind) 1) (operationPlan b (sight l e) (l .table) place) (exitPlan b (e .state .core .calls .count) (l .table) (place .line)) in
+          let others = cond (eqb (place .kind) 1) (operationPlan b (sight l e) (l .table) place) (exitPlan b (e .state .core .calls .count) (l .table)
+          (place .line)) in
           by-eqb (λ t. cond t (testsPlan b (world e) (l .table) (place .line)) others ≡ passed p → AbleTo p) (place .kind) 0
           (λ _ j. tests-able (place .line) j)
           (λ _ j. by-eqb (λ t. cond t (operationPlan b (sight l e) (l .table) place)

@@ -39,7 +39,8 @@ module _ (l : Lent) (e : Engine) (o : Outcome) (is : o ≡ step l e) where
       (refused-changes-nothing l e r (ap (λ (o : Outcome). o .stepped .answer) (sym is) ∙ k))
 
   -- a finished engine answers finished and changes nothing
-  pub finished-call : isWidth (e .state .width) ≡ true → sound (e .state .width) l e ≡ true → isFinished (e .state .core .place) ≡ true → (o .stepped .answer ≡ Finished) × AsBefore l e o
+  pub finished-call : isWidth (e .state .width) ≡ true → sound (e .state .width) l e ≡ true → isFinished (e .state .core .place) ≡ true
+      → (o .stepped .answer ≡ Finished) × AsBefore l e o
   finished-call wide fine end = subst (λ (o : Outcome). (o .stepped .answer ≡ Finished) × AsBefore l e o) (sym is) (finished-stays l e wide fine end)
 
   -- a get or duplicate that is not refused delivers the lowest aligned run of its size outside the live blocks

@@ -90,16 +90,19 @@ judged-fine {row} at none = sym at ∙ ap Lowest (let same : row ≡ 0 = eqb-tru
 
 -- the public calls, by the walk
 pub steps-once : (l : Lent) (e : Engine) (storage output : List ℕ) {r : Walked} → returning r storage output ≡ walkFrom 0 (1 - 1) l e
-    → _≡_ {A = Outcome} (record { stepped = record { state = r .state; answer = r .answer; report = r .report }; storage = storage; output = output }) (step l e)
+    → _≡_ {A = Outcome} (record { stepped = record { state = r .state; answer = r .answer; report = r .report }; storage = storage; output = output })
+    (step l e)
 steps-once l e storage output is = ap steppedOf is ∙ walk-step l e
 
 module _ (limit : ℕ) (l : Lent) (e : Engine) where
-  pub runs-none : limit ≡ 0 → _≡_ {A = RunOutcome} (record { ran = record { state = e .state; answer = Running; count = 0 }; storage = e .storage; output = l .output }) (run limit l e)
+  pub runs-none : limit ≡ 0 → _≡_ {A = RunOutcome}
+      (record { ran = record { state = e .state; answer = Running; count = 0 }; storage = e .storage; output = l .output }) (run limit l e)
   unfolding run runFrom ends
   runs-none z = rw z
 
   pub runs-some : (limit ≡ 0 → ⊥) → {storage output : List ℕ} {r : Walked} → returning r storage output ≡ walkFrom 0 (limit - 1) l e
-      → _≡_ {A = RunOutcome} (record { ran = record { state = r .state; answer = r .answer; count = r .count }; storage = storage; output = output }) (run limit l e)
+      → _≡_ {A = RunOutcome} (record { ran = record { state = r .state; answer = r .answer; count = r .count }; storage = storage; output = output })
+      (run limit l e)
   unfolding run
   runs-some some is =
       let more : suc (limit - 1) ≡ limit = omega arith in

@@ -58,7 +58,8 @@ returning r storage output = record { walked = r; storage = storage; output = ou
 
 module _ (b : ℕ) (table input : List ℕ) (start : Walk) (limit count : ℕ) (output : List ℕ) (place : Place) (bugs : List ℕ) (records : Records)
     (entries : List ℕ) (counts : Counts) (setup : SetUp) (map storage fields : List ℕ)
-    (g : Going b table input start limit count output (engineWith b place bugs records entries counts setup map storage)) (packed : unpackedAll fields ≡ records .definitions)
+    (g : Going b table input start limit count output (engineWith b place bugs records entries counts setup map storage)) (packed : unpackedAll fields
+    ≡ records .definitions)
     (wide : isWidth b ≡ true) (fits : lengthFits table ≡ true) where
   abbrev narrow : b ≤ 48
   narrow = width-range b wide .1
@@ -82,12 +83,19 @@ module _ (b : ℕ) (table input : List ℕ) (start : Walk) (limit count : ℕ) (
   ready-now = subst (λ (ds : List Definition). Ready b (with-fields ds)) (sym packed) (ready-is b (lends table input output) e (g .fine) narrow)
 
   -- what is told of a plan with the packed definitions is told of it with the engine's
-  so : {t : Told Plan} → t ≡ told (stepPlan b (with-fields (unpackedAll fields)) table place) → t ≡ told (stepPlan b (with-fields (records .definitions)) table place)
+  so : {t : Told Plan} → t ≡ told (stepPlan b (with-fields (unpackedAll fields)) table place)
+      → t ≡ told (stepPlan b (with-fields (records .definitions)) table place)
   so is = is ∙ ap (λ (ds : List Definition). told (stepPlan b (with-fields ds) table place)) packed
 
-  module _ {answer : Planned} (is : toldPlanned answer ≡ told (stepPlan b (sees bugs fields setup map storage counts entries input (length output)) table place)) where
+  module _ {answer : Planned} (is : toldPlanned answer
+      ≡ told (stepPlan b (sees bugs fields setup map storage counts entries input (length output)) table place)) where
     pub refused-now : {q : Refusal} → answer ≡ Stopped q → {report : Report} → report ≡ noReport → {r : Walked}
-        → r ≡ record { state = record { width = b; core = coreWith place bugs records entries counts setup; map = map }; answer = Refused q; report = report; count = count + 1 }
+        → r ≡ record {
+          state = record { width = b; core = coreWith place bugs records entries counts setup; map = map };
+          answer = Refused q;
+          report = report;
+          count = count + 1;
+        }
         → returning r storage output ≡ start
     unfolding world
     refused-now to none same = rw (same, none) (going-refused b table input start limit count output e g wide fits (no-plan-is _ (so is) to))
@@ -110,7 +118,8 @@ module _ (b : ℕ) (table input : List ℕ) (start : Walk) (limit count : ℕ) (
       pub reportable-now : Reportable x
       reportable-now = feasible-reportable b _ x narrow (able .feasible)
 
-      module _ {y : Action} {place′ : Place} {ds ss : List Definition} {ps : List Place} {fields′ : List ℕ} (turn : Turned x to counts records y place′ ds ss ps fields′)
+      module _ {y : Action} {place′ : Place} {ds ss : List Definition} {ps : List Place} {fields′ : List ℕ}
+          (turn : Turned x to counts records y place′ ds ss ps fields′)
           {bugs′ entries′ : List ℕ} {next : Onward} {map′ storage′ output′ : List ℕ}
           (carried : (bugs′ ≡ bugsAfter b x bugs) × (entries′ ≡ entriesAfter (counts .contents) x entries) × (map′ ≡ mapAfter setup x map)
           × (storage′ ≡ wordsAfter b (setup .s1) x storage) × (output′ ≡ outputAfter (counts .written) x output))
@@ -118,7 +127,8 @@ module _ (b : ℕ) (table input : List ℕ) (start : Walk) (limit count : ℕ) (
         abbrev f : Engine
         f = engineWith b place′ bugs′ (recording ds ss ps) entries′ (next .counts) (next .setup) map′ storage′
 
-        then-with : {r : Records} → r ≡ recordsAfter x to counts records → engineThen b to x e ≡ engineWith b place′ bugs′ r entries′ (next .counts) (next .setup) map′ storage′
+        then-with : {r : Records} → r ≡ recordsAfter x to counts records → engineThen b to x e ≡ engineWith b place′ bugs′ r entries′ (next .counts)
+            (next .setup) map′ storage′
         then-with same = rw (turn .place, same, carried .0, carried .1, carried .2, carried .3, goes)
 
         then-now : engineThen b to x e ≡ f
@@ -134,7 +144,8 @@ module _ (b : ℕ) (table input : List ℕ) (start : Walk) (limit count : ℕ) (
         unfolding world isFinished
         ended-now over answers reports same =
             rw (same, answers, reports ∙ ap reportOf (turn .same), carried .4)
-            (ap (λ (f : Engine). walks (f .state) (cond (eqb (place′ .kind) 3) Finished Running) (reportOf x) (count + 1) (f .storage) (outputAfter (counts .written) x output)) (sym then-now)
+            (ap (λ (f : Engine). walks (f .state) (cond (eqb (place′ .kind) 3) Finished Running) (reportOf x) (count + 1) (f .storage)
+            (outputAfter (counts .written) x output)) (sym then-now)
             ∙ going-ends b table input start limit count output e g wide fits _ (plan-is _ (so is) made) (able .sure) _ (ends refl) over)
 
         pub next-now : (eqb (place′ .kind) 3 || eqb (count + 1) limit) ≡ false → Going b table input start limit (count + 1) output′ f
@@ -154,19 +165,23 @@ with-core e = rw e
 -- where a walk starts, by the core's parts
 pub started : (b : ℕ) (table input : List ℕ) (limit : ℕ) (output : List ℕ) (core : Core) (map storage : List ℕ) {records : Records} {counts : Counts}
     → records ≡ recordsOf core → counts ≡ countsOf core
-    → walkFrom 0 (limit - 1) (lends table input output) (engineWith b (core .place) (core .bugs) records (core .contents .entries) counts (core .setup) map storage)
+    → walkFrom 0 (limit - 1) (lends table input output) (engineWith b (core .place) (core .bugs) records (core .contents .entries) counts
+    (core .setup) map storage)
     ≡ walkFrom 0 (limit - 1) (lends table input output) (record { state = record { width = b; core = core; map = map }; storage = storage })
 started b table input limit output core map storage r c = rw (r, c)
 
 pub starts : (b : ℕ) (table input : List ℕ) (limit : ℕ) (output : List ℕ) (core : Core) (map storage : List ℕ) {records : Records} {counts : Counts}
     → records ≡ recordsOf core → counts ≡ countsOf core → 1 ≤ limit
-    → sound b (lends table input output) (record { state = record { width = b; core = core; map = map }; storage = storage }) ≡ true → isFinished (core .place) ≡ false
-    → Going b table input (walkFrom 0 (limit - 1) (lends table input output) (engineWith b (core .place) (core .bugs) records (core .contents .entries) counts (core .setup) map storage))
+    → sound b (lends table input output) (record { state = record { width = b; core = core; map = map }; storage = storage }) ≡ true
+    → isFinished (core .place) ≡ false
+    → Going b table input (walkFrom 0 (limit - 1) (lends table input output) (engineWith b (core .place) (core .bugs) records
+    (core .contents .entries) counts (core .setup) map storage))
     limit 0 output (engineWith b (core .place) (core .bugs) records (core .contents .entries) counts (core .setup) map storage)
 starts b table input limit output core map storage r c some fine unfinished =
     going-first b table input limit output _ refl some (rw (r, c) fine) unfinished
 
 -- and by its report
 pub with-report : {p q : Report} → p ≡ q → {state : State} {answer : Answer} {count : ℕ}
-    → _≡_ {A = Walked} (record { state = state; answer = answer; report = p; count = count }) (record { state = state; answer = answer; report = q; count = count })
+    → _≡_ {A = Walked} (record { state = state; answer = answer; report = p; count = count })
+    (record { state = state; answer = answer; report = q; count = count })
 with-report e = rw e

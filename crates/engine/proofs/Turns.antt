@@ -43,12 +43,14 @@ leaves e report output =
       output = output;
     }
 
-carried-parts : (b : ℕ) (x : Effects) (l : Lent) (e : Engine) → carriedOut b x l e ≡ leaves (engineAfter b x e) (x .report) (placed (e .state .core .written) (x .printed) (l .output))
+carried-parts : (b : ℕ) (x : Effects) (l : Lent) (e : Engine)
+    → carriedOut b x l e ≡ leaves (engineAfter b x e) (x .report) (placed (e .state .core .written) (x .printed) (l .output))
 unfolding carriedOut engineAfter
 carried-parts b x l e = refl
 
 -- one step of words of b bits, of a sound engine that is not finished, with a table of the right length
-module _ (b : ℕ) (l : Lent) (e : Engine) (fine : sound b l e ≡ true) (unfinished : isFinished (e .state .core .place) ≡ false) (fits : lengthFits (l .table) ≡ true) where
+module _ (b : ℕ) (l : Lent) (e : Engine) (fine : sound b l e ≡ true) (unfinished : isFinished (e .state .core .place) ≡ false)
+    (fits : lengthFits (l .table) ≡ true) where
   facts : Facts b e
   facts = sound-engine b l e fine
 
@@ -110,7 +112,8 @@ pub record Going (b : ℕ) (table input : List ℕ) (start : Walk) (limit count 
   pub unfinished : isFinished (e .state .core .place) ≡ false
   pub few : count < limit
 
-pub going-first : (b : ℕ) (table input : List ℕ) (limit : ℕ) (output : List ℕ) (e : Engine) → e .state .width ≡ b → 1 ≤ limit → sound b (lends table input output) e ≡ true
+pub going-first : (b : ℕ) (table input : List ℕ) (limit : ℕ) (output : List ℕ) (e : Engine) → e .state .width ≡ b → 1 ≤ limit
+    → sound b (lends table input output) e ≡ true
     → isFinished (e .state .core .place) ≡ false → Going b table input (walkFrom 0 (limit - 1) (lends table input output) e) limit 0 output e
 going-first b table input limit output e width some fine unfinished =
     record { same = rw (sub-zero (limit - 1)); width = width; fine = fine; unfinished = unfinished; few = some }
@@ -150,11 +153,19 @@ module _ (b : ℕ) (table input : List ℕ) (start : Walk) (limit count : ℕ) (
         rw add-one
         (sym
         (g .same
-        ∙ walk-stops count l e {o = record { stepped = record { state = after .state; answer = Finished; report = reportOf (p .action) }; storage = after .storage; output = out }}
+        ∙ walk-stops count l e {o = record {
+          stepped = record { state = after .state; answer = Finished; report = reportOf (p .action) };
+          storage = after .storage;
+          output = out;
+        }}
         (is ∙ does ∙ rw end) refl (limit - 1 - count)))
 
     goes : isFinished (after .state .core .place) ≡ false
-        → stepAt b l e ≡ record { stepped = record { state = after .state; answer = Running; report = reportOf (p .action) }; storage = after .storage; output = out }
+        → stepAt b l e ≡ record {
+          stepped = record { state = after .state; answer = Running; report = reportOf (p .action) };
+          storage = after .storage;
+          output = out;
+        }
     goes on = does ∙ rw on
 
     going-last : isFinished (after .state .core .place) ≡ false → count + 1 ≡ limit

@@ -104,7 +104,9 @@ module _ (b : ℕ) where
       (λ _. bad-fed ts (entered label (placeOf w modeWords)) (worse-entered label (placeOf w modeWords) e)) (λ _. none-left ts)
   bad-fed (paren args ∷ ts) (atMode label) e = none-left ts
   bad-fed (word w ∷ ts) (inTests label mode tests) e =
-      by-test (λ t. onlyIf (isLine b) (finished (fed (cond t (atThen label mode tests) (atEnd (record { label = label; mode = mode; tests = tests; operations = []; goTo = w }))) ts)) ≡ none) (same w (spelled "THEN"))
+      by-test (λ t. onlyIf (isLine b)
+      (finished (fed (cond t (atThen label mode tests) (atEnd (record { label = label; mode = mode; tests = tests; operations = []; goTo = w })))
+      ts)) ≡ none) (same w (spelled "THEN"))
       (λ _. bad-fed ts (atThen label mode tests) e)
       (λ _. bad-fed ts (atEnd (record { label = label; mode = mode; tests = tests; operations = []; goTo = w }))
       (worse (inTests label mode tests) (atEnd (record { label = label; mode = mode; tests = tests; operations = []; goTo = w }))

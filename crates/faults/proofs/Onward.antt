@@ -10,7 +10,8 @@ use lib.Dec.{eqb, leb}
 use lib.ListN.{length, getD, length-append, length-map}
 use Rattle.word.proofs.Tests.{by-test, and-true}
 use Rattle.lines.specs.Words.{same, isEmpty, all}
-use Rattle.lines.specs.Grammar.{Line, Token, word, paren, tokens, writtenToken, Piece, writtenPieces, spaced, pieces, Typed, indented, isLine, isTyped}
+use Rattle.lines.specs.Grammar.{Line, Token, word, paren, tokens, writtenToken, Piece, writtenPieces, spaced, pieces, Typed}
+use Rattle.lines.specs.Grammar.{indented, isLine, isTyped}
 use Rattle.lines.specs.Reading.{front, behind, isBlank, Found, tokenAt, before, onward, piecesIn, lineOf, kept, typedOf, readLine}
 use Rattle.lines.specs.Walking.{State, atStart, finished}
 use Rattle.faults.specs.Checking.{enough, checkedStep, checkedFed, onlyIf, lineFrom, inColumn, lineRead}

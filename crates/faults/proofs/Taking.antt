@@ -20,8 +20,10 @@ use Rattle.lines.specs.Forms.{isTest, isOperation}
 use Rattle.lines.specs.Grammar.{Line, Token, word, paren}
 use Rattle.lines.specs.Reading.{behind, isBlank, split, placeOf, Found, tokenAt}
 use Rattle.lines.specs.Walking.{tokenOf, State, atStart, broken, atMode, inTests, atThen, inOperations, atEnd, entered, step}
-use Rattle.faults.specs.Checking.{soFar, proper, checkedStep, parensOn, parensNext, parensIn, afterNext, afterIn, testsAt, operationsAt, lineAt, stateAt}
-use Rattle.faults.specs.Checking.{Counted, Testing, Operating, Placed, PlacedAt, labelScan, modeScan, thenScan, moreTests, moreOperations, goScan}
+use Rattle.faults.specs.Checking.{soFar, proper, checkedStep, parensOn, parensNext, parensIn, afterNext, afterIn, testsAt}
+use Rattle.faults.specs.Checking.{operationsAt, lineAt, stateAt}
+use Rattle.faults.specs.Checking.{Counted, Testing, Operating, Placed, PlacedAt, labelScan, modeScan, thenScan, moreTests}
+use Rattle.faults.specs.Checking.{moreOperations, goScan}
 use Rattle.faults.specs.Checking.{enteredWalk, goWalk, modeWalk, wordWalk, operationWalk, parenWalk}
 use Rattle.lines.proofs.Lists.{true-false, and-both, none-some, some-same}
 use Rattle.lines.proofs.Literals.{and-right, no-mode}
@@ -226,7 +228,8 @@ module _ (s : List ℕ) where
         ∙ sym (mode-word b w filled (slice (c .from) (c .label) s) (proper-label b (slice (c .from) (c .label) s) e))
     word-state (Tests c) e =
         state-cond (same w (spelled "THEN")) (Then (thenScan c end)) (goWalk s (thenScan c end) at end)
-        ∙ ap (cond (same w (spelled "THEN")) (atThen (slice (c .from) (c .label) s) (c .mode) (testsAt s c))) (state-cond (isDone w || isLabel w) (End (goScan (thenScan c end) at end)) Broken)
+        ∙ ap (cond (same w (spelled "THEN")) (atThen (slice (c .from) (c .label) s) (c .mode) (testsAt s c)))
+        (state-cond (isDone w || isLabel w) (End (goScan (thenScan c end) at end)) Broken)
         ∙ sym (tests-word b w filled (slice (c .from) (c .label) s) (c .mode) (testsAt s c) e)
     word-state (Then c) e = sym (step-broke b (stateAt s (Then c)) (word w) (then-broke (slice (c .from) (c .label) s) (c .mode) (testsAt s c) w))
     word-state (Operations c) e =

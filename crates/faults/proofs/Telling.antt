@@ -216,7 +216,15 @@ module _ (n : ℕ) (keys₀ rows₀ found : List ℕ) where
     pub known : (b : ℕ) (text : List ℕ) → Known b text (take n keys₀) (take n rows₀) → Found b text found → Known b text (take k keys) (take k rows)
 
   pub appending-none : 800 ≤ n → n ≤ length keys₀ → length keys₀ ≡ length rows₀ → Appending keys₀ rows₀ n 0
-  appending-none many most e = record { many = many; most = most; inside = omega arith; keys-long = refl; rows-long = refl; as-long = e; known = λ b text k f. k }
+  appending-none many most e = record {
+    many = many;
+    most = most;
+    inside = omega arith;
+    keys-long = refl;
+    rows-long = refl;
+    as-long = e;
+    known = λ b text k f. k;
+  }
 
   pub appending-more : {keys rows : List ℕ} {k i : ℕ} → Appending keys rows k i → k < length keys → i < length found
       → Appending (set keys k (getD found i 0)) (set rows k 801) (k + 1) (i + 1)

@@ -23,8 +23,10 @@ use Rattle.lines.specs.Words.{same, isEmpty}
 use Rattle.lines.specs.Grammar.{Line, word, paren}
 use Rattle.lines.specs.Reading.{front, behind, isBlank, split, tokenAt, readLine}
 use Rattle.lines.specs.Walking.{tokenOf, Within, State, atStart, finished}
-use Rattle.faults.specs.Checking.{soFar, proper, enough, checkedStep, onlyIf, lineFrom, inColumn, lineRead, parensIn, testsAt, operationsAt, lineAt, scannedLine, stateAt}
-use Rattle.faults.specs.Checking.{Counted, Testing, Operating, Placed, PlacedAt, PlacedIn, thenScan, goScan, wordWalk, parenWalk, spotWalk, placeAfter, isNothing, Few}
+use Rattle.faults.specs.Checking.{soFar, proper, enough, checkedStep, onlyIf, lineFrom, inColumn, lineRead, parensIn, testsAt}
+use Rattle.faults.specs.Checking.{operationsAt, lineAt, scannedLine, stateAt}
+use Rattle.faults.specs.Checking.{Counted, Testing, Operating, Placed, PlacedAt, PlacedIn, thenScan, goScan, wordWalk}
+use Rattle.faults.specs.Checking.{parenWalk, spotWalk, placeAfter, isNothing, Few}
 use Rattle.faults.specs.Checking.{enoughAt, columnAt, endScan, finishWalk}
 use Rattle.lines.proofs.Lists.{true-false, same-eq}
 use Rattle.lines.proofs.Literals.{and-right}

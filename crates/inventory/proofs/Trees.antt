@@ -16,7 +16,8 @@ use Rattle.block.specs.SetUp.{top, words}
 use Rattle.block.specs.Map.{freeTag, liveTag, written, canonical, allWritten, allCanonical, trees, mapOf, keeps}
 use Rattle.block.proofs.Size.{size-pos, size-suc}
 use Rattle.block.proofs.Map.{length-written, keeps-parts, trees-fill}
-use Rattle.inventory.specs.Inventory.{octal, wordEnd, texts, blockLine, isLive, startText, owner, contentText, storedText, storageText}
+use Rattle.inventory.specs.Inventory.{octal, wordEnd, texts, blockLine, isLive, startText, owner, contentText, storedText}
+use Rattle.inventory.specs.Inventory.{storageText}
 use Rattle.inventory.proofs.Owners.{owner-here, owner-before}
 
 -- two runs of places

@@ -9,7 +9,8 @@ use Rattle.octets.proofs.RoundTrip.{length-bytes, number-of-bytes}
 use Rattle.machine.specs.declared.State.{State}
 use Rattle.machine.specs.State.{testsOf, undefined}
 use Rattle.layout.specs.Records.{numberAt, bytesOfAll, recordsOf}
-use Rattle.layout.specs.Layout.{bytesOfPlace, placeOf, bytesOfDefinition, definitionOf, bytesOfNumbers, bytesOfArrays, bytesOfState, stateOf}
+use Rattle.layout.specs.Layout.{bytesOfPlace, placeOf, bytesOfDefinition, definitionOf, bytesOfNumbers, bytesOfArrays}
+use Rattle.layout.specs.Layout.{bytesOfState, stateOf}
 use Rattle.layout.specs.Ranged.{Array, Bytes, RangedPlace, RangedDefinition, Ranged}
 use Rattle.layout.proofs.Records.{length-array, records-back}
 use Rattle.layout.proofs.Widths.{length-place, length-definition, place-back, definition-back}
@@ -112,19 +113,24 @@ module _ (s : State) (ok : Ranged s) (t : List ℕ) where
     d51 = past t (bytesOf 8 (s .core .calls .count)) r51 43 8 d43 (length-bytes 8 (s .core .calls .count))
 
     d259 : drop 259 t ≡ r259
-    d259 = past t (bytesOfAll (bytesOf 8) (s .core .bugs)) r259 51 208 d51 (length-array (bytesOf 8) 0 8 (length-bytes 8) (s .core .bugs) (ok .arrays .bugs .long))
+    d259 = past t (bytesOfAll (bytesOf 8) (s .core .bugs)) r259 51 208 d51 (length-array (bytesOf 8) 0 8 (length-bytes 8) (s .core .bugs)
+        (ok .arrays .bugs .long))
 
     d1283 : drop 1283 t ≡ r1283
-    d1283 = past t (bytesOfAll (bytesOf 8) (s .core .contents .entries)) r1283 259 1024 d259 (length-array (bytesOf 8) 0 8 (length-bytes 8) (s .core .contents .entries) (ok .arrays .contents .long))
+    d1283 = past t (bytesOfAll (bytesOf 8) (s .core .contents .entries)) r1283 259 1024 d259
+        (length-array (bytesOf 8) 0 8 (length-bytes 8) (s .core .contents .entries) (ok .arrays .contents .long))
 
     d1427 : drop 1427 t ≡ r1427
-    d1427 = past t (bytesOfAll bytesOfDefinition (s .core .definitions)) r1427 1283 144 d1283 (length-array bytesOfDefinition undefined 4 length-definition (s .core .definitions) (ok .arrays .definitions .long))
+    d1427 = past t (bytesOfAll bytesOfDefinition (s .core .definitions)) r1427 1283 144 d1283
+        (length-array bytesOfDefinition undefined 4 length-definition (s .core .definitions) (ok .arrays .definitions .long))
 
     d1939 : drop 1939 t ≡ r1939
-    d1939 = past t (bytesOfAll bytesOfDefinition (s .core .saved .entries)) r1939 1427 512 d1427 (length-array bytesOfDefinition undefined 4 length-definition (s .core .saved .entries) (ok .arrays .saved .long))
+    d1939 = past t (bytesOfAll bytesOfDefinition (s .core .saved .entries)) r1939 1427 512 d1427
+        (length-array bytesOfDefinition undefined 4 length-definition (s .core .saved .entries) (ok .arrays .saved .long))
 
     d2579 : drop 2579 t ≡ r2579
-    d2579 = past t (bytesOfAll bytesOfPlace (s .core .calls .entries)) r2579 1939 640 d1939 (length-array bytesOfPlace (testsOf 0) 5 length-place (s .core .calls .entries) (ok .arrays .calls .long))
+    d2579 = past t (bytesOfAll bytesOfPlace (s .core .calls .entries)) r2579 1939 640 d1939 (length-array bytesOfPlace (testsOf 0) 5 length-place
+        (s .core .calls .entries) (ok .arrays .calls .long))
 
     d6675 : drop 6675 t ≡ r6675
     d6675 = past t (bytesOfAll (bytesOf 1) (s .map)) r6675 2579 4096 d2579 (length-array (bytesOf 1) 0 1 (length-bytes 1) (s .map) (ok .map .long))
@@ -132,7 +138,9 @@ module _ (s : State) (ok : Ranged s) (t : List ℕ) where
     pub state-same : stateOf t ≡ s
     unfolding stateOf
     state-same =
-        let place : placeOf (take 5 t) ≡ s .core .place = ap (λ (b : List ℕ). placeOf (take 5 b)) is ∙ ap placeOf (take-at (bytesOfPlace (s .core .place)) r5 5 (length-place (s .core .place))) ∙ place-back (s .core .place) (ok .numbers .place) in
+        let place : placeOf (take 5 t) ≡ s .core .place = ap (λ (b : List ℕ). placeOf (take 5 b)) is
+        ∙ ap placeOf (take-at (bytesOfPlace (s .core .place)) r5 5 (length-place (s .core .place)))
+        ∙ place-back (s .core .place) (ok .numbers .place) in
         let n5 = number t r13 5 8 (s .core .taken) d5 (ok .numbers .taken) in
         let n13 = number t r21 13 8 (s .core .written) d13 (ok .numbers .written) in
         let n21 = number t r23 21 2 (s .core .setup .d) d21 (ok .numbers .d) in
@@ -142,10 +150,14 @@ module _ (s : State) (ok : Ranged s) (t : List ℕ) where
         let n35 = number t r43 35 8 (s .core .saved .count) d35 (ok .numbers .saved) in
         let n43 = number t r51 43 8 (s .core .calls .count) d43 (ok .numbers .calls) in
         let a51 = array-back (Bytes 8) 0 (bytesOf 8) lowFirst 8 (length-bytes 8) (number-of-bytes 8) 26 (s .core .bugs) (ok .arrays .bugs) t r259 51 d51 in
-        let a259 = array-back (Bytes 8) 0 (bytesOf 8) lowFirst 8 (length-bytes 8) (number-of-bytes 8) 128 (s .core .contents .entries) (ok .arrays .contents) t r1283 259 d259 in
-        let a1283 = array-back RangedDefinition undefined bytesOfDefinition definitionOf 4 length-definition definition-back 36 (s .core .definitions) (ok .arrays .definitions) t r1427 1283 d1283 in
-        let a1427 = array-back RangedDefinition undefined bytesOfDefinition definitionOf 4 length-definition definition-back 128 (s .core .saved .entries) (ok .arrays .saved) t r1939 1427 d1427 in
-        let a1939 = array-back RangedPlace (testsOf 0) bytesOfPlace placeOf 5 length-place place-back 128 (s .core .calls .entries) (ok .arrays .calls) t r2579 1939 d1939 in
+        let a259 = array-back (Bytes 8) 0 (bytesOf 8) lowFirst 8 (length-bytes 8) (number-of-bytes 8) 128 (s .core .contents .entries)
+        (ok .arrays .contents) t r1283 259 d259 in
+        let a1283 = array-back RangedDefinition undefined bytesOfDefinition definitionOf 4 length-definition definition-back 36 (s .core .definitions)
+        (ok .arrays .definitions) t r1427 1283 d1283 in
+        let a1427 = array-back RangedDefinition undefined bytesOfDefinition definitionOf 4 length-definition definition-back 128
+        (s .core .saved .entries) (ok .arrays .saved) t r1939 1427 d1427 in
+        let a1939 = array-back RangedPlace (testsOf 0) bytesOfPlace placeOf 5 length-place place-back 128 (s .core .calls .entries)
+        (ok .arrays .calls) t r2579 1939 d1939 in
         let a2579 = array-back (Bytes 1) 0 (bytesOf 1) lowFirst 1 (length-bytes 1) (number-of-bytes 1) 4096 (s .map) (ok .map) t r6675 2579 d2579 in
         let n6675 = number t [] 6675 1 (s .width) d6675 (ok .width) in
         rw (place, n5, n13, n21, n23, n25, n27, n35, n43, a51, a259, a1283, a1427, a1939, a2579, n6675)

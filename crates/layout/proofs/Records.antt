@@ -112,7 +112,8 @@ module _ {A : Type 0} (put : A → List ℕ) (none : A) where
           let more-room : at + w * i + w ≤ length t = omega (arith, mul-suc w i, mul-le-mul-left {m = suc i} {n = length xs} w (omega arith)) in
           record {
             few = omega arith;
-            put-so = rw (add-one i, all-next xs i h) (more (so-far .put-so) (put (getD xs i none)) (ap (λ (n : ℕ). at + n) long) is (omega (arith, wide (getD xs i none))));
+            put-so = rw (add-one i, all-next xs i h) (more (so-far .put-so) (put (getD xs i none)) (ap (λ (n : ℕ). at + n) long) is
+                (omega (arith, wide (getD xs i none))));
             each = below-more _ _ (so-far .each) good;
           }
 

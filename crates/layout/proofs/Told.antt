@@ -35,7 +35,12 @@ module _ (bytes : List ℕ) (at : ℕ) where
       rw (kind, row-same, line-same)
 
   pub definition-read : at + 4 ≤ length bytes
-      → _≡_ {A = Definition} (record { defined = not (eqb (getD bytes at 0) 0); word = getD bytes (at + 1) 0; left = getD bytes (at + 2) 0; right = getD bytes (at + 3) 0 })
+      → _≡_ {A = Definition} (record {
+        defined = not (eqb (getD bytes at 0) 0);
+        word = getD bytes (at + 1) 0;
+        left = getD bytes (at + 2) 0;
+        right = getD bytes (at + 3) 0;
+      })
       (definitionOf (take 4 (drop at bytes)))
   unfolding definitionOf
   definition-read h =
@@ -53,7 +58,8 @@ module _ (bytes : List ℕ) (at : ℕ) where
       sym (byte-at (at + i) bytes h) ∙ ap (λ (n : ℕ). lowFirst (take 1 (drop n bytes))) same
 
 -- all that is read of a state but its map and its width
-pub core-read : (bytes : List ℕ) {place : Place} {bugs words : List ℕ} {definitions saved : List Definition} {calls : List Place} {contents-count saved-count calls-count taken written : ℕ}
+pub core-read : (bytes : List ℕ) {place : Place} {bugs words : List ℕ} {definitions saved : List Definition} {calls : List Place}
+    {contents-count saved-count calls-count taken written : ℕ}
     {setup : SetUp} → bugs ≡ recordsOf lowFirst 8 26 (drop 51 bytes) → words ≡ recordsOf lowFirst 8 128 (drop 259 bytes)
     → definitions ≡ recordsOf definitionOf 4 36 (drop 1283 bytes) → saved ≡ recordsOf definitionOf 4 128 (drop 1427 bytes)
     → calls ≡ recordsOf placeOf 5 128 (drop 1939 bytes) → place ≡ placeOf (take 5 bytes)

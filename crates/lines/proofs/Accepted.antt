@@ -15,7 +15,8 @@ use Rattle.table.specs.Table.{checked}
 use Rattle.lines.specs.Words.{isEmpty, all, any}
 use Rattle.lines.specs.Grammar.{Line, Typed, isLine, isTyped, writtenText}
 use Rattle.lines.specs.Reading.{onto, cut, linesOf, readLine, readLines}
-use Rattle.lines.specs.Program.{size, tableOf, rowCount, keptLines, used, declares, badLabels, tooLong, faultOf, Refusal, lowestFault, refusalOf, program, Left, reading}
+use Rattle.lines.specs.Program.{size, tableOf, rowCount, keptLines, used, declares, badLabels, tooLong, faultOf, Refusal}
+use Rattle.lines.specs.Program.{lowestFault, refusalOf, program, Left, reading}
 use Rattle.lines.proofs.Lists.{true-false, and-both, all-first, all-others}
 use Rattle.lines.proofs.Lines.{spacing}
 use Rattle.lines.proofs.Texts.{ReadsText, text-sound, text-complete}

@@ -9,7 +9,8 @@ use lib.Dec.{eqb}
 use lib.ListN.{length, drop}
 use Rattle.word.proofs.Tests.{by-test, and-true, and-false}
 use Rattle.lines.specs.Words.{spelled, same, all, any, Kind, itself, symbol, isKind, isSymbol, isLabel, isField}
-use Rattle.lines.specs.Forms.{Form, operationForms, expanded, areKinds, fits, noForm, formOf, isArgument, isOperation, symbolsIn}
+use Rattle.lines.specs.Forms.{Form, operationForms, expanded, areKinds, fits, noForm, formOf, isArgument, isOperation}
+use Rattle.lines.specs.Forms.{symbolsIn}
 use Rattle.lines.specs.Reading.{split}
 use Rattle.lines.specs.Walking.{callsIn, callsAt}
 use Rattle.lines.proofs.Lists.{true-false, all-first, all-others}

@@ -14,7 +14,8 @@ use Rattle.character.specs.Character.{number}
 use Rattle.lines.specs.Words.{spelled, Kind, itself, isKind, all, any}
 use Rattle.lines.specs.Forms.{Form, testForms, operationForms, areKinds, fits, noForm, formOf}
 use Rattle.lines.specs.Reading.{front, split}
-use Rattle.lines.specs.Walking.{bytesIn, bytesOf, kindNumber, kindOf, kindsOf, padded, coded, formsOf, formPlace, isPart, partsFrom}
+use Rattle.lines.specs.Walking.{bytesIn, bytesOf, kindNumber, kindOf, kindsOf, padded, coded, formsOf, formPlace, isPart}
+use Rattle.lines.specs.Walking.{partsFrom}
 use Rattle.lines.proofs.Parts.{parts-all, parts-none, parts-step, part-inside}
 
 -- an argument of the kind of a number

@@ -5,28 +5,59 @@ use Prim.Native.String.{String}
 use mathlib.Core.Bool.{Bool, true, _&&_}
 use lib.Dec.{eqb}
 use mathlib.Core.Path.{_≡_, refl}
-use mathlib.Core.List.{List, [], _∷_}
+use mathlib.Core.List.{List, [], _∷_, _++_}
 use Rattle.character.specs.Character.{number, packed, period, codeOf}
-use Rattle.lines.specs.Reading.{afterParens, before, behind, closed, cut, ending, front, kept, labelled, lineOf, linesOf, moded, onto, onward, operating, parens, piecesIn, placeOf, readLine, readLines, split, tested, tokenAt, typedOf}
-use Rattle.lines.specs.Words.{all, any, characterCode, givesName, isCharacter, isDecimal, isDefinition, isDigit, isDone, isField, isFieldName, isHollerith, isKind, isLabel, isLetter, isMode, isName, isOctal, isOctalDigit, isSymbol, lastByte, literal, modeWords, nameNumber, pairOf, same, spelled, startsWith}
-use Rattle.lines.specs.Program.{badLabels, calledIn, chainedRows, declares, faultOf, flat, goToRow, keptLines, lineRow, lowestFault, numbersOf, operationRow, program, reading, refusalOf, refused, rowCount, rowOf, rowsFrom, size, tableOf, testRow, tooLong, used}
-use Rattle.lines.specs.Grammar.{indented, isLine, isTyped, joined, optional, pieces, spaced, thenWord, tokens, writtenLine, writtenPieces, writtenText, writtenToken}
-use Rattle.lines.specs.Forms.{areKinds, expanded, fits, formOf, isArgument, isOperation, isTest, nameIn, operandAt, operationForms, pairsOf, rowIn, symbolsIn, testForms}
+use Rattle.lines.specs.Reading.{afterParens, before, behind, closed, cut, ending, front, kept, labelled, lineOf, linesOf}
+use Rattle.lines.specs.Reading.{moded, onto, onward, operating, parens, piecesIn, placeOf, readLine, readLines, split, tested}
+use Rattle.lines.specs.Reading.{tokenAt, typedOf}
+use Rattle.lines.specs.Words.{all, any, characterCode, givesName, isCharacter, isDecimal, isDefinition, isDigit, isDone}
+use Rattle.lines.specs.Words.{isField, isFieldName, isHollerith, isKind, isLabel, isLetter, isMode, isName, isOctal}
+use Rattle.lines.specs.Words.{isOctalDigit, isSymbol, lastByte, literal, modeWords, nameNumber, pairOf, same, spelled}
+use Rattle.lines.specs.Words.{startsWith}
+use Rattle.lines.specs.Program.{badLabels, calledIn, chainedRows, declares, faultOf, flat, goToRow, keptLines, lineRow}
+use Rattle.lines.specs.Program.{lowestFault, numbersOf, operationRow, program, reading, refusalOf, refused, rowCount, rowOf}
+use Rattle.lines.specs.Program.{rowsFrom, size, tableOf, testRow, tooLong, used}
+use Rattle.lines.specs.Grammar.{indented, isLine, isTyped, joined, optional, pieces, spaced, thenWord, tokens, writtenLine}
+use Rattle.lines.specs.Grammar.{writtenPieces, writtenText, writtenToken}
+use Rattle.lines.specs.Forms.{areKinds, expanded, fits, formOf, isArgument, isOperation, isTest, nameIn, operandAt}
+use Rattle.lines.specs.Forms.{operationForms, pairsOf, rowIn, symbolsIn, testForms}
 
 -- a text, the numbers lent, the refusal and its line
 record Example : Type 0 where
-  text : String
+  text : List ℕ
   lent : ℕ
   number : ℕ
   line : ℕ
 
 abbrev for : String → ℕ → ℕ → ℕ → Example
-for text lent number line = record { text = text; lent = lent; number = number; line = line }
+for text lent number line = record { text = spelled text; lent = lent; number = number; line = line }
+
+-- the lines of a text, each with its byte 10
+linesIn : List String → List ℕ
+linesIn [] = []
+linesIn (line ∷ lines) = spelled line ++ linesIn lines
+
+abbrev forLines : List String → ℕ → ℕ → ℕ → Example
+forLines lines lent number line = record { text = linesIn lines; lent = lent; number = number; line = line }
 
 examples : List Example
 examples =
     -- 6.1 to 6.3
-    for "INP THEN (W,GT,2) (WB,E,32767) (S,FC,X)\nRD THEN (X,IN,6) (X,BZ,X)\n      THEN (W,GT,2,WA) (WAD,P,W) (WB,DB,X)\n      IFNONE (X,E,0) RD\n      THEN (X,IN,73) (R,FC,X) DONE\nORDER THEN (S,FC,X) (X,P,WA)\nND IFALL (XA,E,0) THEN (R,FC,X) DONE\nBACK IFALL (XB,E,XDB) THEN (XDA,P,XA) (XAD,P,XD) (X,FR,XA) ND\n IFALL (XB,L,XDB) THEN (XB,IC,XDB) (X,D) BACK\n THEN (X,A) ND\nOUTPUT THEN (W,FR,WA) (S,FC,X)\nANYMOR IFALL (WA,E,0) THEN (W,FR,0) (1,PR,77) (R,FC,X) DONE\n THEN (X,BD,WB) (X,ZB,X) (6,PR,X) (W,FR,WA) ANYMOR\n" 8000 0 0
+    forLines (
+    "INP THEN (W,GT,2) (WB,E,32767) (S,FC,X)\n"
+    ∷ "RD THEN (X,IN,6) (X,BZ,X)\n"
+    ∷ "      THEN (W,GT,2,WA) (WAD,P,W) (WB,DB,X)\n"
+    ∷ "      IFNONE (X,E,0) RD\n"
+    ∷ "      THEN (X,IN,73) (R,FC,X) DONE\n"
+    ∷ "ORDER THEN (S,FC,X) (X,P,WA)\n"
+    ∷ "ND IFALL (XA,E,0) THEN (R,FC,X) DONE\n"
+    ∷ "BACK IFALL (XB,E,XDB) THEN (XDA,P,XA) (XAD,P,XD) (X,FR,XA) ND\n"
+    ∷ " IFALL (XB,L,XDB) THEN (XB,IC,XDB) (X,D) BACK\n"
+    ∷ " THEN (X,A) ND\n"
+    ∷ "OUTPUT THEN (W,FR,WA) (S,FC,X)\n"
+    ∷ "ANYMOR IFALL (WA,E,0) THEN (W,FR,0) (1,PR,77) (R,FC,X) DONE\n"
+    ∷ " THEN (X,BD,WB) (X,ZB,X) (6,PR,X) (W,FR,WA) ANYMOR\n"
+    ∷ []) 8000 0 0
     -- an empty text
     ∷ for "" 8000 23 1
     -- the last line's byte 10 is missing
@@ -71,10 +102,16 @@ examples =
     ∷ []
 
 right : Example → Bool
-right e = eqb (refusalOf 36 (e .lent) (spelled (e .text)) .number) (e .number) && eqb (refusalOf 36 (e .lent) (spelled (e .text)) .line) (e .line)
+right e = eqb (refusalOf 36 (e .lent) (e .text) .number) (e .number) && eqb (refusalOf 36 (e .lent) (e .text) .line) (e .line)
 
 all-right : all right examples ≡ true
-unfolding examples right number packed period codeOf afterParens before behind closed cut ending front kept labelled lineOf linesOf moded onto onward operating parens piecesIn placeOf readLine readLines split tested tokenAt typedOf all any characterCode givesName isCharacter isDecimal isDefinition isDigit isDone isField isFieldName isHollerith isKind isLabel isLetter isMode isName isOctal isOctalDigit isSymbol lastByte literal modeWords nameNumber pairOf same spelled startsWith badLabels calledIn chainedRows declares faultOf flat goToRow keptLines lineRow lowestFault numbersOf operationRow program reading refusalOf refused rowCount rowOf rowsFrom size tableOf testRow tooLong used indented isLine isTyped joined optional pieces spaced thenWord tokens writtenLine writtenPieces writtenText writtenToken areKinds expanded fits formOf isArgument isOperation isTest nameIn operandAt operationForms pairsOf rowIn symbolsIn testForms
+unfolding examples right linesIn number packed period codeOf afterParens before behind closed cut ending front kept labelled lineOf linesOf moded onto onward
+    operating parens piecesIn placeOf readLine readLines split tested tokenAt typedOf all any characterCode givesName isCharacter isDecimal
+    isDefinition isDigit isDone isField isFieldName isHollerith isKind isLabel isLetter isMode isName isOctal isOctalDigit isSymbol lastByte literal
+    modeWords nameNumber pairOf same spelled startsWith badLabels calledIn chainedRows declares faultOf flat goToRow keptLines lineRow lowestFault
+    numbersOf operationRow program reading refusalOf refused rowCount rowOf rowsFrom size tableOf testRow tooLong used indented isLine isTyped joined
+    optional pieces spaced thenWord tokens writtenLine writtenPieces writtenText writtenToken areKinds expanded fits formOf isArgument isOperation
+    isTest nameIn operandAt operationForms pairsOf rowIn symbolsIn testForms
 all-right = refl
 
 -- 6.4: its table
@@ -88,5 +125,11 @@ returning : tableOf 36 (program 36 (spelled "RTRE IFALL (W,E,0) DONE\n THEN (S,F
     ∷ 3 ∷ 7 ∷ 36 ∷ 0 ∷ 1 ∷ 1 ∷ 0 ∷ 0 ∷ 0 ∷ 0
     ∷ 3 ∷ 0 ∷ 33 ∷ 0 ∷ 2 ∷ 33 ∷ 0 ∷ 0 ∷ 0 ∷ 0
     ∷ []
-unfolding number packed period codeOf afterParens before behind closed cut ending front kept labelled lineOf linesOf moded onto onward operating parens piecesIn placeOf readLine readLines split tested tokenAt typedOf all any characterCode givesName isCharacter isDecimal isDefinition isDigit isDone isField isFieldName isHollerith isKind isLabel isLetter isMode isName isOctal isOctalDigit isSymbol lastByte literal modeWords nameNumber pairOf same spelled startsWith badLabels calledIn chainedRows declares faultOf flat goToRow keptLines lineRow lowestFault numbersOf operationRow program reading refusalOf refused rowCount rowOf rowsFrom size tableOf testRow tooLong used indented isLine isTyped joined optional pieces spaced thenWord tokens writtenLine writtenPieces writtenText writtenToken areKinds expanded fits formOf isArgument isOperation isTest nameIn operandAt operationForms pairsOf rowIn symbolsIn testForms
+unfolding number packed period codeOf afterParens before behind closed cut ending front kept labelled lineOf linesOf moded onto onward operating
+    parens piecesIn placeOf readLine readLines split tested tokenAt typedOf all any characterCode givesName isCharacter isDecimal isDefinition isDigit
+    isDone isField isFieldName isHollerith isKind isLabel isLetter isMode isName isOctal isOctalDigit isSymbol lastByte literal modeWords nameNumber
+    pairOf same spelled startsWith badLabels calledIn chainedRows declares faultOf flat goToRow keptLines lineRow lowestFault numbersOf operationRow
+    program reading refusalOf refused rowCount rowOf rowsFrom size tableOf testRow tooLong used indented isLine isTyped joined optional pieces spaced
+    thenWord tokens writtenLine writtenPieces writtenText writtenToken areKinds expanded fits formOf isArgument isOperation isTest nameIn operandAt
+    operationForms pairsOf rowIn symbolsIn testForms
 returning = refl

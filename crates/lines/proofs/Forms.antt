@@ -6,8 +6,10 @@ use mathlib.Core.Bool.{Bool, true, false, not, _&&_, _||_, cond}
 use mathlib.Core.List.{List, [], _∷_, List·Memᴰ, List·Memᴰ·not-nil, List·Memᴰ·cases-cons}
 use borrow.Author.Tests.{not-true}
 use Rattle.word.proofs.Tests.{by-test, and-true}
-use Rattle.lines.specs.Words.{spelled, same, isEmpty, all, any, isDigit, isOctalDigit, isLetter, isName, isCharacter, isField, isDecimal, isOctal, isHollerith}
-use Rattle.lines.specs.Words.{isFieldName, isDefinition, isLabel, isMode, isDone, modeWords, startsWith, Kind, itself, field, decimal, octal, hollerith}
+use Rattle.lines.specs.Words.{spelled, same, isEmpty, all, any, isDigit, isOctalDigit, isLetter, isName, isCharacter, isField}
+use Rattle.lines.specs.Words.{isDecimal, isOctal, isHollerith}
+use Rattle.lines.specs.Words.{isFieldName, isDefinition, isLabel, isMode, isDone, modeWords, startsWith, Kind, itself, field}
+use Rattle.lines.specs.Words.{decimal, octal, hollerith}
 use Rattle.lines.specs.Words.{fieldOrDecimal, fieldOrOctal, name, definition, symbol, isKind}
 use Rattle.lines.specs.Forms.{Form, testForms, operationForms, areKinds, fits, noForm, formOf}
 use Rattle.lines.proofs.Lists.{true-false, same-eq, all-first, all-others}
@@ -119,5 +121,6 @@ module _ (b : ℕ) where
   tests-apart = refl
 
   pub operations-apart : allApart operationForms ≡ true
-  unfolding allApart apartKinds apart isItself wordOf operationForms all isKind same spelled isField isDecimal isOctal isHollerith isFieldName isDefinition isDigit isLetter isName startsWith isLabel isMode any modeWords isDone
+  unfolding allApart apartKinds apart isItself wordOf operationForms all isKind same spelled isField isDecimal isOctal isHollerith isFieldName
+      isDefinition isDigit isLetter isName startsWith isLabel isMode any modeWords isDone
   operations-apart = refl

@@ -10,12 +10,15 @@ use borrow.Author.Tests.{eqb-true, eq-eqb, ne-eqb, not-true, leb-true}
 use lib.Dec.{eqb, leb}
 use lib.ListN.{length, getD, replicate, length-append}
 use Rattle.word.proofs.Tests.{by-test, by-eqb, and-true}
-use Rattle.lines.specs.Words.{spelled, same, isEmpty, all, any, isDigit, isLetter, isName, isCharacter, modeWords, isMode, isDone, isLabel}
+use Rattle.lines.specs.Words.{spelled, same, isEmpty, all, any, isDigit, isLetter, isName, isCharacter, modeWords, isMode}
+use Rattle.lines.specs.Words.{isDone, isLabel}
 use Rattle.lines.specs.Forms.{testForms, operationForms, expanded, areKinds, fits, isArgument, isTest, isOperation}
-use Rattle.lines.specs.Grammar.{Line, Token, word, paren, optional, thenWord, tokens, joined, writtenToken, Piece, writtenPieces, spaced, Typed, pieces}
+use Rattle.lines.specs.Grammar.{Line, Token, word, paren, optional, thenWord, tokens, joined, writtenToken, Piece}
+use Rattle.lines.specs.Grammar.{writtenPieces, spaced, Typed, pieces}
 use Rattle.lines.specs.Grammar.{writtenLine, indented, isLine, isTyped, writtenText}
 use Rattle.lines.specs.Reading.{piecesIn, lineOf, kept, typedOf, readLine, onto, cut, linesOf, readLines}
-use Rattle.lines.proofs.Lists.{none-some, true-false, some-same, and-both, same-eq, same-refl, all-first, all-others, all-append, all-weaken}
+use Rattle.lines.proofs.Lists.{none-some, true-false, some-same, and-both, same-eq, same-refl, all-first, all-others}
+use Rattle.lines.proofs.Lists.{all-append, all-weaken}
 use Rattle.lines.proofs.Pieces.{named, character-low, isProper, properPiece, pieces-read, isFilled, Cut, pieces-cut}
 use Rattle.lines.proofs.Tokens.{Readable, tokens-read, line-tokens}
 
@@ -219,7 +222,8 @@ parens-proper p h (g ∷ gs) e = and-both (h g (all-first p g gs e)) (parens-pro
 
 then-all : (l : Line) → all isProper (thenWord l) ≡ true
 unfolding thenWord all
-then-all l = by-test (λ t. all isProper (cond t [] (word (spelled "THEN") ∷ [])) ≡ true) (eqb (l .mode) 0 || isEmpty (l .operations)) (λ _. refl) (λ _. and-both then-proper refl)
+then-all l = by-test (λ t. all isProper (cond t [] (word (spelled "THEN") ∷ [])) ≡ true) (eqb (l .mode) 0 || isEmpty (l .operations)) (λ _. refl)
+    (λ _. and-both then-proper refl)
 
 -- all tokens of a line are read as they are written
 pub tokens-proper : (b : ℕ) (l : Line) → Parts b l → all isProper (tokens l) ≡ true

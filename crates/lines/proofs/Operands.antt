@@ -13,7 +13,8 @@ use Rattle.character.specs.Character.{number, packed, allBelow, period, codeOf}
 use Rattle.character.proofs.RoundTrip.{packed-lt}
 use Rattle.character.proofs.Digits.{power-of}
 use Rattle.table.specs.Reference.{digitsBefore, digitsOf, names, namesField, namesBug, nameFields, startsWithBug, isReference}
-use Rattle.lines.specs.Words.{isEmpty, all, isDigit, isOctalDigit, isLetter, isName, isCharacter, nameNumber, characterCode, startsWith, literal, isField, isDecimal, isOctal, isHollerith}
+use Rattle.lines.specs.Words.{isEmpty, all, isDigit, isOctalDigit, isLetter, isName, isCharacter, nameNumber, characterCode}
+use Rattle.lines.specs.Words.{startsWith, literal, isField, isDecimal, isOctal, isHollerith}
 use Rattle.lines.proofs.Lists.{true-false, and-both, all-first, all-others}
 
 last-digit : (k m x : ℕ) (ds : List ℕ) → 1 ≤ x → x ≤ 36 → digitsBefore (suc k) (m * 64 + x) ds ≡ digitsBefore k m (x ∷ ds)

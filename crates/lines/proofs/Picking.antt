@@ -12,8 +12,10 @@ use Rattle.word.proofs.Tests.{by-test, by-eqb, and-true}
 use Rattle.character.specs.Character.{number}
 use Rattle.table.specs.declared.Pair.{Pair}
 use Rattle.table.specs.declared.Row.{Row}
-use Rattle.lines.specs.Words.{all, any, spelled, Kind, itself, field, decimal, octal, hollerith, fieldOrDecimal, fieldOrOctal, name, definition, symbol, isKind, pairOf, absentPair, givesName, nameNumber, lastByte}
-use Rattle.lines.specs.Forms.{Form, testForms, operationForms, areKinds, fits, noForm, formOf, nameIn, operandAt, pairsOf, rowIn}
+use Rattle.lines.specs.Words.{all, any, spelled, Kind, itself, field, decimal, octal, hollerith, fieldOrDecimal, fieldOrOctal}
+use Rattle.lines.specs.Words.{name, definition, symbol, isKind, pairOf, absentPair, givesName, nameNumber, lastByte}
+use Rattle.lines.specs.Forms.{Form, testForms, operationForms, areKinds, fits, noForm, formOf, nameIn, operandAt, pairsOf}
+use Rattle.lines.specs.Forms.{rowIn}
 use Rattle.lines.specs.Reading.{front, split}
 use Rattle.lines.specs.Walking.{bytesOf, kindNumber, kindOf, kindsOf, padded, formsOf, formPlace, isPart, partsFrom}
 use Rattle.lines.proofs.Lists.{true-false, all-first, all-others}

@@ -12,8 +12,10 @@ use Rattle.word.proofs.Tests.{by-test, by-eqb, and-true}
 use Rattle.lines.specs.Words.{same, isEmpty, all, isDigit, isLetter, isName, isCharacter}
 use Rattle.lines.specs.Grammar.{Token, word, paren, isWord, joined, writtenToken, Piece, writtenPieces, spaced}
 use Rattle.lines.specs.Reading.{front, behind, isBlank, isInside, split, Found, closed, tokenAt, before, onward, piecesIn}
-use Rattle.lines.proofs.Lists.{none-some, true-false, some-same, and-both, same-eq, same-refl, all-first, all-others, all-append, all-weaken}
-use Rattle.lines.proofs.Lists.{stops, front-append, behind-append, front-behind, front-all, noComma, split-joined, joined-split}
+use Rattle.lines.proofs.Lists.{none-some, true-false, some-same, and-both, same-eq, same-refl, all-first, all-others}
+use Rattle.lines.proofs.Lists.{all-append, all-weaken}
+use Rattle.lines.proofs.Lists.{stops, front-append, behind-append, front-behind, front-all, noComma, split-joined}
+use Rattle.lines.proofs.Lists.{joined-split}
 
 -- a name byte lies between 48 and 90
 pub record Named (x : ℕ) : Type 0 where

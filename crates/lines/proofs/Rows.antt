@@ -18,9 +18,12 @@ use Rattle.table.specs.Reference.{isReference}
 use Rattle.table.specs.Operands.{isAbsent, isLiteral, isRef, isZero, takes, shape, shapes, testShape}
 use Rattle.table.specs.Table.{largestName, fitPairs, shapeOf}
 use Rattle.table.specs.Table as check
-use Rattle.lines.specs.Words.{same, isEmpty, all, any, isDigit, isName, nameNumber, literal, characterCode, startsWith, isField, isDecimal, isOctal, isHollerith, isFieldName, isDefinition}
-use Rattle.lines.specs.Words.{Kind, itself, field, decimal, octal, hollerith, fieldOrDecimal, fieldOrOctal, name, definition, symbol, isKind, absentPair, literalPair, fieldPair, pairOf, givesName, isSymbol, lastByte}
-use Rattle.lines.specs.Forms.{Form, testForms, operationForms, areKinds, fits, noForm, formOf, nameIn, symbolsIn, operandAt, pairsOf, rowIn}
+use Rattle.lines.specs.Words.{same, isEmpty, all, any, isDigit, isName, nameNumber, literal, characterCode, startsWith}
+use Rattle.lines.specs.Words.{isField, isDecimal, isOctal, isHollerith, isFieldName, isDefinition}
+use Rattle.lines.specs.Words.{Kind, itself, field, decimal, octal, hollerith, fieldOrDecimal, fieldOrOctal, name, definition}
+use Rattle.lines.specs.Words.{symbol, isKind, absentPair, literalPair, fieldPair, pairOf, givesName, isSymbol, lastByte}
+use Rattle.lines.specs.Forms.{Form, testForms, operationForms, areKinds, fits, noForm, formOf, nameIn, symbolsIn, operandAt}
+use Rattle.lines.specs.Forms.{pairsOf, rowIn}
 use Rattle.lines.proofs.Lists.{true-false, and-both, all-first, all-others}
 use Rattle.lines.proofs.Operands.{field-reference, decimal-small, octal-small, hollerith-small, name-digit}
 

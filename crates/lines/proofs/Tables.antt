@@ -22,10 +22,12 @@ use Rattle.lines.specs.Words.{same, isEmpty, all, any, isDone, isLabel, 
 use Rattle.lines.specs.Forms.{Form, testForms, operationForms, expanded, fits, formOf, isArgument, symbolsIn, rowIn}
 use Rattle.lines.specs.Forms as form
 use Rattle.lines.specs.Grammar as grammar
-use Rattle.lines.specs.Program.{size, rowOf, chainedRows, testRow, operationRow, goToRow, lineRow, rowsFrom, numbersOf, flat, tableOf, rowCount, calledIn, used, declares}
+use Rattle.lines.specs.Program.{size, rowOf, chainedRows, testRow, operationRow, goToRow, lineRow, rowsFrom, numbersOf, flat}
+use Rattle.lines.specs.Program.{tableOf, rowCount, calledIn, used, declares}
 use Rattle.lines.proofs.Lists.{true-false, and-both, all-first, all-others, all-weaken}
 use Rattle.lines.proofs.Lines.{Parts, parts}
-use Rattle.lines.proofs.Rows.{formChecked, tests-checked, operations-checked, Taken, form-taken, rowTaken, Checked, row-checked}
+use Rattle.lines.proofs.Rows.{formChecked, tests-checked, operations-checked, Taken, form-taken, rowTaken, Checked}
+use Rattle.lines.proofs.Rows.{row-checked}
 
 all-none : {A : Type 0} (p : A → Bool) → all p [] ≡ true
 unfolding all

@@ -10,7 +10,8 @@ use lib.Dec.{eqb}
 use lib.ListN.{length, replicate}
 use Rattle.word.proofs.Tests.{by-test, by-eqb, and-true}
 use Rattle.lines.specs.Words.{isEmpty, all, isName, isCharacter}
-use Rattle.lines.specs.Grammar.{Line, Token, word, paren, tokens, joined, writtenToken, Piece, writtenPieces, Typed, pieces, writtenLine, isTyped, writtenText}
+use Rattle.lines.specs.Grammar.{Line, Token, word, paren, tokens, joined, writtenToken, Piece, writtenPieces, Typed, pieces}
+use Rattle.lines.specs.Grammar.{writtenLine, isTyped, writtenText}
 use Rattle.lines.specs.Reading.{piecesIn, typedOf, readLine, onto, cut, linesOf, readLines}
 use Rattle.lines.proofs.Lists.{none-some, true-false, some-same, and-both, all-first, all-others, all-append, all-weaken}
 use Rattle.lines.proofs.Pieces.{named, character-low, isProper, properPiece}

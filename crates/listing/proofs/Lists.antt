@@ -67,7 +67,17 @@ module _ (w : Bool) (s n : ℕ) (m : List ℕ) (all : List Block) where
     counting-next e f =
         let is = ap length (met .is) ∙ length-listed _ (s + i) (size ((getD m i 0 - 1) / 2)) (met .others) in
         rw (e, f)
-        (record { rest = met .others; passed = met .passed; counts = omega (arith, so-far .counts, is); few = omega (arith, so-far .few, byte-most (wanted w (getD m i 0)), size-pos ((getD m i 0 - 1) / 2)) })
+        (record {
+          rest = met .others;
+          passed = met .passed;
+          counts = omega (arith, so-far .counts, is);
+          few = omega (
+            arith,
+            so-far .few,
+            byte-most (wanted w (getD m i 0)),
+            size-pos ((getD m i 0 - 1) / 2),
+          );
+        })
 
   pub counting-all : {i c : ℕ} → Counting i c → n ≤ i → c ≡ length all
   counting-all {i} so-far h = omega (arith, so-far .counts, ap length (passed-all w s n m i (so-far .passed) h))
@@ -108,7 +118,8 @@ module _ (w : Bool) (s n : ℕ) (m : List ℕ) (all : List Block) where
       room-for : c + length (pairIf t (s + i) z) ≤ length list₀
       room-for =
           let before = so-far .done ++ listed t (s + i) z [] in
-          let sum = ap length (ap numbersOf (sym whole-list) ∙ numbers-append before (found .others)) ∙ length-append (numbersOf before) (numbersOf (found .others)) in
+          let sum = ap length (ap numbersOf (sym whole-list) ∙ numbers-append before (found .others))
+          ∙ length-append (numbersOf before) (numbersOf (found .others)) in
           let first = ap length now-done ∙ length-append (numbersOf (so-far .done)) (pairIf t (s + i) z) in
           omega (arith, so-far .far, sum, first)
 

@@ -11,7 +11,8 @@ use Rattle.block.specs.Blocks.{size, Block, Tree, Free, Live, Halves, liveIn, f
 use Rattle.block.specs.SetUp.{top, words}
 use Rattle.block.specs.Map.{freeTag, liveTag, written, canonical, trees, keeps, live, free}
 use Rattle.block.proofs.Map.{canonical-halves}
-use Rattle.buddy.proofs.Rest.{Made, Rest, none, more, After, Reached, first-byte, halves-bytes, halves-words, after, second-half, goes-on, none-left, starts}
+use Rattle.buddy.proofs.Rest.{Made, Rest, none, more, After, Reached, first-byte, halves-bytes, halves-words, after, second-half}
+use Rattle.buddy.proofs.Rest.{goes-on, none-left, starts}
 use Rattle.listing.specs.Listing.{blocks, wanted}
 
 -- the blocks asked for in a tree: the live ones, or the free ones
@@ -38,7 +39,8 @@ data Next (w : Bool) (at left : ℕ) (m : List ℕ) (bs : List Block) : Type 0 w
   block : (u : Bool) (k : ℕ) → k ≤ 7 → getD m 0 0 ≡ tag u k → (others : List Block) → bs ≡ listed (cond u w (not w)) at (size k) others
       → After (heldMade w) 0 (size k) at left m others → Next w at left m bs
 
-next-same : {w : Bool} {at left left' : ℕ} {m m' : List ℕ} {bs bs' : List Block} → left ≡ left' → m ≡ m' → bs ≡ bs' → Next w at left m bs → Next w at left' m' bs'
+next-same : {w : Bool} {at left left' : ℕ} {m m' : List ℕ} {bs bs' : List Block} → left ≡ left' → m ≡ m' → bs ≡ bs' → Next w at left m bs
+    → Next w at left' m' bs'
 next-same e f g n = rw (← e, ← f, ← g) n
 
 free-listed : (w : Bool) (k at : ℕ) (bs : List Block) → held w k at Free ++ bs ≡ listed (not w) at (size k) bs
@@ -57,7 +59,8 @@ halves-held true k at x y = refl
 halves-held false k at x y = refl
 
 -- the first block of a tree
-first-block : {w : Bool} {left : ℕ} {m : List ℕ} {bs : List Block} (k at : ℕ) (t : Tree) → k ≤ 7 → canonical k t ≡ true → Rest (heldMade w) 0 (at + size k) left m bs
+first-block : {w : Bool} {left : ℕ} {m : List ℕ} {bs : List Block} (k at : ℕ) (t : Tree) → k ≤ 7 → canonical k t ≡ true
+    → Rest (heldMade w) 0 (at + size k) left m bs
     → Next w at (size k + left) (written k t ++ m) (held w k at t ++ bs)
 first-block {w} {bs = bs} k at Free h whole rest = block false k h (unfold written tag in refl) bs (free-listed w k at bs) (after k Free rest)
 first-block {w} {bs = bs} k at Live h whole rest = block true k h (unfold written tag in refl) bs (live-listed w k at bs) (after k Live rest)

@@ -24,7 +24,8 @@ use Rattle.machine.specs.State.{onCore, withMap}
 use Rattle.machine.specs.Storage.{noStore}
 use Rattle.machine.specs.Locate.{world, liveBlocks, contents, locate}
 use Rattle.machine.specs.Effects.{Effects, reporting, assigned, storeTo, engineAfter}
-use Rattle.machine.specs.Operations.{Given, Wanted, firstRun, lowestRun, delivering, andStoring, getWants, get, liesIn, free, duplicateWants, duplicate}
+use Rattle.machine.specs.Operations.{Given, Wanted, firstRun, lowestRun, delivering, andStoring, getWants, get, liesIn, free}
+use Rattle.machine.specs.Operations.{duplicateWants, duplicate}
 use Rattle.machine.proofs.Checks.{need-passed, bind-passed, passed-same, clash}
 use Rattle.machine.proofs.Facts.{CoreFacts, Facts, assigned-facts}
 use Rattle.machine.proofs.Located.{Located, StoreFacts, nowhere, located, store-facts}
@@ -93,8 +94,10 @@ module _ (b : ℕ) (g : Given) (h : Facts b (g .engine)) where
   -- what is delivered at the lowest run, and perhaps a second store
   module _ (w : Wanted) (j : ℕ) (fits : j ≤ top (g .engine .state .core .setup .d))
       (isSize : w .words ≡ size j)
-      (isCopy : (w .copied ≡ 0) ⊎ ((not (eqb (sizeAt (w .copied) (liveBlocks (g .engine))) 0) ≡ true) × (sizeAt (w .copied) (liveBlocks (g .engine)) ≡ w .words)))
-      (l : Located b (liveBlocks (g .engine)) (w .a)) (address : ℕ) (k : lowestRun (g .engine .state .core .setup) (g .engine .state .map) (w .words) ≡ passed address) where
+      (isCopy : (w .copied ≡ 0) ⊎ ((not (eqb (sizeAt (w .copied) (liveBlocks (g .engine))) 0) ≡ true)
+      × (sizeAt (w .copied) (liveBlocks (g .engine)) ≡ w .words)))
+      (l : Located b (liveBlocks (g .engine)) (w .a)) (address : ℕ) (k : lowestRun (g .engine .state .core .setup) (g .engine .state .map) (w .words)
+      ≡ passed address) where
     run-there : List·Memᴰ address (runs (size j) (g .engine .state .core .setup) (liveBlocks (g .engine)))
     unfolding lowestRun
     run-there = one-of-runs _ address (rw isSize at k)
@@ -157,7 +160,8 @@ module _ (b : ℕ) (g : Given) (h : Facts b (g .engine)) where
         (assigned-setup b (w .a) address (g .engine .state .core)) (nowhere refl)
 
     -- the same with a second store, to where a reference leads after the delivery
-    storing-done : (a2 : Location) (v : ℕ) → locate b (world (engineAfter b (delivering b w address (g .engine .state)) (g .engine))) (g .row .third) ≡ passed a2
+    storing-done : (a2 : Location) (v : ℕ) → locate b (world (engineAfter b (delivering b w address (g .engine .state)) (g .engine))) (g .row .third)
+        ≡ passed a2
         → Done b (g .engine) (andStoring b a2 v (delivering b w address (g .engine .state)))
     unfolding effects andStoring delivering reporting withMap onCore engineAfter
     storing-done a2 v k₂ =
@@ -180,10 +184,12 @@ module _ (b : ℕ) (g : Given) (h : Facts b (g .engine)) where
       let fits : j ≤ top (g .engine .state .core .setup .d) = level-le _ _ in
       let isSize : w .words ≡ size j = ap (λ w. w .words) (sym same) in
       let isCopy : w .copied ≡ 0 = ap (λ w. w .copied) (sym same) in
-      let l : Located b (liveBlocks (g .engine)) (w .a) = subst (λ w. Located b (liveBlocks (g .engine)) (w .a)) same (located b (g .engine) (h .core) (g .row .first) a l₁) in
+      let l : Located b (liveBlocks (g .engine)) (w .a) = subst (λ w. Located b (liveBlocks (g .engine)) (w .a)) same
+      (located b (g .engine) (h .core) (g .row .first) a l₁) in
       elim (eqb (g .row .third .form) 0) as (λ t. cond t (passed (delivering b w address (g .engine .state)))
       (locate b (world (engineAfter b (delivering b w address (g .engine .state)) (g .engine))) (g .row .third)
-      >>= λ a2. passed (andStoring b a2 (contents b (world (g .engine)) (w .a)) (delivering b w address (g .engine .state)))) ≡ passed x → Done b (g .engine) x) [
+      >>= λ a2. passed (andStoring b a2 (contents b (world (g .engine)) (w .a)) (delivering b w address (g .engine .state)))) ≡ passed x
+      → Done b (g .engine) x) [
         | true ↦ λ m. subst (Done b (g .engine)) (passed-same m) (delivering-done w j fits isSize (inl isCopy) l address k₃)
         | false ↦ λ m.
             let (a2, m₁, m₂) = bind-passed _ _ m in
@@ -203,7 +209,8 @@ module _ (b : ℕ) (g : Given) (h : Facts b (g .engine)) where
       let (isLive, l₆) = need-passed _ _ _ l₄ in
       let same = passed-same l₆ in
       let (j, fits, isSize) = sizes (c .value) isLive in
-      let l : Located b (liveBlocks (g .engine)) (w .a) = subst (λ w. Located b (liveBlocks (g .engine)) (w .a)) same (located b (g .engine) (h .core) (g .row .first) a l₁) in
+      let l : Located b (liveBlocks (g .engine)) (w .a) = subst (λ w. Located b (liveBlocks (g .engine)) (w .a)) same
+      (located b (g .engine) (h .core) (g .row .first) a l₁) in
       subst (Done b (g .engine)) (passed-same k₄)
       (delivering-done w j fits (ap (λ w. w .words) (sym same) ∙ isSize)
       (inr (rw (← (ap (λ w. w .copied) same)) isLive, rw (← (ap (λ w. w .copied) same)) (ap (λ w. w .words) same))) l address k₃)

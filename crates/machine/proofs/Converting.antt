@@ -136,7 +136,8 @@ module _ {b code : ℕ} {l : Lent} {e : Engine} {a : Location} {x : Value} (c : 
       let facts = sound-engine b l e (c .isSound) in
       let is = stepped c f by-code later made in
       record {
-        isDone = ap (λ (o : Outcome). number (toldAnswer (o .stepped .answer))) is ∙ carried-number (isFinished (effects c f by-code later made .state .core .place));
+        isDone = ap (λ (o : Outcome). number (toldAnswer (o .stepped .answer))) is
+            ∙ carried-number (isFinished (effects c f by-code later made .state .core .place));
         holds = ap (λ (o : Outcome). contents b (world (engineOf o)) a) is
             ∙ stored-there b e facts v small a (located b e (facts .core) (rowHere l e .first) a (c .located)) whole (given l e .engine .state) refl refl;
       }

@@ -15,11 +15,14 @@ use Rattle.machine.specs.declared.Place.{Place}
 use Rattle.machine.specs.declared.Location.{Location}
 use Rattle.machine.specs.declared.Location.the-variants.{Bug, Field}
 use Rattle.machine.specs.Answer.{Checked, passed, _>>=_}
-use Rattle.machine.specs.State.{withBug, withTaken, withWritten, withContents, withDefinition, withSaved, withCalls, withSetUp, movedTo, onCore, withMap, testsOf}
+use Rattle.machine.specs.State.{withBug, withTaken, withWritten, withContents, withDefinition, withSaved, withCalls}
+use Rattle.machine.specs.State.{withSetUp, movedTo, onCore, withMap, testsOf}
 use Rattle.machine.specs.Sound.{Lent, Engine}
 use Rattle.machine.specs.Locate.{world, Value, locate, contents}
 use Rattle.machine.specs.Effects.{Effects, quietly, reporting, assigned, storing, engineAfter}
-use Rattle.machine.specs.Operations.{Given, Meaning, operations, operationOf, makes, Wanted, setUp, computing, interchange, andStoring, delivering, get, free, duplicate, input, print, define, saveContents, restoreContents, saveDefinition, restoreDefinition, do-line, meaning}
+use Rattle.machine.specs.Operations.{Given, Meaning, operations, operationOf, makes, Wanted, setUp, computing, interchange}
+use Rattle.machine.specs.Operations.{andStoring, delivering, get, free, duplicate, input, print, define, saveContents}
+use Rattle.machine.specs.Operations.{restoreContents, saveDefinition, restoreDefinition, do-line, meaning}
 use Rattle.machine.specs.Step.{nextLine, goingTo, testsStep, given, operationStep, return, exitStep, plan}
 use Rattle.machine.proofs.Checks.{need-passed, then-passed, bind-passed, passed-same}
 use Rattle.machine.proofs.Codes.{ownFrom, Each, end, _⨾_, at-code}
@@ -41,7 +44,8 @@ unfolding assigned withBug
 assigned-written b (Bug x) v c = refl
 assigned-written b (Field address left right) v c = refl
 
-module _ (b : ℕ) (g : Given) (t : g .engine .state .core .taken ≤ length (g .lent .input)) (w : g .engine .state .core .written ≤ length (g .lent .output)) where
+module _ (b : ℕ) (g : Given) (t : g .engine .state .core .taken ≤ length (g .lent .input))
+    (w : g .engine .state .core .written ≤ length (g .lent .output)) where
   abbrev c : Core
   c = g .engine .state .core
 

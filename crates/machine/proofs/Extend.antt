@@ -93,7 +93,8 @@ zeros-after : (n m : ℕ) (ws : List ℕ) → n + m ≤ length ws → take (n + 
 unfolding placed
 zeros-after n m ws l =
     let long : length (take n ws ++ replicate {A = ℕ} m 0) ≡ n + m = rw (length-append, length-replicate, length-take-le n ws (omega arith)) in
-    rw (← (append-assoc (take n ws) (replicate {A = ℕ} m 0) (drop (n + length (replicate {A = ℕ} m 0)) ws))) (take-at (take n ws ++ replicate {A = ℕ} m 0) _ (n + m) long)
+    rw (← (append-assoc (take n ws) (replicate {A = ℕ} m 0) (drop (n + length (replicate {A = ℕ} m 0)) ws)))
+    (take-at (take n ws ++ replicate {A = ℕ} m 0) _ (n + m) long)
 
 -- the numbers of a sound engine that is set up fit
 pub set-up-fits : (b : ℕ) (e : Engine) → Facts b e → isSetUp (e .state .core) ≡ true → fitting (length (e .storage)) (e .state .core .setup) ≡ true

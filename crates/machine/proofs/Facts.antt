@@ -23,8 +23,10 @@ use Rattle.machine.specs.declared.Core.{Core}
 use Rattle.machine.specs.declared.State.{State}
 use Rattle.machine.specs.declared.Location.{Location}
 use Rattle.machine.specs.declared.Location.the-variants.{Bug, Field}
-use Rattle.machine.specs.State.{movedTo, withBug, withDefinition, withContents, withSaved, withCalls, withSetUp, withTaken, withWritten}
-use Rattle.machine.specs.Sound.{Engine, every, isPlace, isDefinition, soundPlace, soundStack, soundStacks, soundCore, soundStorage, soundEngine}
+use Rattle.machine.specs.State.{movedTo, withBug, withDefinition, withContents, withSaved, withCalls, withSetUp, withTaken}
+use Rattle.machine.specs.State.{withWritten}
+use Rattle.machine.specs.Sound.{Engine, every, isPlace, isDefinition, soundPlace, soundStack, soundStacks, soundCore}
+use Rattle.machine.specs.Sound.{soundStorage, soundEngine}
 use Rattle.machine.specs.Effects.{assigned}
 use Rattle.machine.proofs.Checks.{and-true}
 use Rattle.machine.proofs.Every.{below, every-set, every-push, every-fewer, every-at}

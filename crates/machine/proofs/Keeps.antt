@@ -144,7 +144,8 @@ module _ (b : ℕ) (e : Engine) (h : Facts b e) (x : Effects) where
     copied-long ws long =
         let lies = fitting-facts (length (e .storage)) u delivery-fits .lies in
         let (first, last) = delivery-lies in
-        elim (eqb (r .copied) 0) as (λ t. length (cond t ws (placed (r .delivered - u .s1) (take (r .size) (drop (r .copied - u .s1) ws)) ws)) ≡ length (e .storage))
+        elim (eqb (r .copied) 0) as (λ t. length (cond t ws (placed (r .delivered - u .s1) (take (r .size) (drop (r .copied - u .s1) ws)) ws))
+        ≡ length (e .storage))
         [ true ↦ long | false ↦ length-placed _ _ ws (simp length-take (omega arith)) ∙ long ]
 
     copied-values : (ws : List ℕ) → every (below (2 ^ b)) (take (words u) ws) ≡ true
@@ -153,11 +154,13 @@ module _ (b : ℕ) (e : Engine) (h : Facts b e) (x : Effects) where
     copied-values ws v = go copy-lies
       where
         go : (r .copied ≡ 0) ⊎ ((u .s1 ≤ r .copied) × (r .copied + r .size ≤ u .s1 + words u))
-            → every (below (2 ^ b)) (take (words u) (cond (eqb (r .copied) 0) ws (placed (r .delivered - u .s1) (take (r .size) (drop (r .copied - u .s1) ws)) ws))) ≡ true
+            → every (below (2 ^ b)) (take (words u)
+            (cond (eqb (r .copied) 0) ws (placed (r .delivered - u .s1) (take (r .size) (drop (r .copied - u .s1) ws)) ws))) ≡ true
         go (inl z) = rw (eq-eqb _ 0 z) v
         go (inr c) =
             let (first, last) = c in
-            elim (eqb (r .copied) 0) as (λ t. every (below (2 ^ b)) (take (words u) (cond t ws (placed (r .delivered - u .s1) (take (r .size) (drop (r .copied - u .s1) ws)) ws))) ≡ true) [
+            elim (eqb (r .copied) 0) as (λ t. every (below (2 ^ b))
+            (take (words u) (cond t ws (placed (r .delivered - u .s1) (take (r .size) (drop (r .copied - u .s1) ws)) ws))) ≡ true) [
               | true ↦ v
               | false ↦ every-placed (below (2 ^ b)) (words u) _ _ ws v
                   (every-part (below (2 ^ b)) (words u) (r .copied - u .s1) (r .size) ws (omega arith) v)
@@ -196,7 +199,8 @@ module _ (b : ℕ) (e : Engine) (h : Facts b e) (x : Effects) where
   sets-up-storage : (u : SetUp) → SetsUp (e .storage) (e .state .map) u x → StorageFacts b (x .state) (storageAfter b x (e .storage))
   sets-up-storage u m =
       let lies = fitting-facts (length (e .storage)) u (m .fits) .lies in
-      let long : length (placed 0 (replicate (words u) 0) (e .storage)) ≡ length (e .storage) = length-placed 0 _ (e .storage) (rw length-replicate (omega arith)) in
+      let long : length (placed 0 (replicate (words u) 0) (e .storage)) ≡ length (e .storage) = length-placed 0 _ (e .storage)
+      (rw length-replicate (omega arith)) in
       rw (set-up-storage u m)
       (storage-facts-of b (x .state) _ u (m .setup) (rw (long, m .fits)) (rw (m .map) (fresh-section _ u (m .fits) _))
       (zeros-first (below (2 ^ b)) (words u) (e .storage) (lt-ltb _ _ (pow-pos b))))

@@ -115,5 +115,6 @@ pub store-facts : (b : ℕ) (live : List Block) (at : Location) (v : ℕ) → Lo
 unfolding Located storeTo noStore
 store-facts b live (Bug x) v l = nowhere refl
 store-facts b live (Field address left right) v l =
-    elim (eqb (width left right) 0) as (λ t. StoreFacts b live (cond t noStore (record { address = address; left = left; right = right; bits = kept left right v })))
+    elim (eqb (width left right) 0) as (λ t. StoreFacts b live
+    (cond t noStore (record { address = address; left = left; right = right; bits = kept left right v })))
     [ true ↦ nowhere refl | false ↦ inBlock (l .0) (sym (kept-kept left right v)) (l .1) ]

@@ -11,15 +11,18 @@ use Rattle.machine.specs.declared.State.{State}
 use Rattle.machine.specs.declared.Location.{Location}
 use Rattle.machine.specs.declared.Location.the-variants.{Bug, Field}
 use Rattle.machine.specs.Answer.{Checked, passed}
-use Rattle.machine.specs.State.{testsOf, undefined, movedTo, withBug, onCore, withTaken, withWritten, withDefinition, withContents, withSaved, withCalls}
+use Rattle.machine.specs.State.{testsOf, undefined, movedTo, withBug, onCore, withTaken, withWritten, withDefinition}
+use Rattle.machine.specs.State.{withContents, withSaved, withCalls}
 use Rattle.machine.specs.Storage.{noStore, noReport}
 use Rattle.machine.specs.Sound.{Engine, isDefinition, isPlace, soundPlace}
 use Rattle.machine.specs.Locate.{world, Value, liveBlocks, contents, definitionOf}
 use Rattle.machine.specs.Effects.{Effects, quietly, reporting, assigned, storing}
-use Rattle.machine.specs.Operations.{Given, computing, interchange, andStoring, input, print, define, theName, saveContents, restoreContents, saveDefinition, restoreDefinition, do-line}
+use Rattle.machine.specs.Operations.{Given, computing, interchange, andStoring, input, print, define, theName, saveContents}
+use Rattle.machine.specs.Operations.{restoreContents, saveDefinition, restoreDefinition, do-line}
 use Rattle.machine.proofs.Checks.{need-passed, bind-passed, passed-same}
 use Rattle.machine.proofs.Every.{below, every-getD}
-use Rattle.machine.proofs.Facts.{CoreFacts, Facts, push-facts, pop-facts, top-fact, moved-facts, assigned-facts, defined-facts, contents-facts, saved-facts, calls-facts, taken-facts, written-facts}
+use Rattle.machine.proofs.Facts.{CoreFacts, Facts, push-facts, pop-facts, top-fact, moved-facts, assigned-facts}
+use Rattle.machine.proofs.Facts.{defined-facts, contents-facts, saved-facts, calls-facts, taken-facts, written-facts}
 use Rattle.machine.proofs.Located.{Located, nowhere, located, contents-below, store-facts, undefined-fits}
 use Rattle.machine.proofs.Moves.{still, Done}
 

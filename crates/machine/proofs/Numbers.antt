@@ -10,7 +10,11 @@ use Rattle.word.specs.Word.{isWidth}
 use Rattle.word.specs.Told.{Told, tells, gives, refuses, number}
 use Rattle.block.specs.Extension.{extending}
 use Rattle.machine.specs.declared.Refusal.{Refusal}
-use Rattle.machine.specs.declared.Refusal.the-variants.{TableLength, BadRow, SetUpNumbers, InputByte, InputShort, NotADigit, DefinitionNumber, BlockSize, ZeroDivisor, CharacterCount, Unsound, BeforeSetUp, SecondSetUp, UndefinedField, NotABlock, OutsideBlock, NoRun, FieldFreed, StackFull, StackEmpty, OutputFull, SubtrahendGreater, NoWidth}
+use Rattle.machine.specs.declared.Refusal.the-variants.{TableLength, BadRow, SetUpNumbers, InputByte, InputShort, NotADigit}
+use Rattle.machine.specs.declared.Refusal.the-variants.{DefinitionNumber, BlockSize, ZeroDivisor, CharacterCount, Unsound}
+use Rattle.machine.specs.declared.Refusal.the-variants.{BeforeSetUp, SecondSetUp, UndefinedField, NotABlock, OutsideBlock}
+use Rattle.machine.specs.declared.Refusal.the-variants.{NoRun, FieldFreed, StackFull, StackEmpty, OutputFull}
+use Rattle.machine.specs.declared.Refusal.the-variants.{SubtrahendGreater, NoWidth}
 use Rattle.machine.specs.declared.Answer.{Answer}
 use Rattle.machine.specs.declared.Answer.the-variants.{Running, Finished, Refused}
 use Rattle.machine.specs.declared.Fresh.{Fresh}
@@ -20,7 +24,8 @@ use Rattle.machine.specs.Answer.{Checked, refused, passed, refusalNumber
 use Rattle.machine.specs.State.{isFinished, isSetUp, fresh, freshOf, toldFresh}
 use Rattle.machine.specs.Sound.{Lent, Engine, sound, soundEngine}
 use Rattle.machine.specs.Effects.{Effects}
-use Rattle.machine.specs.Step.{Outcome, RunOutcome, plan, unchanged, carriedOut, outcome, stepAt, step, planTold, stepTold, engineOf, ending, runFrom, run, runTold}
+use Rattle.machine.specs.Step.{Outcome, RunOutcome, plan, unchanged, carriedOut, outcome, stepAt, step, planTold, stepTold}
+use Rattle.machine.specs.Step.{engineOf, ending, runFrom, run, runTold}
 use Rattle.machine.specs.Extend.{notExtended, extendedBy, extendAt, extend, toldExtension, extendTold}
 
 -- the refusal of a number
@@ -125,7 +130,8 @@ pub fresh-told : (b : ℕ) → toldFresh (freshOf b .answer) ≡ cond (isWidth b
 unfolding freshOf toldFresh
 fresh-told b = by-width (isWidth b)
   where
-    by-width : (w : Bool) → toldFresh (cond {A = Fresh} w (record { state = fresh b; answer = freshly.Done }) (record { state = fresh 0; answer = freshly.NoWidth }) .answer)
+    by-width : (w : Bool) → toldFresh (cond {A = Fresh} w (record { state = fresh b; answer = freshly.Done })
+        (record { state = fresh 0; answer = freshly.NoWidth }) .answer)
         ≡ cond w (gives tt) (refuses 31)
     by-width true = refl
     by-width false = refl
@@ -142,7 +148,8 @@ extend-told last e =
     by-width : (w s u x : Bool)
         → toldExtension
         (cond w
-        (cond s (cond u (cond x (extendedBy last e) (notExtended extending-answers.LastAddress e)) (notExtended extending-answers.BeforeSetUp e)) (notExtended extending-answers.Unsound e))
+        (cond s (cond u (cond x (extendedBy last e) (notExtended extending-answers.LastAddress e)) (notExtended extending-answers.BeforeSetUp e))
+        (notExtended extending-answers.Unsound e))
         (notExtended extending-answers.NoWidth e)
         .extended .answer)
         ≡ cond w (cond s (cond u (cond x (gives tt) (refuses 32)) (refuses 12)) (refuses 11)) (refuses 31)

@@ -9,7 +9,8 @@ use mathlib.Core.Logic.{_⊎_, inl, inr}
 use mathlib.Core.Path.{_≡_, refl, sym, ap, _∙_}
 use borrow.Author.Tests.{lt-ltb, ltb-true, eq-eqb}
 use lib.Dec.{eqb}
-use lib.ListN.{length, getD, set, take, drop, length-append, length-take, length-drop, length-set, take-append-drop, List·getD-append}
+use lib.ListN.{length, getD, set, take, drop, length-append, length-take, length-drop, length-set, take-append-drop}
+use lib.ListN.{List·getD-append}
 use lib.Seq.{length-take-le, getD-append-add, getD-take, getD-drop}
 use lib.Pow.{pow-pos}
 use Rattle.word.specs.Field.{stored}
@@ -69,7 +70,8 @@ module _ (i : ℕ) (xs ws : List ℕ) (h : i + length xs ≤ length ws) where
 pub length-store : (b s1 : ℕ) (s : Store) (ws : List ℕ) → length (withStore b s1 s ws) ≡ length ws
 unfolding withStore
 length-store b s1 s ws =
-    elim (eqb (s .address) 0) as (λ t. length (cond t ws (set ws (s .address - s1) (stored b (s .left) (s .right) (wordAt s1 (s .address) ws) (s .bits)))) ≡ length ws)
+    elim (eqb (s .address) 0) as (λ t. length
+    (cond t ws (set ws (s .address - s1) (stored b (s .left) (s .right) (wordAt s1 (s .address) ws) (s .bits)))) ≡ length ws)
     [ true ↦ refl | false ↦ length-set ws (s .address - s1) _ ]
 
 -- a store keeps words below 2 ^ b
@@ -78,7 +80,8 @@ pub store-values : (b s1 n : ℕ) (live : List Block) (s : Store) (ws : List ℕ
 unfolding withStore wordAt
 store-values b s1 n live s ws (nowhere z) h = rw (eq-eqb _ 0 z) h
 store-values b s1 n live s ws (inBlock r k inside) h =
-    elim (eqb (s .address) 0) as (λ t. every (below (2 ^ b)) (take n (cond t ws (set ws (s .address - s1) (stored b (s .left) (s .right) (wordAt s1 (s .address) ws) (s .bits))))) ≡ true) [
+    elim (eqb (s .address) 0) as (λ t. every (below (2 ^ b))
+    (take n (cond t ws (set ws (s .address - s1) (stored b (s .left) (s .right) (wordAt s1 (s .address) ws) (s .bits))))) ≡ true) [
       | true ↦ h
       | false ↦ every-take-set (below (2 ^ b)) n ws (s .address - s1) _ h
           (λ p. lt-ltb _ _ (stored-lt b (s .left) (s .right) _ (s .bits) r

@@ -13,7 +13,8 @@ use Rattle.word.proofs.Tests.{and-true as and-parts}
 use Rattle.table.specs.declared.Row.{Row}
 use Rattle.table.specs.Row.{lengthFits, rows, rowAt, firstTest, firstOperation, goTo, done}
 use Rattle.table.specs.Operands.{shapes, takes, isLiteral}
-use Rattle.table.specs.Table.{chained, rowOrNone, namesRows, complete, isLine, shapeOf, isOperation, fitPairs, fits, shaped, wellFormedAs, usable}
+use Rattle.table.specs.Table.{chained, rowOrNone, namesRows, complete, isLine, shapeOf, isOperation, fitPairs, fits, shaped}
+use Rattle.table.specs.Table.{wellFormedAs, usable}
 use Rattle.machine.specs.declared.Place.{Place}
 use Rattle.machine.specs.State.{testsOf, operationAt, exitOf, theEnd, isFinished}
 use Rattle.machine.specs.Sound.{every, isRow, isPlace, soundPlace}

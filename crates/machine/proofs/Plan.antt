@@ -20,15 +20,19 @@ use Rattle.machine.specs.Sound.{Lent, Engine, isRow, isPlace, soundPlace
 use Rattle.machine.specs.Locate.{liveBlocks}
 use Rattle.machine.specs.Effects.{Effects, quietly}
 use Rattle.machine.specs.Operations.{Given, Meaning, operations, operationOf, makes, meaningOf, asked, meaning, setUp}
-use Rattle.machine.specs.Step.{nextLine, operationOrExit, goingTo, testsStep, inTurn, given, operationStep, return, exitStep, plan, setUpAt}
+use Rattle.machine.specs.Step.{nextLine, operationOrExit, goingTo, testsStep, inTurn, given, operationStep, return, exitStep}
+use Rattle.machine.specs.Step.{plan, setUpAt}
 use Rattle.machine.proofs.Checks.{need-passed, then-passed, need-alone, bind-passed, passed-same}
 use Rattle.machine.proofs.Facts.{CoreFacts, Facts, moved-facts, calls-facts, setup-facts, pop-facts, top-fact}
 use Rattle.machine.proofs.Live.{live-size}
 use Rattle.machine.proofs.Moves.{SetsUp, Done}
 use Rattle.machine.proofs.Codes.{ownFrom, Each, end, _⨾_, at-code}
-use Rattle.machine.proofs.Meanings.{silent, computing-done, interchange-done, input-done, print-done, define-done, saveContents-done, restoreContents-done, saveDefinition-done, restoreDefinition-done, do-line-done}
+use Rattle.machine.proofs.Meanings.{silent, computing-done, interchange-done, input-done, print-done, define-done}
+use Rattle.machine.proofs.Meanings.{saveContents-done, restoreContents-done, saveDefinition-done, restoreDefinition-done}
+use Rattle.machine.proofs.Meanings.{do-line-done}
 use Rattle.machine.proofs.Blocks.{free-done, get-done, duplicate-done}
-use Rattle.machine.proofs.Places.{RowOrNone, place-there, place-line, place-sound, end-sound, next-sound, operation-or-exit, tests-place, stack-sound, next-row, do-row, has-code, line-operation, line-goes}
+use Rattle.machine.proofs.Places.{RowOrNone, place-there, place-line, place-sound, end-sound, next-sound, operation-or-exit}
+use Rattle.machine.proofs.Places.{tests-place, stack-sound, next-row, do-row, has-code, line-operation, line-goes}
 
 -- what the plan of a step comes to
 pub data Planned (b : ℕ) (l : Lent) (e : Engine) (x : Effects) : Type 0 where
@@ -107,7 +111,8 @@ module _ (b : ℕ) (l : Lent) (e : Engine) (h : Facts b e) (t : lengthFits (l .t
         let there = place-sound _ (operation-or-exit _ n (line-operation b (l .table) n t u) line) in
         let next = next-sound _ (next-row b (l .table) n t 1 u) in
         subst (Done b e) (passed-same k₃)
-        (going-done _ (elim holds as (λ t. soundPlace (cond t (operationOrExit (firstOperation (rowAt (l .table) n)) n) (nextLine (rowAt (l .table) n .next))) ≡ true)
+        (going-done _ (elim holds as (λ t. soundPlace (cond t (operationOrExit (firstOperation (rowAt (l .table) n)) n)
+        (nextLine (rowAt (l .table) n .next))) ≡ true)
         [ true ↦ there | false ↦ next ]))
 
     -- DONE
@@ -214,7 +219,8 @@ unfolding plan
 planned b l e h f x k =
     let kind = e .state .core .place .kind in
     let (t, k₁) = need-passed _ _ _ k in
-    elim (eqb kind 0) as (λ s. eqb kind 0 ≡ s → cond s (testsStep b l e) (cond (eqb kind 1) (operationStep b l e) (exitStep b l e)) ≡ passed x → Planned b l e x) [
+    elim (eqb kind 0) as (λ s. eqb kind 0 ≡ s → cond s (testsStep b l e) (cond (eqb kind 1) (operationStep b l e) (exitStep b l e)) ≡ passed x
+    → Planned b l e x) [
       | true ↦ λ p m. moving (not-asked b l e h t f (λ q. absurd (omega (arith, eqb-true kind 0 p)))) (tests-done b l e h t f x m)
       | false ↦ λ p m.
           elim (eqb kind 1) as (λ s. eqb kind 1 ≡ s → cond s (operationStep b l e) (exitStep b l e) ≡ passed x → Planned b l e x) [

@@ -46,4 +46,5 @@ fresh-facts b ws = record { core = fresh-core b; storage = fresh-storage b ws }
 
 pub fresh-sound : (b : ℕ) (l : Lent) (ws : List ℕ) → sound b l (record { state = fresh b; storage = ws }) ≡ true
 unfolding sound fresh
-fresh-sound b l ws = and-true (and-true (facts-sound b (record { state = fresh b; storage = ws }) (fresh-facts b ws)) (le-leb 0 (length (l .input)) (omega arith))) (le-leb 0 (length (l .output)) (omega arith))
+fresh-sound b l ws = and-true (and-true (facts-sound b (record { state = fresh b; storage = ws }) (fresh-facts b ws))
+    (le-leb 0 (length (l .input)) (omega arith))) (le-leb 0 (length (l .output)) (omega arith))

@@ -17,16 +17,24 @@ use Rattle.table.specs.Row.{rowAt, goTo, done}
 use Rattle.machine.specs.declared.Answer.the-variants.{Running, Finished, Refused}
 use Rattle.machine.specs.declared.Location.{Location}
 use Rattle.machine.specs.declared.Refusal.{Refusal}
-use Rattle.machine.specs.declared.Refusal.the-variants.{TableLength, BadRow, SetUpNumbers, InputByte, InputShort, NotADigit, DefinitionNumber, BlockSize, ZeroDivisor, CharacterCount, Unsound, BeforeSetUp, SecondSetUp, UndefinedField, NotABlock, OutsideBlock, NoRun, FieldFreed, StackFull, StackEmpty, OutputFull, SubtrahendGreater, NoWidth}
+use Rattle.machine.specs.declared.Refusal.the-variants.{TableLength, BadRow, SetUpNumbers, InputByte, InputShort, NotADigit}
+use Rattle.machine.specs.declared.Refusal.the-variants.{DefinitionNumber, BlockSize, ZeroDivisor, CharacterCount, Unsound}
+use Rattle.machine.specs.declared.Refusal.the-variants.{BeforeSetUp, SecondSetUp, UndefinedField, NotABlock, OutsideBlock}
+use Rattle.machine.specs.declared.Refusal.the-variants.{NoRun, FieldFreed, StackFull, StackEmpty, OutputFull}
+use Rattle.machine.specs.declared.Refusal.the-variants.{SubtrahendGreater, NoWidth}
 use Rattle.machine.specs.Answer.{Checked, refused, passed, _>>=_, _>>_, need}
 use Rattle.machine.specs.Sound.{Lent, Engine, sound}
 use Rattle.machine.specs.State.{isFinished}
 use Rattle.machine.specs.Locate.{World, Value, linkBy, link, follow, locate, operand}
 use Rattle.machine.specs.Test.{settling, testing, satisfied}
 use Rattle.machine.specs.Effects.{Effects, quietly}
-use Rattle.machine.specs.Operations.{Given, Operation, getWants, duplicateWants, own, makes, orRefuse, setUp, define, free, interchange, computing, difference, quotient, input, print, saveContents, restoreContents, saveDefinition, restoreDefinition, do-line, operations, operationOf, meaningOf, meaning}
+use Rattle.machine.specs.Operations.{Given, Operation, getWants, duplicateWants, own, makes, orRefuse, setUp, define, free}
+use Rattle.machine.specs.Operations.{interchange, computing, difference, quotient, input, print, saveContents}
+use Rattle.machine.specs.Operations.{restoreContents, saveDefinition, restoreDefinition, do-line, operations, operationOf}
+use Rattle.machine.specs.Operations.{meaningOf, meaning}
 use Rattle.machine.proofs.Steps.{by-width}
-use Rattle.machine.specs.Step.{testsStep, inTurn, operationStep, return, exitStep, plan, unchanged, carriedOut, outcome, stepAt, step}
+use Rattle.machine.specs.Step.{testsStep, inTurn, operationStep, return, exitStep, plan, unchanged, carriedOut, outcome}
+use Rattle.machine.specs.Step.{stepAt, step}
 
 -- 17
 unfoldable pub isRun : Refusal → Bool
@@ -227,7 +235,8 @@ at-place : (i : ℕ) (os : List Operation) → Each i os → (n : ℕ) → Ready
 unfolding meaningOf
 at-place i [] end n = λ h k b g. fine
 at-place i (o ∷ os) (r ⨾ rs) zero = rw add-zero r
-at-place i (o ∷ os) (r ⨾ rs) (suc n) = subst (λ j. Ready j (getD os n (own (λ b g. passed (quietly (g .engine .state)))))) (suc-add i n ∙ sym (add-suc i n)) (at-place (suc i) os rs n)
+at-place i (o ∷ os) (r ⨾ rs) (suc n) = subst (λ j. Ready j (getD os n (own (λ b g. passed (quietly (g .engine .state)))))) (suc-add i n
+    ∙ sym (add-suc i n)) (at-place (suc i) os rs n)
 
 meaning-fine : (code b : ℕ) (g : Given) → (code ≡ 3 → ⊥) → (code ≡ 5 → ⊥) → Fine (meaning code b g)
 unfolding meaning operationOf
@@ -286,9 +295,11 @@ module _ (b : ℕ) (l : Lent) (e : Engine) where
   unfolding stepAt unchanged
   only-deliveries k not-one =
       by-test
-      (λ t. cond t (cond (isFinished (e .state .core .place)) (unchanged Finished l e) (outcome b (plan b l e) l e)) (unchanged (Refused Unsound) l e) .stepped .answer
+      (λ t. cond t (cond (isFinished (e .state .core .place)) (unchanged Finished l e) (outcome b (plan b l e) l e))
+      (unchanged (Refused Unsound) l e) .stepped .answer
       ≡ Refused NoRun → ⊥) (sound b l e)
-      (λ _. by-test (λ t. cond t (unchanged Finished l e) (outcome b (plan b l e) l e) .stepped .answer ≡ Refused NoRun → ⊥) (isFinished (e .state .core .place))
+      (λ _. by-test (λ t. cond t (unchanged Finished l e) (outcome b (plan b l e) l e) .stepped .answer ≡ Refused NoRun
+      → ⊥) (isFinished (e .state .core .place))
       (λ _ j. let z : _≡_ {A = ℕ} 0 1 = cc in omega arith) (λ _. not-run (plan b l e) (plan-fine not-one)))
       (λ _ j. let z : _≡_ {A = ℕ} 0 1 = cc in omega arith) k
 

@@ -98,12 +98,14 @@ link-made w f n p q is same = rw (is, same)
 
 -- the same by a definition that is read
 module _ (b : ℕ) (w : World) where
-  pub lying-as : Readable b w → (f : FieldName) {x : Definition} → x ≡ getD (w .definitions) (f .0) undefined → (n p : ℕ) → n ≡ sizeAt p (live (w .setup) (w .map))
+  pub lying-as : Readable b w → (f : FieldName) {x : Definition} → x ≡ getD (w .definitions) (f .0) undefined → (n p : ℕ)
+      → n ≡ sizeAt p (live (w .setup) (w .map))
       → Lying b (w .setup .s1) (w .storage) x n p
   lying-as h f same n p is = rw same (lying b w h f n p is)
 
   pub link-as : (f : FieldName) {x : Definition} → x ≡ getD (w .definitions) (f .0) undefined → (n p : ℕ) → n ≡ sizeAt p (live (w .setup) (w .map))
-      → told (standing (contentsOf b [] (w .setup .s1) (w .storage)) (linkBy x n p)) ≡ told (standing (contentsOf b [] (w .setup .s1) (w .storage)) (link w p f))
+      → told (standing (contentsOf b [] (w .setup .s1) (w .storage)) (linkBy x n p))
+      ≡ told (standing (contentsOf b [] (w .setup .s1) (w .storage)) (link w p f))
   link-as f same n p is = rw same (ap (λ (k : Checked Location). told (standing (contentsOf b [] (w .setup .s1) (w .storage)) k)) (link-made w f n p p is refl))
 
 -- no link reads a bug
@@ -218,7 +220,8 @@ module _ (b : ℕ) (w : World) (v : ℕ) where
             rw ends
 
         -- the last link
-        pub followed-last : left ≡ 6 → {t : Told Spot} → t ≡ told (standing (contents b w) (link w (spot .holds) f)) → t ≡ told (standing (contents b w) (leads b w v))
+        pub followed-last : left ≡ 6 → {t : Told Spot} → t ≡ told (standing (contents b w) (link w (spot .holds) f))
+            → t ≡ told (standing (contents b w) (leads b w v))
         unfolding lastNames follow
         followed-last one is =
             let last : so-far .count - 1 ≡ 0 = omega (arith, so-far .whole) in
@@ -247,7 +250,8 @@ pub no-field : (v : ℕ) → isReference v ≡ true → v < 64 → Following v 0
 no-field v h less = record { count = 0; whole = refl; low = reference-positive v h; high = less }
 
 -- a reference of one digit leads to its bug
-pub at-bug : (b : ℕ) (w : World) (v : ℕ) → isReference v ≡ true → v < 64 → {x : BugLetter} → (x ≡ referenceOf v .bug) × (x .0 < 26) → leads b w v ≡ passed (Bug x)
+pub at-bug : (b : ℕ) (w : World) (v : ℕ) → isReference v ≡ true → v < 64 → {x : BugLetter} → (x ≡ referenceOf v .bug) × (x .0 < 26)
+    → leads b w v ≡ passed (Bug x)
 unfolding follow lastNames followed-first no-field
 at-bug b w v h one is = followed-first b w v h (no-field v h one) is .same
 

@@ -41,7 +41,8 @@ still-reached b s1 ws ws′ (Bug x) same h = h
 still-reached b s1 ws ws′ (Field address left right) same h = (h .0, h .1, omega (arith, h .2))
 
 -- a store keeps the bugs below 2 ^ b
-pub bugs-below : (b : ℕ) (at : Location) (v : ℕ) (bugs : List ℕ) → every (λ x. ltb x (2 ^ b)) bugs ≡ true → every (λ x. ltb x (2 ^ b)) (bugsStored b at v bugs) ≡ true
+pub bugs-below : (b : ℕ) (at : Location) (v : ℕ) (bugs : List ℕ) → every (λ x. ltb x (2 ^ b)) bugs ≡ true
+    → every (λ x. ltb x (2 ^ b)) (bugsStored b at v bugs) ≡ true
 unfolding bugsStored
 bugs-below b (Bug x) v bugs h = every-set (λ x. ltb x (2 ^ b)) bugs (x .0) (v % 2 ^ b) h (cut-below b v)
 bugs-below b (Field address left right) v bugs h = h

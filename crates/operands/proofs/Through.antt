@@ -91,7 +91,8 @@ size-inserted a n p (y ∷ ys) =
     by-leb (λ t. sizeAt p (cond t (record { address = a; size = n } ∷ y ∷ ys) (y ∷ inserted start (record { address = a; size = n }) ys))
     ≡ cond (eqb a p) n (cond (eqb (y .address) p) (y .size) (sizeAt p ys))) a (y .address)
     (λ low. refl)
-    (λ high. by-eqb (λ t. cond t (y .size) (sizeAt p (inserted start (record { address = a; size = n }) ys)) ≡ cond (eqb a p) n (cond t (y .size) (sizeAt p ys)))
+    (λ high. by-eqb (λ t. cond t (y .size) (sizeAt p (inserted start (record { address = a; size = n }) ys))
+    ≡ cond (eqb a p) n (cond t (y .size) (sizeAt p ys)))
     (y .address) p
     (λ here. rw (ne-eqb a p (λ z. absurd (omega arith))))
     (λ other. size-inserted a n p ys))
@@ -113,7 +114,12 @@ module _ (b : ℕ) (w : World) (h : Readable b w) (address n : ℕ) (at : Locati
   pub size-delivered : (p : ℕ) → sizeAt p (live (w .setup) (deliveredMap (level (top (w .setup .d)) n) address (w .setup) (w .map)))
       ≡ cond (eqb address p) n (sizeAt p (live (w .setup) (w .map)))
   size-delivered p =
-      rw (level-is, delivered-live-map (length (w .storage)) (w .setup) (d .fits) (w .map) (h .kept) (d .place) address (d .low) (rw (d .isSize) at (d .isRun)), ← (d .isSize))
+      rw (
+        level-is,
+        delivered-live-map (length (w .storage)) (w .setup) (d .fits) (w .map) (h .kept) (d .place) address (d .low)
+            (rw (d .isSize) at (d .isRun)),
+        ← (d .isSize),
+      )
       (size-inserted address n p (live (w .setup) (w .map)))
 
   length-after : length (wordsStored b (w .setup .s1) at address (placed (address - w .setup .s1) (replicate n 0) (w .storage))) ≡ length (w .storage)
@@ -147,7 +153,8 @@ module _ (b : ℕ) (w : World) (h : Readable b w) (d : Delivery) (able : Deliver
 
   -- what stands at a place then
   pub through-contents : (place : Location) {v : ℕ}
-      → v ≡ contentsOf b (w .bugs) (w .setup .s1) (wordsStored b (w .setup .s1) (d .at) (d .address) (placed (d .address - w .setup .s1) (replicate (d .size) 0) (w .storage))) place
+      → v ≡ contentsOf b (w .bugs) (w .setup .s1) (wordsStored b (w .setup .s1) (d .at) (d .address)
+      (placed (d .address - w .setup .s1) (replicate (d .size) 0) (w .storage))) place
       → v ≡ contents b (through b d w) place
   unfolding through
   through-contents place is = is

@@ -34,12 +34,15 @@ packed-is x = go (x .defined) (x .word) (x .left) (x .right)
     go true word left right w l r = parts {n = (1 + word * 256 + left * 65536 + right * 16777216) % 256} (omega arith) (omega arith) (omega arith) (omega arith)
       where
         parts : {n : ℕ} → n ≡ 1 → {a b c : ℕ} → a ≡ word → b ≡ left → c ≡ right
-            → _≡_ {A = Definition} (record { defined = not (eqb n 0); word = a; left = b; right = c }) (record { defined = true; word = word; left = left; right = right })
+            → _≡_ {A = Definition} (record { defined = not (eqb n 0); word = a; left = b; right = c })
+            (record { defined = true; word = word; left = left; right = right })
         parts e f g h = rw (e, f, g, h)
-    go false word left right w l r = parts {n = (0 + word * 256 + left * 65536 + right * 16777216) % 256} (omega arith) (omega arith) (omega arith) (omega arith)
+    go false word left right w l r = parts {n = (0 + word * 256 + left * 65536 + right * 16777216) % 256} (omega arith) (omega arith) (omega arith)
+        (omega arith)
       where
         parts : {n : ℕ} → n ≡ 0 → {a b c : ℕ} → a ≡ word → b ≡ left → c ≡ right
-            → _≡_ {A = Definition} (record { defined = not (eqb n 0); word = a; left = b; right = c }) (record { defined = false; word = word; left = left; right = right })
+            → _≡_ {A = Definition} (record { defined = not (eqb n 0); word = a; left = b; right = c })
+            (record { defined = false; word = word; left = left; right = right })
         parts e f g h = rw (e, f, g, h)
 
 -- one of all
@@ -77,7 +80,8 @@ packed-next definitions i fields so-far less room x is = rw add-one (go definiti
     go [] i fs e l r x is = absurd (omega arith)
     go (d ∷ ds) i [] e l r x is = absurd (omega arith)
     go (d ∷ ds) zero (f ∷ fs) e l r x is = ap (λ (y : Definition). y ∷ []) is
-    go (d ∷ ds) (suc i) (f ∷ fs) e l r x is = ap₂ (λ (y : Definition) (ys : List Definition). y ∷ ys) (cons-same e .0) (go ds i fs (cons-same e .1) (omega arith) (omega arith) x is)
+    go (d ∷ ds) (suc i) (f ∷ fs) e l r x is = ap₂ (λ (y : Definition) (ys : List Definition). y ∷ ys) (cons-same e .0)
+        (go ds i fs (cons-same e .1) (omega arith) (omega arith) x is)
 
 pub packed-all : (definitions : List Definition) (i : ℕ) (fields : List ℕ) → PackedUpTo definitions i fields → length definitions ≤ i → length fields ≤ i
     → unpackedAll fields ≡ definitions

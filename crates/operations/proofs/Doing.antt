@@ -30,7 +30,8 @@ use Rattle.table.specs.declared.Row.{Row}
 use Rattle.machine.specs.declared.Location.{Location}
 use Rattle.machine.specs.declared.Location.the-variants.{Bug, Field}
 use Rattle.machine.specs.declared.Refusal.{Refusal}
-use Rattle.machine.specs.declared.Refusal.the-variants.{InputByte, InputShort, BlockSize, CharacterCount, NotABlock, NoRun, FieldFreed, StackFull, StackEmpty, OutputFull}
+use Rattle.machine.specs.declared.Refusal.the-variants.{InputByte, InputShort, BlockSize, CharacterCount, NotABlock, NoRun}
+use Rattle.machine.specs.declared.Refusal.the-variants.{FieldFreed, StackFull, StackEmpty, OutputFull}
 use Rattle.machine.specs.Answer.{Checked, refused, passed, told, _>>=_, _>>_, need}
 use Rattle.machine.specs.Locate.{World, Value, contents, widthOf, read, locate}
 use Rattle.machine.specs.Operations.{firstRun, lowestRun, liesIn, foundCharacters, bytesTaken}
@@ -51,7 +52,8 @@ use Rattle.operations.specs.declared.Computed.{Computed}
 use Rattle.operations.specs.declared.Computed.the-variants as computing
 use Rattle.operations.specs.declared.Fetched.{Fetched}
 use Rattle.operations.specs.declared.Fetched.the-variants as fetching
-use Rattle.operations.specs.Plans.{afterDelivery, delivering, getting, freeing, duplicating, taking, storing, printing, swapPlan, acting, valueBy, sizeOf, Computes, Acts}
+use Rattle.operations.specs.Plans.{afterDelivery, delivering, getting, freeing, duplicating, taking, storing, printing}
+use Rattle.operations.specs.Plans.{swapPlan, acting, valueBy, sizeOf, Computes, Acts}
 use Rattle.operations.specs.Answers.{toldComputed, toldFetched, fetched}
 use Rattle.operations.proofs.Answers.{made-is, not-made-is, run-is, no-run-is}
 
@@ -80,7 +82,8 @@ module _ (n : ℕ) {answer : Found} where
   found-run [] is at long = let never : _≡_ {A = ℕ} 0 1 = cc in absurd (omega arith)
   found-run (r ∷ rs) is {a} at long = let same : a ≡ r = cc in rw (same, long)
 
-  pub found-none : (rs : List ℕ) → toldFound answer ≡ firstTold rs → answer ≡ found.Nothing → toldFetched (fetching.Stopped NoRun) ≡ told (fetched n (firstRun rs))
+  pub found-none : (rs : List ℕ) → toldFound answer ≡ firstTold rs → answer ≡ found.Nothing → toldFetched (fetching.Stopped NoRun)
+      ≡ told (fetched n (firstRun rs))
   unfolding toldFound firstTold firstRun toldFetched fetched told
   found-none [] is at = refl
   found-none (r ∷ rs) is at = let never : _≡_ {A = ℕ} 0 1 = cc in absurd (omega arith)
@@ -137,7 +140,8 @@ module _ (b : ℕ) (w : World) (third : Pair) (a : Location) (n : ℕ) where
 
 -- a run that is found can be delivered
 pub run-deliverable : (b : ℕ) (w : World) (a : Location) → Readable b w → Reached b (w .setup .s1) (w .storage) a → (j : ℕ) → j ≤ top (w .setup .d)
-    → {answer : Fetched} → toldFetched answer ≡ told (fetched (size j) (lowestRun (w .setup) (w .map) (size j))) → {address m : ℕ} → answer ≡ fetching.Run address m
+    → {answer : Fetched} → toldFetched answer ≡ told (fetched (size j) (lowestRun (w .setup) (w .map) (size j))) → {address m : ℕ}
+    → answer ≡ fetching.Run address m
     → Deliverable b w address m a
 unfolding lowestRun
 run-deliverable b w a h reached j low is {address} {m} to =
@@ -198,7 +202,8 @@ tree-sized k at Free = each-nil
 tree-sized k at Live = each-cons (k, omega arith, refl) each-nil
 tree-sized zero at (Halves l r) = each-nil
 tree-sized (suc k) at (Halves l r) =
-    each-append (each-map (λ x s. (s .0, omega (arith, s .1), s .2)) (tree-sized k at l)) (each-map (λ x s. (s .0, omega (arith, s .1), s .2)) (tree-sized k (at + size k) r))
+    each-append (each-map (λ x s. (s .0, omega (arith, s .1), s .2)) (tree-sized k at l)) (each-map (λ x s. (s .0, omega (arith, s .1), s .2))
+    (tree-sized k (at + size k) r))
 
 forest-sized : (k at : ℕ) (ts : List Tree) → Each (Sized k) (gathered (liveIn k) k at ts)
 unfolding gathered
@@ -300,7 +305,8 @@ module _ (code b : ℕ) (w : World) (taken : ℕ) (input : List ℕ) (third : Pa
   unfolding acting
   act-get e = rw e
 
-  pub act-free : code ≡ 4 → {old : ℕ} → old ≡ contents b w a → acting code b w taken input third a x ≡ freeing old (sizeAt old (live (w .setup) (w .map))) a (x .value)
+  pub act-free : code ≡ 4 → {old : ℕ} → old ≡ contents b w a → acting code b w taken input third a x
+      ≡ freeing old (sizeAt old (live (w .setup) (w .map))) a (x .value)
   unfolding acting
   act-free e was = rw (e, was)
 

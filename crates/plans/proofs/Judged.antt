@@ -24,7 +24,8 @@ no-lowest : (b : ℕ) (table : List ℕ) (r count : ℕ) → 0 < r → lowestFro
 unfolding lowestFrom
 no-lowest b table r zero pos none i low high = absurd (omega arith)
 no-lowest b table r (suc count) pos none i low high =
-    elim (wellFormed b (rows table) r (rowAt table r)) as (λ t. wellFormed b (rows table) r (rowAt table r) ≡ t → cond t (lowestFrom b table (suc r) count) r ≡ 0 → Fine b table i) [
+    elim (wellFormed b (rows table) r (rowAt table r)) as (λ t. wellFormed b (rows table) r (rowAt table r) ≡ t
+    → cond t (lowestFrom b table (suc r) count) r ≡ 0 → Fine b table i) [
       | true ↦ λ fine later.
           elim (eqb i r) as (λ t. eqb i r ≡ t → Fine b table i) [
             | true ↦ λ e. subst (Fine b table) (sym (eqb-true i r e)) fine
@@ -47,7 +48,8 @@ fine-rows b table k r pos less =
 -- the kind of a row that is well-formed as some kind
 formed-kind : (kind b n r : ℕ) (row : Row) → wellFormedAs kind b n r row ≡ true → row .kind ≡ kind
 unfolding wellFormedAs
-formed-kind kind b n r row h = eqb-true (row .kind) kind (and-parts (eqb (row .kind) kind) _ (and-parts (eqb (row .kind) kind && chained n r (row .next)) _ h .0) .0)
+formed-kind kind b n r row h = eqb-true (row .kind) kind
+    (and-parts (eqb (row .kind) kind) _ (and-parts (eqb (row .kind) kind && chained n r (row .next)) _ h .0) .0)
 
 by-kind : (b n r : ℕ) (row : Row) → wellFormed b n r row ≡ true → wellFormedAs (row .kind) b n r row ≡ true
 unfolding wellFormed

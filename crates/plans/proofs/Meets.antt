@@ -22,16 +22,22 @@ use Rattle.machine.specs.Sound.{Lent, Engine}
 use Rattle.machine.specs.Locate.{World, Value, world, definitionOf, contents, locate, operand}
 use Rattle.machine.specs.Test.{satisfied}
 use Rattle.machine.specs.Effects.{Effects, quietly, engineAfter}
-use Rattle.machine.specs.Operations.{Given, Meaning, Operation, own, computes, makes, operations, operationOf, meaningOf, meaning, setUp, theName, define, get, getWants, lowestRun, free, duplicate, duplicateWants, interchange, computing, input, print, saveContents, restoreContents, saveDefinition, restoreDefinition, do-line, andStoring}
+use Rattle.machine.specs.Operations.{Given, Meaning, Operation, own, computes, makes, operations, operationOf, meaningOf, meaning}
+use Rattle.machine.specs.Operations.{setUp, theName, define, get, getWants, lowestRun, free, duplicate, duplicateWants, interchange}
+use Rattle.machine.specs.Operations.{computing, input, print, saveContents, restoreContents, saveDefinition, restoreDefinition}
+use Rattle.machine.specs.Operations.{do-line, andStoring}
 use Rattle.machine.specs.Operations as machine
 use Rattle.machine.specs.Step.{goingTo, testsStep, inTurn, given, operationStep, return, exitStep, plan, operationOrExit}
-use Rattle.machine.proofs.Checks.{need-bind, bind-bind, bind-same, cond-bind, need-when, need-same, need-yes, bind-yes, bind-no, clash}
+use Rattle.machine.proofs.Checks.{need-bind, bind-bind, bind-same, cond-bind, need-when, need-same, need-yes, bind-yes, bind-no}
+use Rattle.machine.proofs.Checks.{clash}
 use Rattle.machine.proofs.Facts.{Facts}
 use Rattle.machine.proofs.Located.{located}
 use Rattle.operations.specs.declared.Action.{Action}
 use Rattle.operations.specs.declared.Action.the-variants.{Store}
 use Rattle.operations.specs.Seen.{sight}
-use Rattle.operations.specs.Plans.{setUpPlan, defining, definePlan, sizeOf, afterDelivery, delivering, getting, freeing, duplicating, taking, valueOf, valueBy, Computes, storing, acting, twoPlan, swapPlan, printing, printPlan, contentsPlan, recordPlan, stackPlan, planOf}
+use Rattle.operations.specs.Plans.{setUpPlan, defining, definePlan, sizeOf, afterDelivery, delivering, getting, freeing}
+use Rattle.operations.specs.Plans.{duplicating, taking, valueOf, valueBy, Computes, storing, acting, twoPlan, swapPlan, printing}
+use Rattle.operations.specs.Plans.{printPlan, contentsPlan, recordPlan, stackPlan, planOf}
 use Rattle.operations.specs.Answers.{Plan}
 use Rattle.plans.specs.Steps.{testsPlan, orderedPlan, operationPlan, exitPlan, stepPlan}
 use Rattle.operations.specs.Effects.{effects}
@@ -228,7 +234,12 @@ module _ (b : ℕ) (row : Row) (l : Lent) (e : Engine) where
   computing-as h =
       let low = h .low in
       two-then
-      (λ a at x. rw (ne-eqb (row .code) 3 (λ z. absurd (omega arith)), ne-eqb (row .code) 4 (λ z. absurd (omega arith)), ne-eqb (row .code) 5 (λ z. absurd (omega arith)), ne-eqb (row .code) 24 (h .noInput))
+      (λ a at x. rw (
+        ne-eqb (row .code) 3 (λ z. absurd (omega arith)),
+        ne-eqb (row .code) 4 (λ z. absurd (omega arith)),
+        ne-eqb (row .code) 5 (λ z. absurd (omega arith)),
+        ne-eqb (row .code) 24 (h .noInput),
+      )
       (stored-as a _))
 
   -- at a code that is known
@@ -279,7 +290,13 @@ module _ (b : ℕ) (row : Row) (l : Lent) (e : Engine) where
         (λ noDuplicate. by-eqb (λ _. As plan-two (meaning (row .code))) (row .code) 24
         (λ is. at-code _ is refl (input-as is))
         (λ noInput.
-        let h : Computes (row .code) = record { low = past-five (row .code) low noDefine noGet noFree noDuplicate; high = high; noInterchange = noInterchange; noInput = noInput; noPrint = noPrint } in
+        let h : Computes (row .code) = record {
+          low = past-five (row .code) low noDefine noGet noFree noDuplicate;
+          high = high;
+          noInterchange = noInterchange;
+          noInput = noInput;
+          noPrint = noPrint;
+        } in
         at-code _ refl (computes-as (row .code) h) (computing-as h)))))
       where
         plan-two : Checked Action
@@ -289,7 +306,8 @@ module _ (b : ℕ) (row : Row) (l : Lent) (e : Engine) where
     planned-as : 2 ≤ row .code → row .code ≤ 36 → As (planOf b (sight l e) row) (meaning (row .code))
     unfolding planOf meaning meaningOf operationOf operations
     planned-as low high =
-        by-leb (λ t. As (cond t (stackPlan b (world e) (sight l e .counts) (e .state .core .contents .entries) row) others) (meaning (row .code))) 32 (row .code)
+        by-leb (λ t. As (cond t (stackPlan b (world e) (sight l e .counts) (e .state .core .contents .entries) row) others) (meaning (row .code))) 32
+        (row .code)
         (λ above. stack-as high above)
         (λ below. by-eqb (λ t. As (cond t (definePlan b (world e) row) (cond (eqb (row .code) 7) (swapPlan b (world e) row)
         (cond (eqb (row .code) 25) (printPlan b (world e) (e .state .core .written) (length (l .output)) row) plan-two))) (meaning (row .code))) (row .code) 2
@@ -297,7 +315,8 @@ module _ (b : ℕ) (row : Row) (l : Lent) (e : Engine) where
         (λ noDefine. by-eqb (λ t. As (cond t (swapPlan b (world e) row)
         (cond (eqb (row .code) 25) (printPlan b (world e) (e .state .core .written) (length (l .output)) row) plan-two)) (meaning (row .code))) (row .code) 7
         (λ is. at-code _ is refl swap-as)
-        (λ noInterchange. by-eqb (λ t. As (cond t (printPlan b (world e) (e .state .core .written) (length (l .output)) row) plan-two) (meaning (row .code))) (row .code) 25
+        (λ noInterchange. by-eqb (λ t. As (cond t (printPlan b (world e) (e .state .core .written) (length (l .output)) row) plan-two)
+        (meaning (row .code))) (row .code) 25
         (λ is. at-code _ is refl print-as)
         (λ noPrint. two-as low (omega arith) noDefine noInterchange noPrint))))
       where

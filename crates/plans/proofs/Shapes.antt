@@ -222,7 +222,12 @@ module _ (b : ℕ) (table : List ℕ) (r : ℕ) (u : usable 3 b table r ≡ true
   unfolding isShaped
   both-refer seven =
       let k : (isRefer (the-shape .first) && isRefer (the-shape .second)) ≡ true =
-      rw (le-ltb (the-row .code) 2 (omega arith), le-ltb 31 (the-row .code) (omega arith), ne-eqb (the-row .code) 2 (λ z. absurd (omega arith)), eq-eqb (the-row .code) 7 seven) at shaped-so in
+      rw (
+        le-ltb (the-row .code) 2 (omega arith),
+        le-ltb 31 (the-row .code) (omega arith),
+        ne-eqb (the-row .code) 2 (λ z. absurd (omega arith)),
+        eq-eqb (the-row .code) 7 seven,
+      ) at shaped-so in
       let (first, second) = and-parts (isRefer (the-shape .first)) _ k in
       (is-first first, refers b (rows table) (the-shape .second) (the-row .second) second (fitting .second))
 
@@ -230,7 +235,13 @@ module _ (b : ℕ) (table : List ℕ) (r : ℕ) (u : usable 3 b table r ≡ true
   unfolding isShaped
   both-taken print =
       let k : (isTaken (the-shape .first) && isTaken (the-shape .second)) ≡ true =
-      rw (le-ltb (the-row .code) 2 (omega arith), le-ltb 31 (the-row .code) (omega arith), ne-eqb (the-row .code) 2 (λ z. absurd (omega arith)), ne-eqb (the-row .code) 7 (λ z. absurd (omega arith)), eq-eqb (the-row .code) 25 print) at shaped-so in
+      rw (
+        le-ltb (the-row .code) 2 (omega arith),
+        le-ltb 31 (the-row .code) (omega arith),
+        ne-eqb (the-row .code) 2 (λ z. absurd (omega arith)),
+        ne-eqb (the-row .code) 7 (λ z. absurd (omega arith)),
+        eq-eqb (the-row .code) 25 print,
+      ) at shaped-so in
       let (first, second) = and-parts (isTaken (the-shape .first)) _ k in (
         taken b (rows table) (the-shape .first) (the-row .first) first (fitting .first),
         taken b (rows table) (the-shape .second) (the-row .second) second (fitting .second),
@@ -241,7 +252,13 @@ module _ (b : ℕ) (table : List ℕ) (r : ℕ) (u : usable 3 b table r ≡ true
   two-pairs acts =
       let low = acts .low in
       let k : isTwo the-shape ≡ true =
-      rw (le-ltb (the-row .code) 2 (omega arith), le-ltb 31 (the-row .code) (acts .high), ne-eqb (the-row .code) 2 (λ z. absurd (omega arith)), ne-eqb (the-row .code) 7 (acts .noInterchange), ne-eqb (the-row .code) 25 (acts .noPrint)) at shaped-so in
+      rw (
+        le-ltb (the-row .code) 2 (omega arith),
+        le-ltb 31 (the-row .code) (acts .high),
+        ne-eqb (the-row .code) 2 (λ z. absurd (omega arith)),
+        ne-eqb (the-row .code) 7 (acts .noInterchange),
+        ne-eqb (the-row .code) 25 (acts .noPrint),
+      ) at shaped-so in
       let (first, k₁) = and-parts (isRefer (the-shape .first)) _ k in
       let (second, third) = and-parts (isTaken (the-shape .second)) _ k₁ in
       record {
@@ -255,7 +272,12 @@ module _ (b : ℕ) (table : List ℕ) (r : ℕ) (u : usable 3 b table r ≡ true
   unfolding isShaped
   called-row do-code =
       let k : isLine (the-shape .first) ≡ true =
-      rw (le-ltb (the-row .code) 2 (omega arith), lt-ltb 31 (the-row .code) (omega arith), lt-ltb 33 (the-row .code) (omega arith), le-ltb (the-row .code) 36 (omega arith)) at shaped-so in
+      rw (
+        le-ltb (the-row .code) 2 (omega arith),
+        lt-ltb 31 (the-row .code) (omega arith),
+        lt-ltb 33 (the-row .code) (omega arith),
+        le-ltb (the-row .code) 36 (omega arith),
+      ) at shaped-so in
       names-row b (rows table) (the-shape .first) (the-row .first) k (fitting .first)
 
   pub operates : {row : Row} → row ≡ rowAt table r → (row .code ≡ 1 → ⊥) → Operates b row

@@ -25,7 +25,8 @@ use Rattle.operations.specs.declared.Counts.{Counts}
 use Rattle.word.specs.Told.{Told}
 use Rattle.operations.specs.declared.Planned.the-variants.{Stopped}
 use Rattle.operations.specs.Seen.{Sight}
-use Rattle.operations.specs.Plans.{setUpPlan, definePlan, swapPlan, printPlan, twoPlan, contentsPlan, recordPlan, stackPlan, planOf, Acts}
+use Rattle.operations.specs.Plans.{setUpPlan, definePlan, swapPlan, printPlan, twoPlan, contentsPlan, recordPlan, stackPlan, planOf}
+use Rattle.operations.specs.Plans.{Acts}
 use Rattle.operations.specs.Answers.{Plan, toldPlanned, planned}
 use Rattle.plans.specs.Steps.{goingTo, testsPlan, orderedPlan, operationPlan, exitPlan, stepPlan}
 use Rattle.operations.proofs.Answers.{stops}
@@ -90,7 +91,8 @@ module _ (b : ℕ) (s : Sight) (table : List ℕ) (place : Place) (u : usable 3 
   after = operationOrExit (rowAt table (place .row) .next) (place .line)
 
   -- what is planned in order, with the place after it
-  ordered : (k : Checked Action) → orderedPlan b s table (place .row) ≡ k → operationPlan b s table place ≡ (k >>= λ x. passed (record { to = after; action = x }))
+  ordered : (k : Checked Action) → orderedPlan b s table (place .row) ≡ k → operationPlan b s table place
+      ≡ (k >>= λ x. passed (record { to = after; action = x }))
   unfolding operationPlan
   ordered k is = need-yes _ _ _ u ∙ rw is
 
@@ -120,7 +122,8 @@ module _ (b : ℕ) (s : Sight) (table : List ℕ) (place : Place) (u : usable 3 
     unfolding orderedPlan
     by-code some = rw (← e, ne-eqb (row .code) 1 other) (need-yes _ _ _ (rw (ne-eqb _ _ some)))
 
-    pub operation-planned : (s .world .setup .d ≡ 0 → ⊥) → {to : Place} → to ≡ operationOrExit (row .next) (place .line) → {t : Told Plan} → t ≡ told (planned to (planOf b s row))
+    pub operation-planned : (s .world .setup .d ≡ 0 → ⊥) → {to : Place} → to ≡ operationOrExit (row .next) (place .line) → {t : Told Plan}
+        → t ≡ told (planned to (planOf b s row))
         → t ≡ told (operationPlan b s table place)
     operation-planned some at is = leads (ordered (planOf b s row) (by-code some)) (with-place _ _ (at ∙ rw e) is)
 

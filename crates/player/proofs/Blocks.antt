@@ -65,7 +65,8 @@ module _ (bytes : List ℕ) where
     fault-none w = rw (eq-eqb (length bytes) stateLength h, w)
 
 module _ (bytes list : List ℕ) where
-  pub counts-faulty : {fault : ℕ} → fault ≡ stateFault bytes → (fault ≡ 0 → ⊥) → _≡_ {A = ListLeft} (record { answer = fault; list = list }) (countsLeft bytes list)
+  pub counts-faulty : {fault : ℕ} → fault ≡ stateFault bytes → (fault ≡ 0 → ⊥)
+      → _≡_ {A = ListLeft} (record { answer = fault; list = list }) (countsLeft bytes list)
   unfolding countsLeft
   counts-faulty {fault} is h = rw (← is, ne-eqb fault 0 h)
 
@@ -99,7 +100,8 @@ module _ (bytes list : List ℕ) where
       blocks-unsound live unfit = rw (eq-eqb (stateFault bytes) 0 none, sym judged ∙ unfit)
 
       pub counts-leave : {live free : ℕ} → length list ≡ 2 → areBlocks u (lent bytes) ≡ true → live ≡ length (blocks true u (lent bytes))
-          → free ≡ length (blocks false u (lent bytes)) → _≡_ {A = ListLeft} (record { answer = 0; list = set (set list 0 live) 1 free }) (countsLeft bytes list)
+          → free ≡ length (blocks false u (lent bytes)) → _≡_ {A = ListLeft} (record { answer = 0; list = set (set list 0 live) 1 free })
+          (countsLeft bytes list)
       unfolding countsLeft ofBlocks
       counts-leave k fine l f =
           rw (two-set list _ _ k, eq-eqb (stateFault bytes) 0 none, eq-eqb (length list) 2 k, sym judged ∙ fine, l, f, su, lent-is)
@@ -113,7 +115,8 @@ module _ (bytes list : List ℕ) where
         pub blocks-unlisted : (length list ≡ 2 * count → ⊥) → _≡_ {A = ListLeft} (record { answer = wrongList; list = list }) (blocksLeft bytes live list)
         unfolding blocksLeft ofBlocks
         blocks-unlisted k =
-            let unlike : length list ≡ 2 * length (blocksAt (not (eqb live 0)) bytes) → ⊥ = λ e. k (e ∙ ap (λ (n : ℕ). 2 * n) (sym (counted ∙ ap length found))) in
+            let unlike : length list ≡ 2 * length (blocksAt (not (eqb live 0)) bytes)
+            → ⊥ = λ e. k (e ∙ ap (λ (n : ℕ). 2 * n) (sym (counted ∙ ap length found))) in
             rw (eq-eqb (stateFault bytes) 0 none, sym judged ∙ fine, ne-eqb (length list) (2 * length (blocksAt (not (eqb live 0)) bytes)) unlike)
 
         pub blocks-leave : {after : List ℕ} → length list ≡ 2 * count → after ≡ numbersOf (blocks asked u (lent bytes))

@@ -18,7 +18,8 @@ use Rattle.machine.specs.Sound.{Lent, sound}
 use Rattle.machine.specs.Step.{step, run}
 use Rattle.machine.proofs.Steps.{finished-stays}
 use Rattle.layout.specs.Layout.{stateLength, stateOf}
-use Rattle.player.specs.Calls.{code, isRefused, moved, bytesAfter, engineAt, numbersOfStore, numbersOfReport, afterStep, stepLeft, afterRun, runLeft}
+use Rattle.player.specs.Calls.{code, isRefused, moved, bytesAfter, engineAt, numbersOfStore, numbersOfReport, afterStep}
+use Rattle.player.specs.Calls.{stepLeft, afterRun, runLeft}
 use Rattle.player.proofs.Moving.{step-kept, run-kept}
 
 moved-refused : (finished : Bool) (r : Refusal) → moved finished (Refused r) 1 ≡ false
@@ -34,7 +35,8 @@ module _ (l : Lent) (storage bytes : List ℕ) (long : length bytes ≡ stateLen
   finished = isFinished (stateOf bytes .core .place)
 
   -- a step that is not carried out changes nothing and reports zeros
-  step-still : (report : List ℕ) (answer : Answer) → length report ≡ 12 → step l (engineAt bytes storage) .stepped .answer ≡ answer → moved finished answer 1 ≡ false
+  step-still : (report : List ℕ) (answer : Answer) → length report ≡ 12 → step l (engineAt bytes storage) .stepped .answer ≡ answer
+      → moved finished answer 1 ≡ false
       → stepLeft l storage bytes report ≡ record { answer = code answer; storage = storage; output = l .output; state = bytes; report = replicate 12 0 }
   unfolding stepLeft afterStep bytesAfter numbersOfReport numbersOfStore noReport noStore
   step-still report answer h is still =
@@ -46,14 +48,17 @@ module _ (l : Lent) (storage bytes : List ℕ) (long : length bytes ≡ stateLen
   unfolding code
   refused-step report r h is = step-still report (Refused r) h is (moved-refused finished r)
 
-  pub finished-step : (report : List ℕ) → length report ≡ 12 → isWidth (stateOf bytes .width) ≡ true → sound (stateOf bytes .width) l (engineAt bytes storage) ≡ true
+  pub finished-step : (report : List ℕ) → length report ≡ 12 → isWidth (stateOf bytes .width) ≡ true
+      → sound (stateOf bytes .width) l (engineAt bytes storage) ≡ true
       → finished ≡ true
       → stepLeft l storage bytes report ≡ record { answer = 100; storage = storage; output = l .output; state = bytes; report = replicate 12 0 }
   unfolding code
-  finished-step report h wide fine end = step-still report Finished h (finished-stays l (engineAt bytes storage) wide fine end .0) (rw end (moved-never Finished))
+  finished-step report h wide fine end = step-still report Finished h (finished-stays l (engineAt bytes storage) wide fine end .0)
+      (rw end (moved-never Finished))
 
   -- so does a run that stops so at its first step
-  run-still : (limit count : ℕ) (answer : Answer) → run limit l (engineAt bytes storage) .ran .answer ≡ answer → run limit l (engineAt bytes storage) .ran .count ≡ 1
+  run-still : (limit count : ℕ) (answer : Answer) → run limit l (engineAt bytes storage) .ran .answer ≡ answer
+      → run limit l (engineAt bytes storage) .ran .count ≡ 1
       → moved finished answer 1 ≡ false
       → runLeft limit l storage bytes count ≡ record { answer = code answer; storage = storage; output = l .output; state = bytes; count = 1 }
   unfolding runLeft afterRun bytesAfter

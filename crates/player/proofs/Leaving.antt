@@ -16,7 +16,8 @@ use Rattle.machine.specs.State.{fresh, freshOf, toldFresh, isFinished}
 use Rattle.machine.specs.Sound.{Lent}
 use Rattle.machine.specs.Step.{Outcome, RunOutcome, step, run}
 use Rattle.layout.specs.Layout.{stateLength, bytesOfState, stateOf}
-use Rattle.player.specs.Calls.{code, moved, bytesAfter, engineAt, FreshLeft, freshLeft, numbersOfReport, StepLeft, afterStep, noStep, stepLeft, RunLeft, afterRun, noRun, runLeft, wrongState, unreported}
+use Rattle.player.specs.Calls.{code, moved, bytesAfter, engineAt, FreshLeft, freshLeft, numbersOfReport, StepLeft, afterStep}
+use Rattle.player.specs.Calls.{noStep, stepLeft, RunLeft, afterRun, noRun, runLeft, wrongState, unreported}
 use Rattle.player.proofs.Moving.{step-kept, run-kept}
 
 -- bytes that were written, or left, tell the state afterwards
@@ -42,8 +43,10 @@ module _ (l : Lent) (storage bytes report : List ℕ) where
     called : _≡_ {A = Outcome} (record { stepped = stepped; storage = storage'; output = output' }) (step l (engineAt bytes storage))
     called = is ∙ ap (λ (s : State). step l (record { state = s; storage = storage })) read
 
-    pub step-leaves : {report' : List ℕ} {answer : ℕ} → length bytes ≡ stateLength → length report ≡ 12 → report' ≡ numbersOfReport (stepped .report) → answer ≡ code (stepped .answer)
-        → _≡_ {A = StepLeft} (record { answer = answer; storage = storage'; output = output'; state = bytes'; report = report' }) (stepLeft l storage bytes report)
+    pub step-leaves : {report' : List ℕ} {answer : ℕ} → length bytes ≡ stateLength → length report ≡ 12 → report' ≡ numbersOfReport (stepped .report)
+        → answer ≡ code (stepped .answer)
+        → _≡_ {A = StepLeft} (record { answer = answer; storage = storage'; output = output'; state = bytes'; report = report' })
+        (stepLeft l storage bytes report)
     unfolding stepLeft afterStep bytesAfter isFinished
     step-leaves h k r a =
         rw (eq-eqb (length bytes) stateLength h, eq-eqb (length report) 12 k, ← called, a, r, kept, read)
@@ -74,12 +77,14 @@ module _ (limit : ℕ) (l : Lent) (storage bytes : List ℕ) where
     run-called = is ∙ ap (λ (s : State). run limit l (record { state = s; storage = storage })) read
 
     pub run-leaves : (count : ℕ) {answer : ℕ} → length bytes ≡ stateLength → answer ≡ code (ran .answer)
-        → _≡_ {A = RunLeft} (record { answer = answer; storage = storage'; output = output'; state = bytes'; count = ran .count }) (runLeft limit l storage bytes count)
+        → _≡_ {A = RunLeft} (record { answer = answer; storage = storage'; output = output'; state = bytes'; count = ran .count })
+        (runLeft limit l storage bytes count)
     unfolding runLeft afterRun bytesAfter isFinished
     run-leaves count h a = rw (eq-eqb (length bytes) stateLength h, ← run-called, a, kept, read)
 
     run-still : moved (eqb (before .core .place .kind) 3) (ran .answer) (ran .count) ≡ false
-        → moved (isFinished (stateOf bytes .core .place)) (run limit l (engineAt bytes storage) .ran .answer) (run limit l (engineAt bytes storage) .ran .count) ≡ false
+        → moved (isFinished (stateOf bytes .core .place)) (run limit l (engineAt bytes storage) .ran .answer)
+        (run limit l (engineAt bytes storage) .ran .count) ≡ false
     unfolding isFinished
     run-still k = rw (← run-called, ← read) k
 

@@ -55,7 +55,8 @@ step-kept l e still = go (stepping l e) still
     go (staying f is) k = subst (AsBefore l e) (sym is) (same Finished)
     go (forward x facts f p is) k =
         let yes : moved (isFinished (e .state .core .place)) (step l e .stepped .answer) 1 ≡ true =
-        ap (λ (o : Outcome). moved (isFinished (e .state .core .place)) (o .stepped .answer) 1) is ∙ unfold carriedOut in carried _ (isFinished (x .state .core .place)) f in
+        ap (λ (o : Outcome). moved (isFinished (e .state .core .place)) (o .stepped .answer) 1) is ∙ unfold carriedOut in
+        carried _ (isFinished (x .state .core .place)) f in
         absurd (let z : _≡_ {A = Bool} true false = cc in true-false z)
 
 -- what is lent to the next step

@@ -8,7 +8,8 @@ use borrow.Author.Tests.{le-leb, lt-leb, leb-true, leb-false}
 use lib.Dec.{leb}
 use lib.ListN.{length, drop}
 use Rattle.recordings.specs.declared.Written.the-variants.{Count, BadList, RowTwice, OutputShort}
-use Rattle.recordings.specs.Recordings.{rowCount, isList, chain, hasTwice, allStanding, written, correcting, toldWritten, correctingTold}
+use Rattle.recordings.specs.Recordings.{rowCount, isList, chain, hasTwice, allStanding, written, correcting, toldWritten}
+use Rattle.recordings.specs.Recordings.{correctingTold}
 use Rattle.recordings.specs.Walking.{allWritten, Answered}
 use Rattle.recordings.proofs.Chain.{chain-once, chain-twice, chain-most}
 

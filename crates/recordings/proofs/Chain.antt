@@ -12,7 +12,8 @@ use lib.Dec.{eqb, ltb}
 use lib.ListN.{length, take, drop, getD, length-drop}
 use lib.Seq.{drop-drop, take-suc, drop-cons}
 use Rattle.word.proofs.Tests.{by-test, by-eqb, and-true}
-use Rattle.recordings.specs.Recordings.{rowCount, nextOf, firstRow, zerosAfter, nextsInside, isList, reached, chain, member, hasTwice}
+use Rattle.recordings.specs.Recordings.{rowCount, nextOf, firstRow, zerosAfter, nextsInside, isList, reached, chain, member}
+use Rattle.recordings.specs.Recordings.{hasTwice}
 use Rattle.recordings.proofs.Counting.{Each, each-none, each-more, no-both, few-below}
 
 -- a list that is not refused by 26

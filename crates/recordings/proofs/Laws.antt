@@ -8,9 +8,11 @@ use mathlib.Core.Path.{_≡_, refl, ap, _∙_}
 use lib.Dec.{eqb, leb}
 use lib.ListN.{length, take}
 use Rattle.word.proofs.Tests.{by-test, by-eqb, either-way}
-use Rattle.recordings.specs.Recordings.{Left, rowCount, nextOf, firstRow, stopOf, dayOf, recordingOf, isList, reached, chain, member, hasTwice}
+use Rattle.recordings.specs.Recordings.{Left, rowCount, nextOf, firstRow, stopOf, dayOf, recordingOf, isList, reached, chain}
+use Rattle.recordings.specs.Recordings.{member, hasTwice}
 use Rattle.word.specs.Told.{number}
-use Rattle.recordings.specs.Recordings.{replaces, standing, standingRows, allStanding, pairs, written, correcting, toldWritten}
+use Rattle.recordings.specs.Recordings.{replaces, standing, standingRows, allStanding, pairs, written, correcting}
+use Rattle.recordings.specs.Recordings.{toldWritten}
 use Rattle.recordings.proofs.Counting.{Each, each-first, each-others, or-false, no-both}
 use Rattle.recordings.proofs.Chain.{chain-most, chain-twice}
 use Rattle.recordings.proofs.Standing.{standing-each}

@@ -63,7 +63,10 @@ module _ (xs : List ℕ) (low : ℕ) where
 
   pub least-step : (is : isList xs ≡ true) {i row : ℕ} (at : At xs i row) → i < length (chain xs) → (found : Least)
       → LeastOf low (stops xs (take i (chain xs))) found → LeastOf low (stops xs (take (i + 1) (chain xs))) (lesser low found (stopOf xs row))
-  least-step is {i} {row} at more found least = rw (at-passed xs is at more, map-append) (least-more low (stops xs (take i (chain xs))) (stopOf xs row) found least)
+  least-step is {i} {row} at more found least = rw (
+    at-passed xs is at more,
+    map-append,
+  ) (least-more low (stops xs (take i (chain xs))) (stopOf xs row) found least)
 
   pub least-end : (i : ℕ) → i ≡ length (chain xs) → (found : Least) → LeastOf low (stops xs (take i (chain xs))) found → LeastOf low (stops xs (chain xs)) found
   least-end i e found least = rw (e, take-length) at least

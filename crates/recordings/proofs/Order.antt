@@ -10,7 +10,8 @@ use lib.Dec.{eqb, ltb, leb·suc-suc}
 use Rattle.word.proofs.Tests.{and-true, by-test, by-eqb, by-leb}
 use Rattle.recordings.specs.Recordings.{stopOf, dayOf, member, replaces, standing, standingRows, chain, allStanding}
 use Rattle.recordings.specs.Walking.{stops}
-use Rattle.recordings.proofs.Counting.{Each, each-none, each-more, each-append, each-last, member-first, member-more, no-both}
+use Rattle.recordings.proofs.Counting.{Each, each-none, each-more, each-append, each-last, member-first, member-more}
+use Rattle.recordings.proofs.Counting.{no-both}
 use Rattle.recordings.proofs.Standing.{standing-stop}
 
 -- a row stands among rows: of its stop none before it has a greater issue day, and none after it has as great a one
@@ -47,7 +48,8 @@ module _ (xs all : List ℕ) where
       (λ not-so. stands-on before row (after ++ (next ∷ [])) rows
       (is ∙ ap (λ (l : List ℕ). before ++ row ∷ l) (sym (append-assoc after (next ∷ []) rows)))
       earlier
-      (each-last after next (Later row) (λ e. by-leb (λ t. (eqb (stopOf xs next) (stopOf xs row) && t) ≡ false → dayOf xs next < dayOf xs row) (dayOf xs row) (dayOf xs next)
+      (each-last after next (Later row) (λ e. by-leb (λ t. (eqb (stopOf xs next) (stopOf xs row) && t) ≡ false → dayOf xs next < dayOf xs row)
+      (dayOf xs row) (dayOf xs next)
       (λ _ no-way. absurd (no-both (rw (eq-eqb (stopOf xs next) (stopOf xs row) e)) no-way)) (λ less _. less) not-so) later))
 
   -- each of the standing rows stands among all
@@ -112,9 +114,11 @@ in-order xs seen (row ∷ rows) s t new-s new-t =
     (λ e. no-both (ap (λ (x : ℕ). member x seen) e ∙ old) new-s) (λ e. no-both (ap (λ (x : ℕ). member x seen) e ∙ old) new-t))
     (λ new. rw (standing-stop xs row rows)
     (ahead (stopOf xs row) s t (stops xs (standingRows xs (stopOf xs row ∷ seen) rows)) (stops xs rows)
-    (λ other-s other-t. in-order xs (stopOf xs row ∷ seen) rows s t (not-first s (stopOf xs row) seen other-s new-s) (not-first t (stopOf xs row) seen other-t new-t))))
+    (λ other-s other-t. in-order xs (stopOf xs row ∷ seen) rows s t (not-first s (stopOf xs row) seen other-s new-s)
+    (not-first t (stopOf xs row) seen other-t new-t))))
 
 pub standing-order : (xs : List ℕ) (s t : ℕ)
-    → ltb (placeIn s (stops xs (allStanding xs))) (placeIn t (stops xs (allStanding xs))) ≡ ltb (placeIn s (stops xs (chain xs))) (placeIn t (stops xs (chain xs)))
+    → ltb (placeIn s (stops xs (allStanding xs))) (placeIn t (stops xs (allStanding xs)))
+    ≡ ltb (placeIn s (stops xs (chain xs))) (placeIn t (stops xs (chain xs)))
 unfolding allStanding member
 standing-order xs s t = in-order xs [] (chain xs) s t refl refl

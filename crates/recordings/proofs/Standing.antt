@@ -40,7 +40,8 @@ module _ (xs : List ℕ) where
   unfolding replaces member entered
   beside seen others last row new =
       by-eqb (λ t. cond (t && leb (dayOf xs row) (dayOf xs last)) last row ∷ cond (t || member (stopOf xs last) seen) others (entered xs last others)
-      ≡ cond (member (stopOf xs last) seen) (row ∷ others) (cond t (cond (leb (dayOf xs row) (dayOf xs last)) last row ∷ others) (row ∷ entered xs last others)))
+      ≡ cond (member (stopOf xs last) seen) (row ∷ others) (cond t (cond (leb (dayOf xs row) (dayOf xs last)) last row ∷ others)
+      (row ∷ entered xs last others)))
       (stopOf xs last) (stopOf xs row)
       (λ e. rw (ap (λ (s : ℕ). member s seen) e ∙ new))
       (λ _. by-test (λ t. row ∷ cond t others (entered xs last others) ≡ cond t (row ∷ others) (row ∷ entered xs last others)) (member (stopOf xs last) seen)

@@ -12,7 +12,8 @@ use Rattle.recordings.specs.declared.Least.{Least}
 use Rattle.recordings.specs.declared.Least.the-variants.{Stop, Nothing}
 use Rattle.recordings.specs.Recordings.{stopOf, member, hasTwice, standing, standingRows, chain, allStanding}
 use Rattle.recordings.specs.Walking.{stops, from, lesser, LeastOf}
-use Rattle.recordings.proofs.Counting.{member-first, member-last, each-last, no-both, above, above-all, above-same, above-none, above-once}
+use Rattle.recordings.proofs.Counting.{member-first, member-last, each-last, no-both, above, above-all, above-same}
+use Rattle.recordings.proofs.Counting.{above-none, above-once}
 use Rattle.recordings.proofs.Standing.{standing-stop, no-more}
 
 module _ (xs : List ℕ) where

@@ -11,7 +11,8 @@ use lib.Dec.{leb, ltb}
 use lib.ListN.{length, drop, set, length-set, drop-of-length-le}
 use Rattle.word.proofs.Tests.{by-leb, and-true as both-parts}
 use Rattle.table.specs.declared.FieldName.{FieldName}
-use Rattle.table.specs.Reference.{digitsBefore, digitsOf, names, namesField, namesBug, nameFields, startsWithBug, isReference, named, referenceOf, namesOf}
+use Rattle.table.specs.Reference.{digitsBefore, digitsOf, names, namesField, namesBug, nameFields, startsWithBug, isReference}
+use Rattle.table.specs.Reference.{named, referenceOf, namesOf}
 
 -- up to k digits name fields, and the first names a bug
 unfoldable pub wellNamed : ℕ → ℕ → Bool
@@ -44,7 +45,8 @@ well-named : (k v : ℕ) (ds : List ℕ) → 0 < v → v < 64 ^ suc k → starts
 unfolding startsWithBug wellNamed nameFields
 well-named zero v ds p h = rw (single zero v ds p h)
 well-named (suc k) v ds p h =
-    by-leb (λ t. startsWithBug (digitsBefore (suc (suc k)) v ds) ≡ (cond t (namesBug v) (namesField (v % 64) && wellNamed k (v / 64)) && nameFields ds)) (suc v) 64
+    by-leb (λ t. startsWithBug (digitsBefore (suc (suc k)) v ds)
+    ≡ (cond t (namesBug v) (namesField (v % 64) && wellNamed k (v / 64)) && nameFields ds)) (suc v) 64
     (λ less. rw (single (suc k) v ds p less))
     (λ more. ap startsWithBug (longer (suc k) v ds (omega arith))
     ∙ well-named k (v / 64) (v % 64 ∷ ds) (omega arith) (shorter k v h)
@@ -191,5 +193,6 @@ module _ {v : ℕ} {fields : List FieldName} {rest from : ℕ} (f : Found v fiel
       record {
         low = low;
         high = high;
-        whole = sym (ap named (f .digits ∙ single from rest (f .ds) (omega arith) one) ∙ ap (λ (xs : List FieldName). record { bug = record { 0 = rest - 11 }; fields = xs }) (f .names));
+        whole = sym (ap named (f .digits ∙ single from rest (f .ds) (omega arith) one)
+            ∙ ap (λ (xs : List FieldName). record { bug = record { 0 = rest - 11 }; fields = xs }) (f .names));
       }

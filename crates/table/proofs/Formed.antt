@@ -17,7 +17,8 @@ use Rattle.table.specs.declared.Operand.{Operand}
 use Rattle.table.specs.declared.Pair.{Pair}
 use Rattle.table.specs.Operands.{testShape, takes}
 use Rattle.word.specs.Told.{gives, refuses}
-use Rattle.table.specs.Table.{fits, isLine, isTest, shapeOf, isOperation, chained, shaped, wellFormedAs, wellFormed, usable, lowestFrom, checked, tableChecked, toldCheck, checkTold}
+use Rattle.table.specs.Table.{fits, isLine, isTest, shapeOf, isOperation, chained, shaped, wellFormedAs, wellFormed, usable}
+use Rattle.table.specs.Table.{lowestFrom, checked, tableChecked, toldCheck, checkTold}
 use Rattle.table.specs.Row.{lengthFits, rows, rowAt}
 
 -- a pair's test is the definition's at the operand that is told

@@ -12,7 +12,8 @@ use lib.Pow.{pow-pos, pow-mono, pow-add, shr-shr}
 use Rattle.word.proofs.Tests.{and-true, by-leb, by-eqb}
 use Rattle.table.proofs.Digits.{name-range, reference-positive, reference-small}
 use Rattle.table.specs.declared.FieldName.{FieldName}
-use Rattle.table.specs.Reference.{Reference, digitsBefore, digitsOf, names, namesField, namesBug, nameFields, startsWithBug, isReference, named, referenceOf, Following, FollowingLater, nameAt}
+use Rattle.table.specs.Reference.{Reference, digitsBefore, digitsOf, names, namesField, namesBug, nameFields, startsWithBug}
+use Rattle.table.specs.Reference.{isReference, named, referenceOf, Following, FollowingLater, nameAt}
 
 -- the last n digits of v, first one first, and the fields that they name
 unfoldable lastDigits : ℕ → ℕ → List ℕ
@@ -31,7 +32,8 @@ shifted n v = let six : 6 + 6 * n ≡ 6 * suc n = omega arith in shr-shr v 6 (6 
 last-digit : (n v : ℕ) (ds : List ℕ) → lastDigits n (v / 64) ++ (v % 64 ∷ ds) ≡ lastDigits (suc n) v ++ ds
 unfolding lastDigits
 last-digit zero v ds = ap (λ (x : ℕ). x % 64 ∷ ds) (sym (div-one v))
-last-digit (suc n) v ds = ap (λ (x : ℕ). x % 64 ∷ (lastDigits n (v / 64) ++ (v % 64 ∷ ds))) (shifted n v) ∙ ap (λ (xs : List ℕ). v / 2 ^ (6 * suc n) % 64 ∷ xs) (last-digit n v ds)
+last-digit (suc n) v ds = ap (λ (x : ℕ). x % 64 ∷ (lastDigits n (v / 64) ++ (v % 64 ∷ ds))) (shifted n v)
+    ∙ ap (λ (xs : List ℕ). v / 2 ^ (6 * suc n) % 64 ∷ xs) (last-digit n v ds)
 
 -- the digits of a number with n digits after the first
 digits-are : (k n v : ℕ) (ds : List ℕ) → n ≤ k → 2 ^ (6 * n) ≤ v → v < 2 ^ (6 * n + 6) → digitsBefore (suc k) v ds ≡ v / 2 ^ (6 * n) ∷ (lastDigits n v ++ ds)
@@ -63,7 +65,8 @@ module _ (v : ℕ) (h : isReference v ≡ true) {bits : ℕ} (f : Following v bi
   -- six digits at most
   few : f .count ≤ 5
   few = by-leb (λ _. f .count ≤ 5) (f .count) 5 (λ s. s)
-      (λ more. let most : 2 ^ 36 ≤ 2 ^ (6 * f .count) = pow-mono {i = 36} {j = 6 * f .count} (omega arith) in absurd (omega (arith, reference-small v h, low, most)))
+      (λ more. let most : 2 ^ 36 ≤ 2 ^ (6 * f .count) = pow-mono {i = 36} {j = 6 * f .count} (omega arith) in
+      absurd (omega (arith, reference-small v h, low, most)))
 
   digits : digitsOf v ≡ v / 2 ^ (6 * f .count) ∷ (lastDigits (f .count) v ++ [])
   unfolding digitsOf

@@ -10,7 +10,8 @@ use lib.Dec.{leb, ltb}
 use lib.ListN.{getD}
 use Rattle.word.proofs.Tests.{and-true}
 use Rattle.table.specs.declared.FieldName.{FieldName}
-use Rattle.table.specs.Reference.{digitsOf, names, namesField, namesBug, nameFields, startsWithBug, isReference, named, referenceOf}
+use Rattle.table.specs.Reference.{digitsOf, names, namesField, namesBug, nameFields, startsWithBug, isReference, named}
+use Rattle.table.specs.Reference.{referenceOf}
 
 -- a name's number is its digit less the first one
 in-names : (lowest x : ℕ) → names lowest x ≡ true → x - lowest < 37 - lowest

@@ -19,7 +19,8 @@ use Rattle.machine.specs.State.{fresh, isFinished, testsOf}
 use Rattle.machine.specs.Sound.{Lent, Engine, sound}
 use Rattle.machine.specs.Step.{Outcome, RunOutcome, unchanged, outcome, plan, stepAt, step, engineOf, ending, runFrom, run}
 use Rattle.machine.proofs.Starting.{fresh-sound}
-use Rattle.tour.specs.Tour.{tableOf, numbers, played, codes, codesLine, digitsWithin, decimal, answerText, lastLine, lines, printed, newline, blank}
+use Rattle.tour.specs.Tour.{tableOf, numbers, played, codes, codesLine, digitsWithin, decimal, answerText, lastLine, lines}
+use Rattle.tour.specs.Tour.{printed, newline, blank}
 
 -- a fresh engine with a table of the wrong length
 module _ (l : Lent) (ws : List ℕ) (short : lengthFits (l .table) ≡ false) where
@@ -67,4 +68,5 @@ first-bytes m n high low tab stops = rw (table-first m high tab, take-take 4096 
 -- a file that is no table: refusal 1 at the first step
 pub no-table : (tab stops : List ℕ) → tableOf tab ≡ [] → printed tab stops ≡ newline ∷ 49 ∷ blank ∷ 49 ∷ newline ∷ []
 unfolding printed played codes codesLine lines lastLine answerText decimal digitsWithin refusalNumber ending fresh lengthFits
-no-table tab stops none = rw none (let r = run-refused (record { table = []; input = take 4096 stops; output = replicate 4096 0 }) (replicate 4096 0) refl 99999 in rw r)
+no-table tab stops none = rw none (let r = run-refused (record { table = []; input = take 4096 stops; output = replicate 4096 0 }) (replicate 4096 0)
+    refl 99999 in rw r)

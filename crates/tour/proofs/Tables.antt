@@ -35,7 +35,8 @@ from-next bytes n left some h =
     let more : n - (left - 1) ≡ suc (n - left) = omega arith in
     let next : 8 * (left - 1) + 8 ≡ 8 * left = omega arith in
     ap (λ (m : ℕ). numbers m (drop (8 * (left - 1)) bytes)) more
-    ∙ ap (λ (rest : List ℕ). lowFirst (take 8 (drop (8 * (left - 1)) bytes)) ∷ numbers (n - left) rest) (drop-drop 8 (8 * (left - 1)) bytes ∙ ap (λ (m : ℕ). drop m bytes) next)
+    ∙ ap (λ (rest : List ℕ). lowFirst (take 8 (drop (8 * (left - 1)) bytes)) ∷ numbers (n - left) rest) (drop-drop 8 (8 * (left - 1)) bytes
+    ∙ ap (λ (m : ℕ). drop m bytes) next)
 
 -- the table of a file's bytes
 module _ (tab : List ℕ) where

@@ -15,7 +15,8 @@ use Rattle.lines.specs.declared.Read.the-variants.{Rows, NoWidth, BadLine, BadL
 use Rattle.lines.specs.Grammar.{Line, Typed}
 use Rattle.lines.specs.Reading.{readLine, cut, readLines}
 use Rattle.word.specs.Told.{tells, gives}
-use Rattle.lines.specs.Program.{tableOf, rowCount, keptLines, badLabels, tooLong, faultOf, Refusal, noRefusal, lowestFault, refusalOf, program, Left, refused, reading, readAt, toldRead, refusalTold, readTold}
+use Rattle.lines.specs.Program.{tableOf, rowCount, keptLines, badLabels, tooLong, faultOf, Refusal, noRefusal, lowestFault}
+use Rattle.lines.specs.Program.{refusalOf, program, Left, refused, reading, readAt, toldRead, refusalTold, readTold}
 use Rattle.lines.proofs.Accepted.{Accepted, accepted}
 use Rattle.faults.specs.Places.{linesIn}
 use Rattle.faults.specs.Names.{Known}

@@ -13,7 +13,8 @@ use lib.Seq.{slice}
 use Rattle.word.proofs.Tests.{by-test, by-leb, and-true}
 use Rattle.table.specs.declared.Row.{Row}
 use Rattle.lines.specs.Words.{spelled, isEmpty, all, any, isField, isDone, fieldPair, absentPair, pairOf, givesName}
-use Rattle.lines.specs.Forms.{isTest, isOperation, isArgument, expanded, fits, operationForms, formOf, rowIn, pairsOf, nameIn, operandAt}
+use Rattle.lines.specs.Forms.{isTest, isOperation, isArgument, expanded, fits, operationForms, formOf, rowIn, pairsOf, nameIn}
+use Rattle.lines.specs.Forms.{operandAt}
 use Rattle.lines.specs.Grammar.{Line, Typed}
 use Rattle.lines.specs.Reading.{front, behind, isBlank, split, tokenAt, readLine}
 use Rattle.lines.specs.Program.{size, chainedRows, testRow, operationRow, goToRow, lineRow}
@@ -31,7 +32,8 @@ use Rattle.faults.specs.Places.{sizeOf}
 use Rattle.faults.proofs.Using.{Parens, Here, parens-none, parens-more}
 use Rattle.faults.proofs.Faults.{good-operations}
 use Rattle.typed.specs.declared.Group.{Group}
-use Rattle.typed.specs.Putting.{putRows, movedRow, isGroup, groupRow, groupRows, lineRows, lineNumbers, readRows, Grouped, Laid}
+use Rattle.typed.specs.Putting.{putRows, movedRow, isGroup, groupRow, groupRows, lineRows, lineNumbers, readRows, Grouped}
+use Rattle.typed.specs.Putting.{Laid}
 use Rattle.typed.proofs.Putting.{rows-none, rows-long, rows-rows}
 
 -- an operation as it is written, and with names written out

@@ -13,7 +13,8 @@ use Rattle.word.proofs.Tests.{by-test, by-eqb, and-true, either-way}
 use Rattle.character.specs.Character.{number, packed, codeOf, period}
 use Rattle.table.specs.Reference.{isReference, startsWithBug, digitsOf}
 use Rattle.table.specs.declared.Pair.{Pair}
-use Rattle.lines.specs.Words.{isEmpty, nameNumber, characterCode, literal, lastByte, isField, isDecimal, isOctal, isHollerith, isKind, fieldPair, literalPair, pairOf}
+use Rattle.lines.specs.Words.{isEmpty, nameNumber, characterCode, literal, lastByte, isField, isDecimal, isOctal, isHollerith}
+use Rattle.lines.specs.Words.{isKind, fieldPair, literalPair, pairOf}
 use Rattle.lines.specs.Walking.{kindOf}
 use Rattle.typed.specs.Values.{baseOf, digitAs, valueFrom}
 use Rattle.typed.specs.Putting.{movedRow}

@@ -17,7 +17,9 @@ use Rattle.lines.specs.declared.Read.the-variants.{Rows, BadLine, BadLabel, Too
 use Rattle.lines.specs.Words.{isEmpty}
 use Rattle.lines.specs.Grammar.{Line, Typed}
 use Rattle.lines.specs.Reading.{cut, readLine}
-use Rattle.lines.specs.Program.{size, rowOf, chainedRows, testRow, operationRow, lineRow, rowsFrom, numbersOf, flat, tableOf, rowCount, keptLines, faultOf, Refusal, noRefusal, lowestFault, refusalOf, program, Left, refused, reading}
+use Rattle.lines.specs.Program.{size, rowOf, chainedRows, testRow, operationRow, lineRow, rowsFrom, numbersOf, flat, tableOf}
+use Rattle.lines.specs.Program.{rowCount, keptLines, faultOf, Refusal, noRefusal, lowestFault, refusalOf, program, Left, refused}
+use Rattle.lines.specs.Program.{reading}
 use Rattle.lines.proofs.Lists.{none-some, some-same}
 use Rattle.lines.proofs.Tables.{rows-length, flat-length, chained-length, count-pos}
 use Rattle.lines.proofs.Accepted.{Accepted, accepted}

@@ -3,7 +3,8 @@
 use mathlib.Core.Bool.{_&&_, cond}
 use mathlib.Core.Path.{_≡_, refl, sym, ap, _∙_, subst⁻¹}
 use Prim.Native.Nat.{ℕ, zero, suc, _+_, _-_, _*_, _/_, _%_, _^_, _≤_, _<_}
-use native.Mathlib.Nat.{le-of-eq, lt-of-lt-of-le, add-assoc, zero-add, add-zero, zero-mul, sub-self, sub-add-cancel, div-one, mod-one, mod-lt, mod-eq-of-lt, mod-mod, div-add-mod'}
+use native.Mathlib.Nat.{le-of-eq, lt-of-lt-of-le, add-assoc, zero-add, add-zero, zero-mul, sub-self, sub-add-cancel, div-one}
+use native.Mathlib.Nat.{mod-one, mod-lt, mod-eq-of-lt, mod-mod, div-add-mod'}
 use native.Mathlib.Omega.{arith}
 use lib.Arith.{digits-lt}
 use lib.Dec.{leb}
@@ -71,7 +72,8 @@ new-word n s w k fits =
 
 -- numbers with the same parts are the same
 parts-same : (s : ℕ) {x y : ℕ} → x / 2 ^ s ≡ y / 2 ^ s → x % 2 ^ s ≡ y % 2 ^ s → x ≡ y
-parts-same s {x} {y} left right = sym (div-add-mod' x (2 ^ s)) ∙ ap (λ (n : ℕ). n * 2 ^ s + x % 2 ^ s) left ∙ ap (λ (n : ℕ). y / 2 ^ s * 2 ^ s + n) right ∙ div-add-mod' y (2 ^ s)
+parts-same s {x} {y} left right = sym (div-add-mod' x (2 ^ s)) ∙ ap (λ (n : ℕ). n * 2 ^ s + x % 2 ^ s) left
+    ∙ ap (λ (n : ℕ). y / 2 ^ s * 2 ^ s + n) right ∙ div-add-mod' y (2 ^ s)
 
 module _ (b left right : ℕ) where
   -- a field is no wider than its word

@@ -1,5 +1,5 @@
--- `character::changed` meets its contract. The loop's invariant: the characters that are left, with their leading ones changed, after those that were made, make the result.
--- Assumes nothing.
+-- `character::changed` meets its contract. The loop's invariant: the characters that are left, with their leading ones changed, after
+-- those that were made, make the result. Assumes nothing.
 use mathlib.Core.Path.{_≡_, refl, sym, _∙_}
 use Prim.Native.Nat.{_+_, _*_, _%_, _^_, _<_}
 use native.Mathlib.Nat.{mod-lt, one-le-pow}
@@ -52,11 +52,12 @@ add-result c = record { fits = whole c }
 
 returns : tie.Need-returns Inv-loop μ-loop
 returns c =
-    let l = c .before .before .before .before .loop in
-    let a = c .before .before .before .before .before .args in
+    let at-loop-test = c .before .before .before in
+    let l = at-loop-test .before .loop in
+    let a = at-loop-test .before .before .args in
     let digit = c .before .before .digit in
     rw (c .power .ensures)
-    (sym (leading-ends (a .old) (a .new) (l .made) (l .left) (a .v) (digit .result) (c .before .before .before .loop-test .taken) (digit .ensures) (c .before .if1 .taken))
+    (sym (leading-ends (a .old) (a .new) (l .made) (l .left) (a .v) (digit .result) (at-loop-test .loop-test .taken) (digit .ensures) (c .before .if1 .taken))
     ∙ l .inv .1)
 
 sub-left : tie.Need-sub-left Inv-loop μ-loop
@@ -84,7 +85,8 @@ loop-again c =
     let l = turn .before .loop in
     let s = turn .before .before in (
       grown (l .inv .0) (turn .loop-test .taken) 64 (s .args .new) (omega arith) (s .pre .0),
-      sym (leading-turn (s .args .old) (s .args .new) (l .made) (l .left) (s .args .v) (c .before .digit .result) (turn .loop-test .taken) (c .before .digit .ensures) (c .if1 .left))
+      sym (leading-turn (s .args .old) (s .args .new) (l .made) (l .left) (s .args .v) (c .before .digit .result) (turn .loop-test .taken)
+          (c .before .digit .ensures) (c .if1 .left))
           ∙ l .inv .1,
     )
 

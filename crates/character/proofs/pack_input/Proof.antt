@@ -9,7 +9,8 @@ use borrow.Author.Needs.{needs}
 use Rattle.character.specs.Character.{number, packed, allBelow}
 use Rattle.word.specs.Told.{gives, refuses}
 use Rattle.character.specs.Converted.{toldPacked, packing}
-use Rattle.character.proofs.Digits.{Growing, growing, grown, grown-fits, answer, answer-next, answer-stop, taken-first, taken-last}
+use Rattle.character.proofs.Digits.{Growing, growing, grown, grown-fits, answer, answer-next, answer-stop, taken-first}
+use Rattle.character.proofs.Digits.{taken-last}
 use Rattle.character.proofs.pack_input.Statement.{statement}
 use Rattle.character.proofs.pack_input.Tie as tie
 
@@ -55,7 +56,8 @@ returns c =
     let s = t .before .before in
     let a = s .args in
     let e = taken-first (a .input .now) (a .at) (a .count) (l .left) (s .pre .1) (t .loop-test .taken) (l .inv .0 .most) in
-    cc (answer-stop gives (refuses 4) 64 (l .made) (next (c .before)) (drop (a .count - (l .left - 1)) (take (a .count) (drop (a .at) (a .input .now)))) (c .if1 .taken))
+    cc (answer-stop gives (refuses 4) 64 (l .made) (next (c .before))
+    (drop (a .count - (l .left - 1)) (take (a .count) (drop (a .at) (a .input .now)))) (c .if1 .taken))
 
 -- the value still fits after a turn
 room : (c : tie.Else1 Inv-loop μ-loop) → c .before .before .before .loop .made * 64 + next (c .before) < 2 ^ 64
@@ -83,7 +85,8 @@ loop-again c =
     let a = s .args in
     let e = taken-first (a .input .now) (a .at) (a .count) (l .left) (s .pre .1) (t .loop-test .taken) (l .inv .0 .most) in (
       grown (l .inv .0) (t .loop-test .taken) 64 (next (c .before)) (omega arith) (c .if1 .left),
-      cc (answer-next gives (refuses 4) 64 (l .made) (next (c .before)) (drop (a .count - (l .left - 1)) (take (a .count) (drop (a .at) (a .input .now)))) (c .if1 .left)),
+      cc (answer-next gives (refuses 4) 64 (l .made) (next (c .before))
+          (drop (a .count - (l .left - 1)) (take (a .count) (drop (a .at) (a .input .now)))) (c .if1 .left)),
     )
 
 returns-2 : tie.Need-returns-2 Inv-loop μ-loop

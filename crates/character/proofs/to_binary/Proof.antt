@@ -33,12 +33,14 @@ returns c =
     let loop = c .before .before .before in
     let a = loop .before .args in
     let next = c .before .digit in
-    let stop = answer-ends some none (a .base) (loop .loop .made) (loop .loop .left) (a .v) (next .result) (c .before .before .loop-test .taken) (next .ensures) (c .if1 .taken) in
+    let stop = answer-ends some none (a .base) (loop .loop .made) (loop .loop .left) (a .v) (next .result) (c .before .before .loop-test .taken)
+    (next .ensures) (c .if1 .taken) in
     let refused : toBinary (a .base) (a .n) (a .v) ≡ none = sym (loop .loop .inv .1) ∙ stop in
     rw refused
 
 -- the value still fits after a turn
-room : (c : tie.Else1 Inv-loop μ-loop) → c .before .before .before .loop .made * c .before .before .before .before .args .base + c .before .digit .result < 2 ^ 64
+room : (c : tie.Else1 Inv-loop μ-loop)
+    → c .before .before .before .loop .made * c .before .before .before .before .args .base + c .before .digit .result < 2 ^ 64
 room c =
     let t = c .before .before in
     let s = t .before .before in
@@ -60,7 +62,8 @@ loop-again c =
     let next = c .before .digit in
     let more = c .before .before .loop-test .taken in (
       grown (loop .loop .inv .0) more (a .base) (next .result) (loop .before .pre .0) (omega arith),
-      sym (answer-turn some none (a .base) (loop .loop .made) (loop .loop .left) (a .v) (next .result) more (next .ensures) (c .if1 .left)) ∙ loop .loop .inv .1,
+      sym (answer-turn some none (a .base) (loop .loop .made) (loop .loop .left) (a .v) (next .result) more (next .ensures) (c .if1 .left))
+          ∙ loop .loop .inv .1,
     )
 
 returns-2 : tie.Need-returns-2 Inv-loop μ-loop

@@ -26,7 +26,9 @@ loop-holds : tie.Need-loop-holds Inv-loop μ-loop
 loop-holds c = (omega arith, refl)
 
 word-at-requires : tie.Need-word-at-requires Inv-loop μ-loop
-word-at-requires c κs = let low = c .loop-test .taken in let same = c .before .loop .inv .0 in (c .before .before .before .pre .1, c .before .before .before .pre .2, omega arith)
+word-at-requires c κs =
+    let start = c .before .before .before in
+    let low = c .loop-test .taken in let same = c .before .loop .inv .0 in (start .pre .1, start .pre .2, omega arith)
 
 returns : tie.Need-returns Inv-loop μ-loop
 returns c =

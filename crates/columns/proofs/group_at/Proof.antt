@@ -21,7 +21,9 @@ loop-holds : tie.Need-loop-holds Inv-loop μ-loop
 loop-holds c = (omega arith, refl)
 
 word-or-zero-requires : tie.Need-word-or-zero-requires Inv-loop μ-loop
-word-or-zero-requires c κs = starts-inside (c .before .before .before .args .words .now) (c .before .before .before .args .at) (c .before .before .before .pre)
+word-or-zero-requires c κs =
+    let start = c .before .before .before in
+    starts-inside (start .args .words .now) (start .args .at) (start .pre)
 
 mul-group : tie.Need-mul-group Inv-loop μ-loop
 mul-group c = search needs
@@ -37,17 +39,20 @@ loop-less c = search needs
 
 loop-again : tie.Need-loop-again Inv-loop μ-loop
 loop-again c =
-    let a = c .before .before .before .before .args in
+    let start = c .before .before .before .before in
+    let a = start .args in
     let l = c .before .before .loop in
     let more = c .before .loop-test .taken in
-    let long = length-group (a .words .now) (a .at) (c .before .before .before .before .pre) in (
+    let long = length-group (a .words .now) (a .at) (start .pre) in (
       omega arith,
       fill-next 8 (take 8 (drop (a .at) (filledUp (a .words .now)))) (l .i) (omega arith)
-          (c .word-or-zero .ensures ∙ sym (group-at (a .words .now) (a .at) (c .before .before .before .before .pre) (l .i) more)) (l .inv .1),
+          (c .word-or-zero .ensures ∙ sym (group-at (a .words .now) (a .at) (start .pre) (l .i) more)) (l .inv .1),
     )
 
 returns : tie.Need-returns Inv-loop μ-loop
-returns c = fill-all 8 _ (length-group (c .before .before .before .args .words .now) (c .before .before .before .args .at) (c .before .before .before .pre)) (c .loop-test .left) (c .before .loop .inv .1)
+returns c =
+    let start = c .before .before .before in
+    fill-all 8 _ (length-group (start .args .words .now) (start .args .at) (start .pre)) (c .loop-test .left) (c .before .loop .inv .1)
 
 pub group-at-spec : {M : Type 1} → statement M
 group-at-spec =

@@ -30,8 +30,9 @@ with-bits-requires c κs = (refl, zeros-small)
 
 loop-holds : tie.Need-loop-holds Inv-loop μ-loop
 loop-holds c =
-    let a = c .before .before .before .before .args in
-    let there = c .before .before .before .before .pre .1 in
+    let start = c .before .before .before .before in
+    let a = start .args in
+    let there = start .pre .1 in
     let odd = a .b % 8 in (
       omega arith,
       omega arith,
@@ -47,15 +48,18 @@ add-turned-bytes : tie.Need-add-turned-bytes Inv-loop μ-loop
 add-turned-bytes c = omega (arith, c .before .before .before .before .before .before .before .pre .1)
 
 turned-bytes-requires-2 : tie.Need-turned-bytes-requires-2 Inv-loop μ-loop
-turned-bytes-requires-2 c κs = let more = c .before .loop-test .taken in (omega arith, omega (arith, c .before .before .before .before .before .before .before .pre .1, c .before .before .loop .inv .1))
+turned-bytes-requires-2 c κs =
+    let start = c .before .before .before .before .before .before .before in
+    let more = c .before .loop-test .taken in (omega arith, omega (arith, start .pre .1, c .before .before .loop .inv .1))
 
 with-bits-requires-2 : tie.Need-with-bits-requires-2 Inv-loop μ-loop
 with-bits-requires-2 c κs =
-    let a = c .before .before .before .before .before .before .before .before .args in
+    let start = c .before .before .before .before .before .before .before .before in
+    let a = start .args in
     let l = c .before .before .before .loop in
-    let there = c .before .before .before .before .before .before .before .before .pre .1 in
+    let there = start .pre .1 in
     let most = l .inv .0 in
-    let few = c .before .before .before .before .before .before .before .before .pre .0 in (
+    let few = start .pre .0 in (
       ap length (l .inv .2) ∙ length-turned 8 _,
       λ i.
           subst (λ (g : List ℕ). getD g i 0 < 2 ^ 48) (sym (l .inv .2))
@@ -70,11 +74,12 @@ loop-less c = let more = c .before .before .before .loop-test .taken in omega ar
 
 loop-again : tie.Need-loop-again Inv-loop μ-loop
 loop-again c =
-    let a = c .before .before .before .before .before .before .before .before .before .args in
+    let start = c .before .before .before .before .before .before .before .before .before in
+    let a = start .args in
     let l = c .before .before .before .before .loop in
     let more = c .before .before .before .loop-test .taken in
     let rest = l .inv .1 in
-    let there = c .before .before .before .before .before .before .before .before .before .pre .1 in
+    let there = start .pre .1 in
     let bytes = a .bytes .now in
     let first = take (l .p) (drop (a .at) bytes) in
     let part = take 8 (drop (a .at + l .p) bytes) in (

@@ -32,7 +32,9 @@ mul-words-2 : tie.Need-mul-words-2 Inv-loop μ-loop
 mul-words-2 c = search needs
 
 slice-write-words : tie.Need-slice-write-words Inv-loop μ-loop
-slice-write-words c = let room = c .before .before .before .pre .1 in let more = c .before .loop-test .taken in let long = c .before .before .loop .inv .1 in omega arith
+slice-write-words c =
+    let start = c .before .before .before in
+    let room = start .pre .1 in let more = c .before .loop-test .taken in let long = c .before .before .loop .inv .1 in omega arith
 
 add-i : tie.Need-add-i Inv-loop μ-loop
 add-i c = search needs
@@ -42,10 +44,11 @@ loop-less c = search needs
 
 loop-again : tie.Need-loop-again Inv-loop μ-loop
 loop-again c =
-    let a = c .before .before .before .args in
+    let start = c .before .before .before in
+    let a = start .args in
     let l = c .before .before .loop in
     let more = c .before .loop-test .taken in
-    let some = c .before .before .before .pre .0 in
+    let some = start .pre .0 in
     let group = a .group .now in (
       omega arith,
       length-set (l .words) _ _ ∙ l .inv .1,

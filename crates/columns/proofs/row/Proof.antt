@@ -37,7 +37,10 @@ shr-made : tie.Need-shr-made Inv-loop μ-loop
 shr-made c = let places = c .before .before .loop .inv .2 in omega arith
 
 add-made-2 : tie.Need-add-made-2 Inv-loop μ-loop
-add-made-2 c = let few = c .before .before .before .pre .1 in omega (arith, gathered-small _ _ _ (c .before .before .loop .inv .3) 48 (omega (arith, c .before .before .loop .inv .0)))
+add-made-2 c =
+    let at-loop = c .before .before in
+    let start = at-loop .before in
+    let few = start .pre .1 in omega (arith, gathered-small _ _ _ (at-loop .loop .inv .3) 48 (omega (arith, at-loop .loop .inv .0)))
 
 add-p : tie.Need-add-p Inv-loop μ-loop
 add-p c = search needs
@@ -47,23 +50,26 @@ loop-less c = search needs
 
 loop-again : tie.Need-loop-again Inv-loop μ-loop
 loop-again c =
+    let at-loop = c .before .before in
+    let start = at-loop .before in
     let more = c .before .loop-test .taken in
-    let same = c .before .before .loop .inv .1 in
-    let few : c .before .before .loop .p + 1 ≤ c .before .before .before .args .b = omega arith in
-    let there = c .before .before .before .pre .2 in (
+    let same = at-loop .loop .inv .1 in
+    let few : at-loop .loop .p + 1 ≤ start .args .b = omega arith in
+    let there = start .pre .2 in (
       few,
       same,
-      c .before .before .loop .inv .2,
-      gathered-more _ _ _ (c .before .before .loop .inv .3) (omega (arith, length-part (c .before .before .before .args .b) (c .before .before .before .args .bytes .now) (c .before .before .before .args .at) there))
-          (sym (part-at (c .before .before .before .args .b) (c .before .before .before .args .bytes .now) (c .before .before .before .args .at) there (c .before .before .loop .p) (omega arith))) (c .before .before .loop .inv .2),
+      at-loop .loop .inv .2,
+      gathered-more _ _ _ (at-loop .loop .inv .3) (omega (arith, length-part (start .args .b) (start .args .bytes .now) (start .args .at) there))
+          (sym (part-at (start .args .b) (start .args .bytes .now) (start .args .at) there (at-loop .loop .p) (omega arith))) (at-loop .loop .inv .2),
     )
 
 returns : tie.Need-returns Inv-loop μ-loop
 returns c =
+    let start = c .before .before in
     let over = c .loop-test .left in
     let most = c .before .loop .inv .0 in
     let same = c .before .loop .inv .1 in
-    gathered-all _ _ _ (c .before .loop .inv .3) (omega (arith, length-part (c .before .before .args .b) (c .before .before .args .bytes .now) (c .before .before .args .at) (c .before .before .pre .2)))
+    gathered-all _ _ _ (c .before .loop .inv .3) (omega (arith, length-part (start .args .b) (start .args .bytes .now) (start .args .at) (start .pre .2)))
 
 pub row-spec : {M : Type 1} → statement M
 row-spec =

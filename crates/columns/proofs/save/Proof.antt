@@ -19,15 +19,19 @@ fit-requires : tie.Need-fit-requires
 fit-requires c κs = width-range _ (sym (c .before .is-width .ensures) ∙ not-false _ (c .if1 .left)) .1
 
 returns-2 : tie.Need-returns-2
-returns-2 c = saving-wide _ _ _ (sym (c .before .before .before .is-width .ensures) ∙ not-false _ (c .before .before .if1 .left)) (sym (c .before .fit .ensures) ∙ not-true _ (c .if2 .taken))
+returns-2 c =
+    let at-is-width = c .before .before .before in
+    saving-wide _ _ _ (sym (at-is-width .is-width .ensures) ∙ not-false _ (c .before .before .if1 .left)) (sym (c .before .fit .ensures)
+    ∙ not-true _ (c .if2 .taken))
 
 groups-of-requires : tie.Need-groups-of-requires
 groups-of-requires c κs = search needs
 
 div-if3 : tie.Need-div-if3
 div-if3 c =
-    let at-is-width = c .before .before .before .before in
-    let range = width-range (at-is-width .before .before .before .args .b) (sym (at-is-width .is-width .ensures) ∙ not-false _ (c .before .before .before .if1 .left)) in
+    let at-if = c .before .before .before in
+    let at-is-width = at-if .before in
+    let range = width-range (at-is-width .before .before .before .args .b) (sym (at-is-width .is-width .ensures) ∙ not-false _ (at-if .if1 .left)) in
     omega (arith, range .0)
 
 returns-3 : tie.Need-returns-3

@@ -23,8 +23,9 @@ abbrev μ-loop : tie.MeasureT-loop
 
 loop-holds : tie.Need-loop-holds Inv-loop μ-loop
 loop-holds c =
-    let none : 0 ≡ c .before .before .args .b * 0 = omega arith in
-    (omega arith, refl, ap (λ (i : ℕ). sets (c .before .before .args .bytes .now) 0 (take i (saved (c .before .before .args .b) (c .before .before .args .words .now)))) none)
+    let start = c .before .before in
+    let none : 0 ≡ start .args .b * 0 = omega arith in
+    (omega arith, refl, ap (λ (i : ℕ). sets (start .args .bytes .now) 0 (take i (saved (start .args .b) (start .args .words .now)))) none)
 
 mul-group-at : tie.Need-mul-group-at Inv-loop μ-loop
 unfolding groupsOf
@@ -35,21 +36,30 @@ group-at-requires c κs = let count = c .before .before .before .before .pre .1 
 
 slice-aggregate-save-group : tie.Need-slice-aggregate-save-group Inv-loop μ-loop
 slice-aggregate-save-group c =
-    let count = c .before .before .before .before .before .before .pre .1 in
+    let at-loop = c .before .before .before in
+    let start = at-loop .before .before .before in
+    let count = start .pre .1 in
     let more = c .before .before .loop-test .taken in
-    sym (ap length (c .before .group-at .ensures) ∙ length-group (c .before .before .before .before .before .before .args .words .now) (8 * c .before .before .before .loop .k) (omega arith))
+    sym (ap length (c .before .group-at .ensures) ∙ length-group (start .args .words .now) (8 * at-loop .loop .k) (omega arith))
 
 mul-save-group : tie.Need-mul-save-group Inv-loop μ-loop
 mul-save-group c =
-    let most = mul-le-mul-left {m = c .before .before .before .before .loop .k} {n = c .before .before .before .before .before .before .before .args .groups} (c .before .before .before .before .before .before .before .args .b) (c .before .before .before .before .loop .inv .0) in
-    omega (arith, c .before .before .before .before .before .before .before .pre .2)
+    let at-loop = c .before .before .before .before in
+    let start = at-loop .before .before .before in
+    let most = mul-le-mul-left {m = at-loop .loop .k} {n = start .args .groups} (start .args .b) (at-loop .loop .inv .0) in
+    omega (arith, start .pre .2)
 
 save-group-requires : tie.Need-save-group-requires Inv-loop μ-loop
 save-group-requires c κs =
-    let count = c .before .before .before .before .before .before .before .pre .1 in
+    let at-loop = c .before .before .before .before in
+    let start = at-loop .before .before .before in
+    let count = start .pre .1 in
     let more = c .before .before .before .loop-test .taken in
-    let most = mul-le-mul-left {m = suc (c .before .before .before .before .loop .k)} {n = c .before .before .before .before .before .before .before .args .groups} (c .before .before .before .before .before .before .before .args .b) more in
-    (c .before .before .before .before .before .before .before .pre .0, ap length (c .before .before .group-at .ensures) ∙ length-group (c .before .before .before .before .before .before .before .args .words .now) (8 * c .before .before .before .before .loop .k) (omega arith), omega (arith, c .before .before .before .before .before .before .before .pre .2, c .before .before .before .before .loop .inv .1))
+    let most = mul-le-mul-left {m = suc (at-loop .loop .k)} {n = start .args .groups} (start .args .b) more in (
+      start .pre .0,
+      ap length (c .before .before .group-at .ensures) ∙ length-group (start .args .words .now) (8 * at-loop .loop .k) (omega arith),
+      omega (arith, start .pre .2, at-loop .loop .inv .1),
+    )
 
 add-k : tie.Need-add-k Inv-loop μ-loop
 add-k c = let more = c .before .before .before .before .before .before .loop-test .taken in search needs
@@ -59,16 +69,19 @@ loop-less c = let more = c .before .before .before .before .before .before .loop
 
 loop-again : tie.Need-loop-again Inv-loop μ-loop
 loop-again c =
-    let a = c .before .before .before .before .before .before .before .before .before .before .args in
-    let l = c .before .before .before .before .before .before .before .loop in
-    let more = c .before .before .before .before .before .before .loop-test .taken in
-    let count = c .before .before .before .before .before .before .before .before .before .before .pre .1 in
+    let at-save-group = c .before .before in
+    let at-group-at = at-save-group .before .before .before in
+    let start = at-group-at .before .before .before .before .before in
+    let a = start .args in
+    let l = at-group-at .before .before .loop in
+    let more = at-group-at .before .loop-test .taken in
+    let count = start .pre .1 in
     let s = saved (a .b) (a .words .now) in
     let next : a .b * l .k + a .b ≡ a .b * (l .k + 1) = omega arith in (
       omega arith,
-      ap length (c .before .before .save-group .ensures) ∙ simp length-sets (l .inv .1),
-      c .before .before .save-group .ensures
-          ∙ ap (λ (g : List ℕ). sets (l .bytes) (a .b * l .k) (turned (a .b) g)) (c .before .before .before .before .before .group-at .ensures)
+      ap length (at-save-group .save-group .ensures) ∙ simp length-sets (l .inv .1),
+      at-save-group .save-group .ensures
+          ∙ ap (λ (g : List ℕ). sets (l .bytes) (a .b * l .k) (turned (a .b) g)) (at-group-at .group-at .ensures)
           ∙ ap (sets (l .bytes) (a .b * l .k)) (sym (saved-group (a .b) (a .words .now) (l .k) (omega arith)))
           ∙ start-more s (a .bytes .now) (a .b * l .k) (a .b) (l .inv .2)
           ∙ ap (λ (i : ℕ). sets (a .bytes .now) 0 (take i s)) next,
@@ -79,14 +92,15 @@ same-length c = c .before .loop .inv .1
 
 returns : tie.Need-returns Inv-loop μ-loop
 returns c =
-    let a = c .before .before .before .before .args in
+    let start = c .before .before .before .before in
+    let a = start .args in
     let l = c .before .loop in
     let over = c .loop-test .left in
     let most = l .inv .0 in
     let s = saved (a .b) (a .words .now) in
     let same : l .k ≡ a .groups = omega arith in
-    let long : length s ≡ a .b * a .groups = length-saved (a .b) (a .words .now) ∙ ap (λ (g : ℕ). a .b * g) (sym (c .before .before .before .before .pre .1)) in
-    start-all s (a .bytes .now) (a .b * a .groups) (omega arith) (c .before .before .before .before .pre .2) (l .inv .2 ∙ ap (λ (k : ℕ). sets (a .bytes .now) 0 (take (a .b * k) s)) same)
+    let long : length s ≡ a .b * a .groups = length-saved (a .b) (a .words .now) ∙ ap (λ (g : ℕ). a .b * g) (sym (start .pre .1)) in
+    start-all s (a .bytes .now) (a .b * a .groups) (omega arith) (start .pre .2) (l .inv .2 ∙ ap (λ (k : ℕ). sets (a .bytes .now) 0 (take (a .b * k) s)) same)
     ∙ ap (λ (r : List ℕ). r ++ drop (a .b * a .groups) (a .bytes .now)) (take-all (a .b * a .groups) s (omega arith))
 
 pub save-all-spec : {M : Type 1} → statement M

@@ -24,7 +24,9 @@ sub-turned-words : tie.Need-sub-turned-words Inv-loop μ-loop
 sub-turned-words c = search needs
 
 turned-words-requires : tie.Need-turned-words-requires Inv-loop μ-loop
-turned-words-requires c κs = (omega (arith, c .before .before .before .pre .0), c .before .before .before .pre .1)
+turned-words-requires c κs =
+    let start = c .before .before .before in
+    (omega (arith, start .pre .0), start .pre .1)
 
 mul-put-bytes : tie.Need-mul-put-bytes Inv-loop μ-loop
 mul-put-bytes c = search needs
@@ -40,12 +42,21 @@ put-bytes-requires c κs = omega (arith, c .before .before .before .before .pre 
 
 loop-holds : tie.Need-loop-holds Inv-loop μ-loop
 loop-holds c =
-    let b = c .before .before .before .before .before .before .before .args .b in
-    let none : b % 8 - b % 8 ≡ 0 = omega arith in
-    (omega arith, omega arith, omega arith, refl, sym (ap (λ (k : ℕ). sets (c .before .before .put-bytes .last .0) (c .before .before .before .before .before .before .before .args .to + b % 8) (take k (drop (b % 8) (turned b (c .before .before .before .before .before .before .before .args .group .now))))) none))
+    let start = c .before .before .before .before .before .before .before in
+    let b = start .args .b in
+    let none : b % 8 - b % 8 ≡ 0 = omega arith in (
+      omega arith,
+      omega arith,
+      omega arith,
+      refl,
+      sym (ap (λ (k : ℕ). sets (c .before .before .put-bytes .last .0) (start .args .to + b % 8)
+          (take k (drop (b % 8) (turned b (start .args .group .now))))) none),
+    )
 
 add-put-bytes : tie.Need-add-put-bytes Inv-loop μ-loop
-add-put-bytes c = omega (arith, c .before .before .before .before .before .before .before .before .before .before .pre .2, c .before .before .loop .inv .0)
+add-put-bytes c =
+    let start = c .before .before .before .before .before .before .before .before .before .before in
+    omega (arith, start .pre .2, c .before .before .loop .inv .0)
 
 sub-turned-words-2 : tie.Need-sub-turned-words-2 Inv-loop μ-loop
 sub-turned-words-2 c = omega arith
@@ -54,23 +65,32 @@ sub-turned-words-3 : tie.Need-sub-turned-words-3 Inv-loop μ-loop
 sub-turned-words-3 c = let more = c .before .loop-test .taken in omega (arith, c .before .before .loop .inv .1)
 
 turned-words-requires-2 : tie.Need-turned-words-requires-2 Inv-loop μ-loop
-turned-words-requires-2 c κs = (omega (arith, c .before .before .before .before .before .before .before .before .before .before .pre .0), c .before .before .before .before .before .before .before .before .before .before .pre .1)
+turned-words-requires-2 c κs =
+    let start = c .before .before .before .before .before .before .before .before .before .before in
+    (omega (arith, start .pre .0), start .pre .1)
 
 put-bytes-requires-2 : tie.Need-put-bytes-requires-2 Inv-loop μ-loop
 put-bytes-requires-2 c κs =
+    let at-loop = c .before .before .before in
+    let at-put-bytes = at-loop .before .before .before in
+    let start = at-put-bytes .before .before .before .before .before in
     let more = c .before .before .loop-test .taken in
-    let long : length (c .before .before .before .before .before .before .put-bytes .last .0) ≡ length (c .before .before .before .before .before .before .before .before .before .before .before .args .bytes .now) = ap length (c .before .before .before .before .before .before .put-bytes .ensures) ∙ simp length-sets in
-    omega (arith, c .before .before .before .before .before .before .before .before .before .before .before .pre .2, c .before .before .before .loop .inv .1, c .before .before .before .loop .inv .3)
+    let long : length (at-put-bytes .put-bytes .last .0) ≡ length (start .args .bytes .now) = ap length (at-put-bytes .put-bytes .ensures) ∙ simp length-sets in
+    omega (arith, start .pre .2, at-loop .loop .inv .1, at-loop .loop .inv .3)
 
 add-p : tie.Need-add-p Inv-loop μ-loop
-add-p c = omega (arith, c .before .before .before .before .before .before .before .before .before .before .before .before .before .before .pre .0)
+add-p c =
+    let start = c .before .before .before .before .before .before .before .before .before .before .before .before .before .before in
+    omega (arith, start .pre .0)
 
 loop-less : tie.Need-loop-less Inv-loop μ-loop
 loop-less c = let more = c .before .before .before .before .before .loop-test .taken in omega arith
 
 loop-again : tie.Need-loop-again Inv-loop μ-loop
 loop-again c =
-    let a = c .before .before .before .before .before .before .before .before .before .before .before .before .before .before .args in
+    let at-put-bytes = c .before .before .before .before .before .before .before .before .before in
+    let start = at-put-bytes .before .before .before .before .before in
+    let a = start .args in
     let l = c .before .before .before .before .before .before .loop in
     let more = c .before .before .before .before .before .loop-test .taken in
     let rest = l .inv .1 in
@@ -79,12 +99,12 @@ loop-again c =
     let inside : l .p + 8 ≤ b = omega arith in
     let put = c .before .before .put-bytes2 .ensures
     ∙ ap (λ (x : ℕ). sets (l .bytes) (a .to + l .p) (unpacked 8 x)) (c .before .before .before .turned-words2 .ensures)
-    ∙ ap (sets (l .bytes) (a .to + l .p)) (eight-turned b (l .p) group (c .before .before .before .before .before .before .before .before .before .before .before .before .before .before .pre .1) inside) in (
+    ∙ ap (sets (l .bytes) (a .to + l .p)) (eight-turned b (l .p) group (start .pre .1) inside) in (
       inside,
       omega arith,
       omega arith,
       ap length put ∙ simp length-sets (l .inv .3),
-      put ∙ sets-later (b % 8) (l .p) 8 (a .to) (turned b group) (c .before .before .before .before .before .before .before .before .before .put-bytes .last .0) (l .inv .2) (l .inv .4),
+      put ∙ sets-later (b % 8) (l .p) 8 (a .to) (turned b group) (at-put-bytes .put-bytes .last .0) (l .inv .2) (l .inv .4),
     )
 
 same-length : tie.Need-same-length Inv-loop μ-loop
@@ -92,7 +112,9 @@ same-length c = c .before .loop .inv .3 ∙ ap length (c .before .before .before
 
 returns : tie.Need-returns Inv-loop μ-loop
 returns c =
-    let a = c .before .before .before .before .before .before .before .before .before .args in
+    let at-turned-words = c .before .before .before .before .before in
+    let start = at-turned-words .before .before .before .before in
+    let a = start .args in
     let l = c .before .loop in
     let over = c .loop-test .left in
     let most = l .inv .0 in
@@ -102,8 +124,8 @@ returns c =
     l .inv .4
     ∙ sets-both (b % 8) (l .p) (a .to) (turned b group) (a .bytes .now) (l .inv .2) (omega (arith, length-turned b group))
     (c .before .before .before .before .put-bytes .ensures
-    ∙ ap (λ (x : ℕ). sets (a .bytes .now) (a .to) (unpacked (b % 8) (x / 256 / 2 ^ (56 - 8 * (b % 8))))) (c .before .before .before .before .before .turned-words .ensures)
-    ∙ ap (sets (a .bytes .now) (a .to)) (first-turned b (b % 8) group (c .before .before .before .before .before .before .before .before .before .pre .1) (omega arith) odd))
+    ∙ ap (λ (x : ℕ). sets (a .bytes .now) (a .to) (unpacked (b % 8) (x / 256 / 2 ^ (56 - 8 * (b % 8))))) (at-turned-words .turned-words .ensures)
+    ∙ ap (sets (a .bytes .now) (a .to)) (first-turned b (b % 8) group (start .pre .1) (omega arith) odd))
 
 pub save-group-spec : {M : Type 1} → statement M
 save-group-spec =

@@ -35,9 +35,16 @@ spread-requires c κs = omega (arith, c .shared-slice-known2 .given (c .before .
 
 add-made : tie.Need-add-made Inv-loop μ-loop
 add-made c =
-    let few = c .before .before .before .before .before .pre .0 in
+    let at-loop = c .before .before .before in
+    let start = at-loop .before .before in
+    let few = start .pre .0 in
     let more = c .before .before .loop-test .taken in
-    omega (arith, added-room _ (c .before .before .before .loop .inv .1) (omega arith), spread-small (getD (c .before .before .before .before .before .args .bytes .now) (c .before .before .before .before .before .args .at + c .before .before .before .loop .i) 0), c .spread .ensures)
+    omega (
+      arith,
+      added-room _ (at-loop .loop .inv .1) (omega arith),
+      spread-small (getD (start .args .bytes .now) (start .args .at + at-loop .loop .i) 0),
+      c .spread .ensures,
+    )
 
 add-i : tie.Need-add-i Inv-loop μ-loop
 add-i c = search needs
@@ -47,10 +54,11 @@ loop-less c = search needs
 
 loop-again : tie.Need-loop-again Inv-loop μ-loop
 loop-again c =
-    let a = c .before .before .before .before .before .args in
+    let start = c .before .before .before .before .before in
+    let a = start .args in
     let l = c .before .before .before .loop in
     let more = c .before .before .loop-test .taken in
-    let there = c .before .before .before .before .before .pre .1 in (
+    let there = start .pre .1 in (
       omega arith,
       added-more _ (l .inv .1) (omega (arith, length-part (a .n) (a .bytes .now) (a .at) there))
           (sym (part-at (a .n) (a .bytes .now) (a .at) there (l .i) more)) (c .spread .ensures),
@@ -58,10 +66,11 @@ loop-again c =
 
 returns : tie.Need-returns Inv-loop μ-loop
 returns c =
-    let a = c .before .before .before .args in
+    let start = c .before .before .before in
+    let a = start .args in
     let over = c .loop-test .left in
     let most = c .before .loop .inv .0 in
-    added-all _ (c .before .loop .inv .1) (omega (arith, length-part (a .n) (a .bytes .now) (a .at) (c .before .before .before .pre .1)))
+    added-all _ (c .before .loop .inv .1) (omega (arith, length-part (a .n) (a .bytes .now) (a .at) (start .pre .1)))
 
 pub turned-bytes-spec : {M : Type 1} → statement M
 turned-bytes-spec =

@@ -4,7 +4,8 @@ use mathlib.Core.Path.{sym}
 use native.Mathlib.Omega.{arith}
 use lib.ListN.{getD}
 use Rattle.columns.specs.Packing.{octets}
-use Rattle.columns.proofs.Packing.{Added, added-none, added-room, added-more, added-all, spread-small, length-octets, octets-at}
+use Rattle.columns.proofs.Packing.{Added, added-none, added-room, added-more, added-all, spread-small, length-octets}
+use Rattle.columns.proofs.Packing.{octets-at}
 use borrow.Author.Needs.{needs}
 use Rattle.columns.proofs.turned_words.Statement.{statement}
 use Rattle.columns.proofs.turned_words.Tie as tie
@@ -34,7 +35,15 @@ spread-requires : tie.Need-spread-requires Inv-loop μ-loop
 spread-requires c κs = search needs
 
 add-made : tie.Need-add-made Inv-loop μ-loop
-add-made c = omega (arith, added-room _ (c .before .before .before .loop .inv .1) (c .before .before .loop-test .taken), spread-small (getD (c .before .before .before .before .before .args .group .now) (c .before .before .before .loop .i) 0 / 2 ^ c .before .before .before .before .before .args .right % 256), c .spread .ensures)
+add-made c =
+    let at-loop = c .before .before .before in
+    let start = at-loop .before .before in
+    omega (
+      arith,
+      added-room _ (at-loop .loop .inv .1) (c .before .before .loop-test .taken),
+      spread-small (getD (start .args .group .now) (at-loop .loop .i) 0 / 2 ^ start .args .right % 256),
+      c .spread .ensures,
+    )
 
 add-i : tie.Need-add-i Inv-loop μ-loop
 add-i c = search needs
@@ -44,10 +53,11 @@ loop-less c = search needs
 
 loop-again : tie.Need-loop-again Inv-loop μ-loop
 loop-again c =
-    let a = c .before .before .before .before .before .args in
+    let start = c .before .before .before .before .before in
+    let a = start .args in
     let l = c .before .before .before .loop in
     let more = c .before .before .loop-test .taken in
-    let long = c .before .before .before .before .before .pre .1 in (
+    let long = start .pre .1 in (
       omega arith,
       added-more _ (l .inv .1) (omega (arith, length-octets (a .right) (a .group .now)))
           (sym (octets-at (a .right) (a .group .now) (l .i) (omega arith))) (c .spread .ensures),
@@ -55,10 +65,11 @@ loop-again c =
 
 returns : tie.Need-returns Inv-loop μ-loop
 returns c =
-    let a = c .before .before .before .args in
+    let start = c .before .before .before in
+    let a = start .args in
     let over = c .loop-test .left in
     let most = c .before .loop .inv .0 in
-    added-all _ (c .before .loop .inv .1) (omega (arith, length-octets (a .right) (a .group .now), c .before .before .before .pre .1))
+    added-all _ (c .before .loop .inv .1) (omega (arith, length-octets (a .right) (a .group .now), start .pre .1))
 
 pub turned-words-spec : {M : Type 1} → statement M
 turned-words-spec =

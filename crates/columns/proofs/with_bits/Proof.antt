@@ -46,10 +46,11 @@ loop-less c = search needs
 
 loop-again : tie.Need-loop-again Inv-loop μ-loop
 loop-again c =
-    let a = c .before .before .before .args in
+    let start = c .before .before .before in
+    let a = start .args in
     let l = c .before .before .loop in
     let more = c .before .loop-test .taken in
-    let long = c .before .before .before .pre .0 in
+    let long = start .pre .0 in
     let group = a .group .now in (
       omega arith,
       bytes-next (a .all) (l .i) (l .inv .1),
@@ -60,9 +61,10 @@ loop-again c =
 
 returns : tie.Need-returns Inv-loop μ-loop
 returns c =
-    let a = c .before .before .args in
+    let start = c .before .before in
+    let a = start .args in
     let over = c .loop-test .left in
-    fill-all 8 _ (length-longer (a .group .now) (a .all) ∙ c .before .before .pre .0) over (c .before .loop .inv .2)
+    fill-all 8 _ (length-longer (a .group .now) (a .all) ∙ start .pre .0) over (c .before .loop .inv .2)
 
 pub with-bits-spec : {M : Type 1} → statement M
 with-bits-spec =

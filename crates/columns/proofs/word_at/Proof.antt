@@ -8,16 +8,20 @@ use Rattle.columns.proofs.word_at.Tie as tie
 
 mul-row : tie.Need-mul-row
 mul-row c =
-    let inside = made-inside 8 (c .before .args .b) (c .before .args .groups) (c .before .args .bytes .now) (c .before .args .i) (omega arith) (c .before .pre .2) in
+    let inside = made-inside 8 (c .before .args .b) (c .before .args .groups) (c .before .args .bytes .now) (c .before .args .i) (omega arith)
+    (c .before .pre .2) in
     omega (arith, c .before .pre .1)
 
 row-requires : tie.Need-row-requires
 row-requires c κs =
-    let inside = made-inside 8 (c .before .args .b) (c .before .args .groups) (c .before .args .bytes .now) (c .before .args .i) (omega arith) (c .before .pre .2) in
+    let inside = made-inside 8 (c .before .args .b) (c .before .args .groups) (c .before .args .bytes .now) (c .before .args .i) (omega arith)
+    (c .before .pre .2) in
     (omega arith, c .before .pre .0, omega (arith, c .before .pre .1))
 
 returns : tie.Need-returns
-returns c = c .row .ensures ∙ sym (number-of 8 (c .before .before .args .b) (c .before .before .args .groups) (c .before .before .args .bytes .now) (c .before .before .args .i) (omega arith) (c .before .before .pre .2))
+returns c =
+    let start = c .before .before in
+    c .row .ensures ∙ sym (number-of 8 (start .args .b) (start .args .groups) (start .args .bytes .now) (start .args .i) (omega arith) (start .pre .2))
 
 pub word-at-spec : {M : Type 1} → statement M
 word-at-spec =

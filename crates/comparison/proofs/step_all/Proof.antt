@@ -8,7 +8,8 @@ use Rattle.comparison.proofs.step_all.Statement.{statement}
 use Rattle.comparison.proofs.step_all.Tie as tie
 
 abbrev Inv-loop : tie.InvT-loop
-Inv-loop state₀ table storage₀ input output₀ limit counts₀ answer₀ steps₀ taken₀ left₀ state storage output counts answer steps taken left = (taken + left ≤ limit) × (length storage ≡ length storage₀) × (length output ≡ length output₀)
+Inv-loop state₀ table storage₀ input output₀ limit counts₀ answer₀ steps₀ taken₀ left₀ state storage output counts answer steps taken left =
+    (taken + left ≤ limit) × (length storage ≡ length storage₀) × (length output ≡ length output₀)
 
 abbrev μ-loop : tie.MeasureT-loop
 μ-loop state₀ table storage₀ input output₀ limit counts₀ answer₀ steps₀ taken₀ left₀ state storage output counts answer steps taken left = left

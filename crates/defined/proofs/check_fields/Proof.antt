@@ -1,7 +1,8 @@
 -- `defined::check_fields` meets its contract: check by check. Assumes nothing.
 use mathlib.Core.Path.{sym, _∙_}
 use borrow.Author.Tests.{not-true, not-false}
-use Rattle.defined.proofs.Answering.{no-width, bad-length, ill-formed, wrong-kind, accepted, answers-no, answers-yes, promised}
+use Rattle.defined.proofs.Answering.{no-width, bad-length, ill-formed, wrong-kind, accepted, answers-no, answers-yes}
+use Rattle.defined.proofs.Answering.{promised}
 use borrow.Author.Needs.{needs}
 use Rattle.defined.proofs.check_fields.Statement.{statement}
 use Rattle.defined.proofs.check_fields.Tie as tie

@@ -32,7 +32,8 @@ put-word-requires-2 c κs = search needs
 
 put-decimal-requires : tie.Need-put-decimal-requires
 put-decimal-requires c κs =
-    let few = decimal-few 19 (c .before .before .before .before .before .before .before .before .before .before .args .row) (search needs) in
+    let start = c .before .before .before .before .before .before .before .before .before .before in
+    let few = decimal-few 19 (start .args .row) (search needs) in
     let at-put-word = c .before .before .before .before .before .before .before .put-word in
     let at-put = c .before .before .before .before .put in
     let at-put-word2 = c .before .put-word2 in
@@ -43,7 +44,8 @@ slice-aggregate-put-word-3 c = search needs
 
 put-word-requires-3 : tie.Need-put-word-requires-3
 put-word-requires-3 c κs =
-    let few = decimal-few 19 (c .before .before .before .before .before .before .before .before .before .before .before .before .before .args .row) (search needs) in
+    let start = c .before .before .before .before .before .before .before .before .before .before .before .before .before in
+    let few = decimal-few 19 (start .args .row) (search needs) in
     let at-put-word = c .before .before .before .before .before .before .before .before .before .before .put-word in
     let at-put = c .before .before .before .before .before .before .before .put in
     let at-put-word2 = c .before .before .before .before .put-word2 in
@@ -53,7 +55,8 @@ put-word-requires-3 c κs =
 returns : tie.Need-returns
 unfolding noLine spelled
 returns c =
-    let at-args = c .before .before .before .before .before .before .before .before .before .before .before .before .before .before .args in
+    let start-2 = c .before .before .before .before .before .before .before .before .before .before .before .before .before .before in
+    let at-args = start-2 .args in
     let at-put-word = c .before .before .before .before .before .before .before .before .before .before .before .put-word in
     let at-put = c .before .before .before .before .before .before .before .before .put in
     let at-put-word2 = c .before .before .before .before .before .put-word2 in

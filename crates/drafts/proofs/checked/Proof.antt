@@ -9,8 +9,9 @@ use Rattle.drafts.proofs.checked.Tie as tie
 
 slice-aggregate-check-fields : tie.Need-slice-aggregate-check-fields
 slice-aggregate-check-fields c =
-    let long : length (c .before .before .args .table .now) ≡ 16384 = search needs in
-    sym (length-take-le _ _ (omega (arith, c .before .before .pre)))
+    let start = c .before .before in
+    let long : length (start .args .table .now) ≡ 16384 = search needs in
+    sym (length-take-le _ _ (omega (arith, start .pre)))
 
 check-fields-requires : tie.Need-check-fields-requires
 check-fields-requires c κs = search needs

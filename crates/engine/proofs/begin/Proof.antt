@@ -4,7 +4,8 @@ use mathlib.Core.Path.{sym, _∙_}
 use borrow.Author.Tests.{not-true, not-false}
 use Rattle.word.proofs.Width.{width-range}
 use Rattle.engine.specs.Starting.{goes}
-use Rattle.engine.proofs.First.{any-table, finished-is, unfinished-is, first-no-width, first-unsound, first-finished, first-length}
+use Rattle.engine.proofs.First.{any-table, finished-is, unfinished-is, first-no-width, first-unsound, first-finished}
+use Rattle.engine.proofs.First.{first-length}
 use borrow.Author.Needs.{needs}
 use Rattle.engine.proofs.begin.Statement.{statement}
 use Rattle.engine.proofs.begin.Tie as tie

@@ -5,7 +5,8 @@ use borrow.Author.Tests.{not-true, not-false}
 use Rattle.word.proofs.Width.{width-range}
 use Rattle.block.proofs.Extension.{extending-facts}
 use Rattle.machine.specs.Extend.{notExtended}
-use Rattle.extension.proofs.Extending.{numbers-fit, numbers-order, blocks-keep, extend-no-width, extend-unsound, extend-early, extend-refused, extend-done, numbered}
+use Rattle.extension.proofs.Extending.{numbers-fit, numbers-order, blocks-keep, extend-no-width, extend-unsound}
+use Rattle.extension.proofs.Extending.{extend-early, extend-refused, extend-done, numbered}
 use borrow.Author.Needs.{needs}
 use Rattle.extension.proofs.extend.Statement.{statement}
 use Rattle.extension.proofs.extend.Tie as tie

@@ -14,26 +14,36 @@ slice-aggregate-extend-map c = search needs
 
 extend-map-requires : tie.Need-extend-map-requires
 extend-map-requires c κs =
-    ((_, c .before .before .before .pre .0, c .before .before .before .pre .1), c .before .before .before .pre .2, map-room _ _ (c .before .before .before .args .core .setup) (c .before .before .before .pre .0) (c .before .before .before .pre .1) _ (search needs))
+    let start = c .before .before .before in
+    ((_, start .pre .0, start .pre .1), start .pre .2, map-room _ _ (start .args .core .setup) (start .pre .0) (start .pre .1) _ (search needs))
 
 words-of-requires : tie.Need-words-of-requires
 words-of-requires c κs = search needs
 
 sub-zero-words : tie.Need-sub-zero-words
-sub-zero-words c = omega (arith, extending-facts _ _ (c .before .before .before .before .before .before .before .before .args .core .setup) (c .before .before .before .before .before .before .before .before .pre .1) .later)
+sub-zero-words c =
+    let start = c .before .before .before .before .before .before .before .before in
+    omega (arith, extending-facts _ _ (start .args .core .setup) (start .pre .1) .later)
 
 cast-zero-words : tie.Need-cast-zero-words
 cast-zero-words c = search needs
 
 zero-words-requires : tie.Need-zero-words-requires
-zero-words-requires c κs = omega (arith, c .before .words-of .ensures, added-lies _ _ (c .before .before .before .before .before .before .before .before .args .core .setup) (c .before .before .before .before .before .before .before .before .pre .0) (c .before .before .before .before .before .before .before .before .pre .1))
+zero-words-requires c κs =
+    let start = c .before .before .before .before .before .before .before .before in
+    omega (arith, c .before .words-of .ensures, added-lies _ _ (start .args .core .setup) (start .pre .0) (start .pre .1))
 
 same-length : tie.Need-same-length
 same-length c = search needs
 
 returns : tie.Need-returns
 unfolding withSetUp extendedTo
-returns c = engine-made (c .before .before .before .before .before .before .before .before .before .before .before .args .last) (c .before .before .before .before .before .before .before .before .before .before .before .args .width) (c .before .before .before .before .before .before .before .before .before .before .before .args .core) (c .before .before .before .before .before .before .before .before .before .before .before .args .first) _ (c .before .before .before .before .before .before .before .before .before .before .before .args .storage .now) _ (c .before .before .before .before .before .before .before .extend-map .ensures) (c .before .before .zero-words .ensures ∙ rw (c .before .before .before .before .words-of .ensures) refl)
+returns c =
+    let at-words-of = c .before .before .before .before in
+    let at-extend-map = at-words-of .before .before .before in
+    let start = at-extend-map .before .before .before .before in
+    engine-made (start .args .last) (start .args .width) (start .args .core) (start .args .first) _ (start .args .storage .now) _
+    (at-extend-map .extend-map .ensures) (c .before .before .zero-words .ensures ∙ rw (at-words-of .words-of .ensures) refl)
 
 pub grown-spec : {M : Type 1} → statement M
 grown-spec =

@@ -22,8 +22,9 @@ returns-2 c = search needs
 
 returns-3 : tie.Need-returns-3
 returns-3 c =
-    let long : length (c .before .before .before .arg .last .1 .0) ≡ 8 = search needs in
-    (omega arith, sym (length-take-le 8 (c .before .before .before .arg .last .1 .0) (omega arith)))
+    let at-arg = c .before .before .before in
+    let long : length (at-arg .arg .last .1 .0) ≡ 8 = search needs in
+    (omega arith, sym (length-take-le 8 (at-arg .arg .last .1 .0) (omega arith)))
 
 pub first-word-spec : {M : Type 1} → statement M
 first-word-spec = tie.close (tie.spec arg-requires returns arg-count-requires returns-2 returns-3)

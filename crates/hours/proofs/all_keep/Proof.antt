@@ -28,10 +28,17 @@ keeps-rules-requires : tie.Need-keeps-rules-requires Inv-loop μ-loop
 keeps-rules-requires c κs = search needs
 
 returns : tie.Need-returns Inv-loop μ-loop
-returns c = walk-found (c .before .before .before .before .loop .inv) (c .before .before .before .loop-test .taken) _ (c .before .before .entry-at .ensures) _ (all-keep _ _ _ (sym (c .before .keeps-rules .ensures) ∙ not-true _ (c .if1 .taken)))
+returns c =
+    let at-loop-test = c .before .before .before in
+    let at-loop = at-loop-test .before in
+    walk-found (at-loop .loop .inv) (at-loop-test .loop-test .taken) _ (c .before .before .entry-at .ensures) _
+    (all-keep _ _ _ (sym (c .before .keeps-rules .ensures) ∙ not-true _ (c .if1 .taken)))
 
 add-at : tie.Need-add-at Inv-loop μ-loop
-add-at c = record { fits = omega (arith, walk-inside (c .before .before .before .before .loop .inv) (c .before .before .before .loop-test .taken)) }
+add-at c =
+    let at-loop-test = c .before .before .before in
+    let at-loop = at-loop-test .before in
+    record { fits = omega (arith, walk-inside (at-loop .loop .inv) (at-loop-test .loop-test .taken)) }
 
 sub-left : tie.Need-sub-left Inv-loop μ-loop
 sub-left c = search needs
@@ -40,7 +47,11 @@ loop-less : tie.Need-loop-less Inv-loop μ-loop
 loop-less c = search needs
 
 loop-again : tie.Need-loop-again Inv-loop μ-loop
-loop-again c = walk-next (c .before .before .before .before .loop .inv) (c .before .before .before .loop-test .taken) _ (c .before .before .entry-at .ensures) (all-keep _ _ _ (sym (c .before .keeps-rules .ensures) ∙ not-false _ (c .if1 .left)))
+loop-again c =
+    let at-loop-test = c .before .before .before in
+    let at-loop = at-loop-test .before in
+    walk-next (at-loop .loop .inv) (at-loop-test .loop-test .taken) _ (c .before .before .entry-at .ensures)
+    (all-keep _ _ _ (sym (c .before .keeps-rules .ensures) ∙ not-false _ (c .if1 .left)))
 
 returns-2 : tie.Need-returns-2 Inv-loop μ-loop
 unfolding allKeep

@@ -23,10 +23,16 @@ entry-at-requires : tie.Need-entry-at-requires Inv-loop μ-loop
 entry-at-requires c κs = (search needs, walk-inside (c .before .loop .inv) (c .loop-test .taken))
 
 returns : tie.Need-returns Inv-loop μ-loop
-returns c = walk-found (c .before .before .before .before .loop .inv) (c .before .before .before .loop-test .taken) _ (c .before .before .entry-at .ensures) _ (λ es. names-first _ _ es (c .if1 .taken))
+returns c =
+    let at-loop-test = c .before .before .before in
+    let at-loop = at-loop-test .before in
+    walk-found (at-loop .loop .inv) (at-loop-test .loop-test .taken) _ (c .before .before .entry-at .ensures) _ (λ es. names-first _ _ es (c .if1 .taken))
 
 add-at : tie.Need-add-at Inv-loop μ-loop
-add-at c = record { fits = omega (arith, walk-inside (c .before .before .before .before .loop .inv) (c .before .before .before .loop-test .taken)) }
+add-at c =
+    let at-loop-test = c .before .before .before in
+    let at-loop = at-loop-test .before in
+    record { fits = omega (arith, walk-inside (at-loop .loop .inv) (at-loop-test .loop-test .taken)) }
 
 sub-left : tie.Need-sub-left Inv-loop μ-loop
 sub-left c = search needs
@@ -35,7 +41,10 @@ loop-less : tie.Need-loop-less Inv-loop μ-loop
 loop-less c = search needs
 
 loop-again : tie.Need-loop-again Inv-loop μ-loop
-loop-again c = walk-next (c .before .before .before .before .loop .inv) (c .before .before .before .loop-test .taken) _ (c .before .before .entry-at .ensures) (λ es. names-later _ _ es (c .if1 .left))
+loop-again c =
+    let at-loop-test = c .before .before .before in
+    let at-loop = at-loop-test .before in
+    walk-next (at-loop .loop .inv) (at-loop-test .loop-test .taken) _ (c .before .before .entry-at .ensures) (λ es. names-later _ _ es (c .if1 .left))
 
 returns-2 : tie.Need-returns-2 Inv-loop μ-loop
 unfolding anyNames

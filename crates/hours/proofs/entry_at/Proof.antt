@@ -28,8 +28,9 @@ entry-of-requires c κs = simp (length-take, length-drop) (omega arith)
 
 returns : tie.Need-returns
 returns c =
-    let long : c .before .before .before .args .at + c .before .before .before .args .n - c .before .before .before .args .at ≡ c .before .before .before .args .n = omega arith in
-    c .entry-of .ensures ∙ ap (λ (m : ℕ). entryOf (take m (drop (c .before .before .before .args .at) (c .before .before .before .args .list .now)))) long
+    let start = c .before .before .before in
+    let long : start .args .at + start .args .n - start .args .at ≡ start .args .n = omega arith in
+    c .entry-of .ensures ∙ ap (λ (m : ℕ). entryOf (take m (drop (start .args .at) (start .args .list .now)))) long
 
 pub entry-at-spec : {M : Type 1} → statement M
 entry-at-spec =

@@ -24,7 +24,9 @@ shared-slice-read-t15 c = search needs
 
 returns : tie.Need-returns
 unfolding entryOf
-returns c = ⊎-elim (λ w. rw (w .2)) (λ w. rw (w .1, List·getD-eq-default {A = ℕ} _ 0 (w .0 .left))) (c .before .before .before .before .if1 .came)
+returns c =
+    let at-if = c .before .before .before .before in
+    ⊎-elim (λ w. rw (w .2)) (λ w. rw (w .1, List·getD-eq-default {A = ℕ} _ 0 (w .0 .left))) (at-if .if1 .came)
 
 pub entry-of-spec : {M : Type 1} → statement M
 entry-of-spec =

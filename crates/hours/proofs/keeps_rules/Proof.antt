@@ -18,15 +18,20 @@ has-hours-requires : tie.Need-has-hours-requires
 has-hours-requires c κs = search needs
 
 returns-2 : tie.Need-returns-2
-returns-2 c = c .has-hours .ensures ∙ keeps-open _ _ (sym (c .before .before .before .before .has-name .ensures) ∙ not-false _ (c .before .before .before .if1 .left)) (c .before .if2 .taken)
+returns-2 c =
+    let at-if = c .before .before .before in
+    let at-has-name = at-if .before in
+    c .has-hours .ensures ∙ keeps-open _ _ (sym (at-has-name .has-name .ensures) ∙ not-false _ (at-if .if1 .left)) (c .before .if2 .taken)
 
 has-zeros-requires : tie.Need-has-zeros-requires
 has-zeros-requires c κs = search needs
 
 returns-3 : tie.Need-returns-3
 returns-3 c =
-    ap (λ (t : Bool). eqb (c .before .before .before .before .before .before .args .e .closed) 1 && t) (c .has-zeros .ensures)
-    ∙ keeps-other _ _ (sym (c .before .before .before .before .before .has-name .ensures) ∙ not-false _ (c .before .before .before .before .if1 .left)) (c .before .before .if2 .left)
+    let at-if = c .before .before .before .before in
+    let at-has-name = at-if .before in
+    ap (λ (t : Bool). eqb (at-has-name .before .args .e .closed) 1 && t) (c .has-zeros .ensures)
+    ∙ keeps-other _ _ (sym (at-has-name .has-name .ensures) ∙ not-false _ (at-if .if1 .left)) (c .before .before .if2 .left)
 
 pub keeps-rules-spec : {M : Type 1} → statement M
 keeps-rules-spec =

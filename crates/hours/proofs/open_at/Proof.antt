@@ -20,13 +20,15 @@ list-keeps-requires-2 c κs = search needs
 returns-2 : tie.Need-returns-2
 returns-2 c =
     let first = c .before .before in
-    exceptions-broken _ _ _ _ (sym (first .before .list-keeps .ensures) ∙ not-false _ (first .if1 .left)) (sym (c .before .list-keeps2 .ensures) ∙ not-true _ (c .if2 .taken))
+    exceptions-broken _ _ _ _ (sym (first .before .list-keeps .ensures) ∙ not-false _ (first .if1 .left)) (sym (c .before .list-keeps2 .ensures)
+    ∙ not-true _ (c .if2 .taken))
 
 returns-3 : tie.Need-returns-3
 returns-3 c =
     let second = c .before in
     let first = second .before .before in
-    minute-late _ _ _ _ (sym (first .before .list-keeps .ensures) ∙ not-false _ (first .if1 .left)) (sym (second .before .list-keeps2 .ensures) ∙ not-false _ (second .if2 .left))
+    minute-late _ _ _ _ (sym (first .before .list-keeps .ensures) ∙ not-false _ (first .if1 .left)) (sym (second .before .list-keeps2 .ensures)
+    ∙ not-false _ (second .if2 .left))
     (c .if3 .taken)
 
 any-names-requires : tie.Need-any-names-requires
@@ -37,10 +39,12 @@ first-holding-requires c κs = search needs
 
 returns-4 : tie.Need-returns-4
 returns-4 c =
-    let second = c .before .before .before .before in
+    let at-if = c .before .before .before in
+    let second = at-if .before in
     let first = second .before .before in
-    by-exceptions _ _ _ _ (sym (first .before .list-keeps .ensures) ∙ not-false _ (first .if1 .left)) (sym (second .before .list-keeps2 .ensures) ∙ not-false _ (second .if2 .left))
-    (c .before .before .before .if3 .left) (sym (c .before .before .any-names .ensures) ∙ c .before .if4 .taken) _ (c .first-holding .ensures .0)
+    by-exceptions _ _ _ _ (sym (first .before .list-keeps .ensures) ∙ not-false _ (first .if1 .left)) (sym (second .before .list-keeps2 .ensures)
+    ∙ not-false _ (second .if2 .left))
+    (at-if .if3 .left) (sym (c .before .before .any-names .ensures) ∙ c .before .if4 .taken) _ (c .first-holding .ensures .0)
 
 weekday-of-requires : tie.Need-weekday-of-requires
 weekday-of-requires c κs = search needs
@@ -54,7 +58,8 @@ returns-5 c =
     let second = at-names .before .before in
     let first = second .before .before in
     let args = first .before .before .before .before .args in
-    by-windows _ _ _ _ (sym (first .before .list-keeps .ensures) ∙ not-false _ (first .if1 .left)) (sym (second .before .list-keeps2 .ensures) ∙ not-false _ (second .if2 .left))
+    by-windows _ _ _ _ (sym (first .before .list-keeps .ensures) ∙ not-false _ (first .if1 .left)) (sym (second .before .list-keeps2 .ensures)
+    ∙ not-false _ (second .if2 .left))
     (at-names .before .if3 .left) (sym (at-names .any-names .ensures) ∙ c .before .before .if4 .left) _
     (c .first-holding2 .ensures .0
     ∙ ap (λ (k : ℕ). firstHolding (args .minute) (naming k (entries window (args .windows .now)))) (c .before .weekday-of .ensures))

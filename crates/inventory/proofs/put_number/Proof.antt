@@ -11,8 +11,9 @@ use Rattle.inventory.proofs.put_number.Tie as tie
 
 put-decimal-requires : tie.Need-put-decimal-requires
 put-decimal-requires c κs =
-    let few = decimal-few 19 (c .before .before .args .n) (search needs) in
-    (omega (arith, c .before .before .pre .0), search needs)
+    let start = c .before .before in
+    let few = decimal-few 19 (start .args .n) (search needs) in
+    (omega (arith, start .pre .0), search needs)
 
 put-requires : tie.Need-put-requires
 put-requires c κs =

@@ -19,13 +19,17 @@ at-most-4096-requires c κs = search needs
 
 array-share-prefix-table : tie.Need-array-share-prefix-table
 array-share-prefix-table c =
-    let long : length (c .before .before .read-table .last .1 .0) ≡ 8000 = search needs in
-    omega (arith, table-most (c .before .before .before .before .before .before .args .tab .now), c .before .before .read-table .ensures .0)
+    let at-read-table = c .before .before in
+    let start = at-read-table .before .before .before .before in
+    let long : length (at-read-table .read-table .last .1 .0) ≡ 8000 = search needs in
+    omega (arith, table-most (start .args .tab .now), at-read-table .read-table .ensures .0)
 
 slice-aggregate-play : tie.Need-slice-aggregate-play
 slice-aggregate-play c =
-    let long : length (c .before .before .before .read-table .last .1 .0) ≡ 8000 = search needs in
-    sym (length-take-le _ _ (omega (arith, table-most (c .before .before .before .before .before .before .before .args .tab .now), c .before .before .before .read-table .ensures .0)))
+    let at-read-table = c .before .before .before in
+    let start = at-read-table .before .before .before .before in
+    let long : length (at-read-table .read-table .last .1 .0) ≡ 8000 = search needs in
+    sym (length-take-le _ _ (omega (arith, table-most (start .args .tab .now), at-read-table .read-table .ensures .0)))
 
 slice-aggregate-play-2 : tie.Need-slice-aggregate-play-2
 slice-aggregate-play-2 c = sym (length-take-le _ _ (omega (arith, c .before .before .at-most-4096 .ensures)))

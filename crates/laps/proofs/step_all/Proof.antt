@@ -6,7 +6,8 @@ use Rattle.laps.proofs.step_all.Statement.{statement}
 use Rattle.laps.proofs.step_all.Tie as tie
 
 abbrev Inv-loop : tie.InvT-loop
-Inv-loop table storage₀ input output₀ state₀ answer₀ sum₀ count₀ left₀ storage output state answer sum count left = (length storage ≡ length storage₀) × (length output ≡ length output₀)
+Inv-loop table storage₀ input output₀ state₀ answer₀ sum₀ count₀ left₀ storage output state answer sum count left = (length storage ≡ length storage₀)
+    × (length output ≡ length output₀)
 
 abbrev μ-loop : tie.MeasureT-loop
 μ-loop table storage₀ input output₀ state₀ answer₀ sum₀ count₀ left₀ storage output state answer sum count left = left

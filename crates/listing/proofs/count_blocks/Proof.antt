@@ -19,7 +19,8 @@ abbrev μ-loop : tie.MeasureT-loop
 μ-loop live setup map i₀ n₀ i n = words setup - i
 
 loop-holds : tie.Need-loop-holds Inv-loop μ-loop
-loop-holds c = counting-none _ _ _ _ _ (passed-none (c .before .args .live) (c .before .args .setup) (c .before .args .map .now) (c .before .pre .0) (c .before .pre .1))
+loop-holds c = counting-none _ _ _ _ _ (passed-none (c .before .args .live) (c .before .args .setup) (c .before .args .map .now) (c .before .pre .0)
+    (c .before .pre .1))
 
 words-of-requires : tie.Need-words-of-requires Inv-loop μ-loop
 words-of-requires c κs = search needs
@@ -44,10 +45,16 @@ add-n c =
     record { fits = omega (arith, byte-most (c .is-wanted .result), at-loop .loop .inv .few, at-loop .loop .inv .passed .0, words-le (entry .args .setup)) }
 
 sub-size-of : tie.Need-sub-size-of Inv-loop μ-loop
-sub-size-of c = met _ _ _ _ _ (c .before .before .before .before .loop .inv) (omega (arith, c .before .before .before .words-of .ensures, c .before .before .if1 .taken)) .tagged
+sub-size-of c =
+    let at-words-of = c .before .before .before in
+    let at-loop = at-words-of .before in
+    met _ _ _ _ _ (at-loop .loop .inv) (omega (arith, at-words-of .words-of .ensures, c .before .before .if1 .taken)) .tagged
 
 size-of-requires : tie.Need-size-of-requires Inv-loop μ-loop
-size-of-requires c κs = met _ _ _ _ _ (c .before .before .before .before .loop .inv) (omega (arith, c .before .before .before .words-of .ensures, c .before .before .if1 .taken)) .level
+size-of-requires c κs =
+    let at-words-of = c .before .before .before in
+    let at-loop = at-words-of .before in
+    met _ _ _ _ _ (at-loop .loop .inv) (omega (arith, at-words-of .words-of .ensures, c .before .before .if1 .taken)) .level
 
 add-i : tie.Need-add-i Inv-loop μ-loop
 add-i c =
@@ -56,7 +63,8 @@ add-i c =
     let at-words-of = at-if1 .before in
     let at-loop = at-words-of .before in
     let entry = at-loop .before .before in
-    let next = counting-next _ _ _ _ _ (at-loop .loop .inv) (omega (arith, at-words-of .words-of .ensures, at-if1 .if1 .taken)) (at-is-wanted .is-wanted .ensures)
+    let next = counting-next _ _ _ _ _ (at-loop .loop .inv) (omega (arith, at-words-of .words-of .ensures, at-if1 .if1 .taken))
+    (at-is-wanted .is-wanted .ensures)
     (c .size-of .ensures) in record { fits = omega (arith, next .passed .0, words-le (entry .args .setup)) }
 
 loop-less : tie.Need-loop-less Inv-loop μ-loop
@@ -65,7 +73,13 @@ loop-less c =
     let at-words-of = at-if1 .before in
     let at-loop = at-words-of .before in
     let entry = at-loop .before .before in
-    omega (arith, at-words-of .words-of .ensures, at-if1 .if1 .taken, c .size-of .ensures, size-pos ((getD (entry .args .map .now) (at-loop .loop .i) 0 - 1) / 2))
+    omega (
+      arith,
+      at-words-of .words-of .ensures,
+      at-if1 .if1 .taken,
+      c .size-of .ensures,
+      size-pos ((getD (entry .args .map .now) (at-loop .loop .i) 0 - 1) / 2),
+    )
 
 loop-again : tie.Need-loop-again Inv-loop μ-loop
 loop-again c =
@@ -73,14 +87,16 @@ loop-again c =
     let at-if1 = at-is-wanted .before .before in
     let at-words-of = at-if1 .before in
     let at-loop = at-words-of .before in
-    counting-next _ _ _ _ _ (at-loop .loop .inv) (omega (arith, at-words-of .words-of .ensures, at-if1 .if1 .taken)) (at-is-wanted .is-wanted .ensures) (c .size-of .ensures)
+    counting-next _ _ _ _ _ (at-loop .loop .inv) (omega (arith, at-words-of .words-of .ensures, at-if1 .if1 .taken))
+    (at-is-wanted .is-wanted .ensures) (c .size-of .ensures)
 
 returns : tie.Need-returns Inv-loop μ-loop
 returns c =
     let at-words-of = c .before in
     let at-loop = at-words-of .before in
     let entry = at-loop .before .before in
-    let all = counting-all _ _ _ _ _ (at-loop .loop .inv) (omega (arith, at-words-of .words-of .ensures, c .if1 .left)) in (all, omega (arith, at-loop .loop .inv .few, at-loop .loop .inv .passed .0, words-le (entry .args .setup)))
+    let all = counting-all _ _ _ _ _ (at-loop .loop .inv) (omega (arith, at-words-of .words-of .ensures, c .if1 .left)) in
+    (all, omega (arith, at-loop .loop .inv .few, at-loop .loop .inv .passed .0, words-le (entry .args .setup)))
 
 pub count-blocks-spec : {M : Type 1} → statement M
 count-blocks-spec =

@@ -15,7 +15,8 @@ use Rattle.listing.proofs.list_blocks.Statement.{statement}
 use Rattle.listing.proofs.list_blocks.Tie as tie
 
 abbrev Inv-loop : tie.InvT-loop
-Inv-loop live setup map list₀ end i₀ n₀ list i n = (long : length list₀ ≡ length (numbersOf (blocks live setup map))) → Listing live (setup .s1) (words setup) map (blocks live setup map) list₀ long list i n
+Inv-loop live setup map list₀ end i₀ n₀ list i n = (long : length list₀ ≡ length (numbersOf (blocks live setup map)))
+    → Listing live (setup .s1) (words setup) map (blocks live setup map) list₀ long list i n
 
 abbrev μ-loop : tie.MeasureT-loop
 μ-loop live setup map list₀ end i₀ n₀ list i n = end - i
@@ -33,7 +34,12 @@ shared-slice-read-tag c =
     let at-loop-test = c .before in
     let at-words-of = at-loop-test .before .before in
     let entry = at-words-of .before .before .before in
-    omega (arith, at-words-of .words-of .ensures, at-loop-test .loop-test .taken, keeps-words (entry .args .setup) (entry .args .map .now) (entry .pre .0) (entry .pre .1))
+    omega (
+      arith,
+      at-words-of .words-of .ensures,
+      at-loop-test .loop-test .taken,
+      keeps-words (entry .args .setup) (entry .args .map .now) (entry .pre .0) (entry .pre .1),
+    )
 
 sub-size-of : tie.Need-sub-size-of Inv-loop μ-loop
 sub-size-of c =
@@ -41,7 +47,11 @@ sub-size-of c =
     let at-loop = at-loop-test .before in
     let at-words-of = at-loop .before in
     let entry = at-words-of .before .before .before in
-    found _ _ _ _ _ _ (entry .pre .2) (at-loop .loop .inv (entry .pre .2)) (omega (arith, at-words-of .words-of .ensures, at-loop-test .loop-test .taken)) .tagged
+    found _ _ _ _ _ _ (entry .pre .2) (at-loop .loop .inv (entry .pre .2)) (omega (
+      arith,
+      at-words-of .words-of .ensures,
+      at-loop-test .loop-test .taken,
+    )) .tagged
 
 size-of-requires : tie.Need-size-of-requires Inv-loop μ-loop
 size-of-requires c κs =
@@ -49,7 +59,11 @@ size-of-requires c κs =
     let at-loop = at-loop-test .before in
     let at-words-of = at-loop .before in
     let entry = at-words-of .before .before .before in
-    found _ _ _ _ _ _ (entry .pre .2) (at-loop .loop .inv (entry .pre .2)) (omega (arith, at-words-of .words-of .ensures, at-loop-test .loop-test .taken)) .level
+    found _ _ _ _ _ _ (entry .pre .2) (at-loop .loop .inv (entry .pre .2)) (omega (
+      arith,
+      at-words-of .words-of .ensures,
+      at-loop-test .loop-test .taken,
+    )) .level
 
 is-wanted-requires : tie.Need-is-wanted-requires Inv-loop μ-loop
 is-wanted-requires c κs = search needs
@@ -72,7 +86,11 @@ put-block-requires c κs =
     let at-loop = at-loop-test .before in
     let at-words-of = at-loop .before in
     let entry = at-words-of .before .before .before in
-    room _ _ _ _ _ _ (entry .pre .2) (at-loop .loop .inv (entry .pre .2)) (omega (arith, at-words-of .words-of .ensures, at-loop-test .loop-test .taken)) (at-is-wanted .is-wanted .ensures) (at-size-of .size-of .ensures)
+    room _ _ _ _ _ _ (entry .pre .2) (at-loop .loop .inv (entry .pre .2)) (omega (
+      arith,
+      at-words-of .words-of .ensures,
+      at-loop-test .loop-test .taken,
+    )) (at-is-wanted .is-wanted .ensures) (at-size-of .size-of .ensures)
 
 add-i : tie.Need-add-i Inv-loop μ-loop
 add-i c =
@@ -106,7 +124,8 @@ loop-again c =
     let at-loop-test = at-size-of .before .before in
     let at-loop = at-loop-test .before in
     let at-words-of = at-loop .before in
-    λ long. listing-next _ _ _ _ _ _ long (at-loop .loop .inv long) (omega (arith, at-words-of .words-of .ensures, at-loop-test .loop-test .taken)) (at-is-wanted .is-wanted .ensures) (at-size-of .size-of .ensures)
+    λ long. listing-next _ _ _ _ _ _ long (at-loop .loop .inv long) (omega (arith, at-words-of .words-of .ensures, at-loop-test .loop-test .taken))
+    (at-is-wanted .is-wanted .ensures) (at-size-of .size-of .ensures)
     (at-put-block .put-block .ensures .1) (at-put-block .put-block .ensures .0)
 
 same-length : tie.Need-same-length Inv-loop μ-loop

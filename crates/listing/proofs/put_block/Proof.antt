@@ -26,7 +26,8 @@ mul-list-2 c = search needs
 
 slice-write-list-2 : tie.Need-slice-write-list-2
 unfolding pairIf
-slice-write-list-2 c = let two : c .before .args .n + 2 ≤ length (c .before .args .list .now) = rw (c .if1 .taken) at (c .before .pre) in simp length-set (omega arith)
+slice-write-list-2 c = let two : c .before .args .n + 2 ≤ length (c .before .args .list .now) = rw (c .if1 .taken) at (c .before .pre) in
+    simp length-set (omega arith)
 
 add-result : tie.Need-add-result
 unfolding pairIf

@@ -26,7 +26,9 @@ mul-number : tie.Need-mul-number Inv-loop μ-loop
 mul-number c = omega (arith, low-fits (c .before .loop .inv) (c .loop-test .taken) (c .before .before .pre .0) 0 (omega arith))
 
 add-number : tie.Need-add-number Inv-loop μ-loop
-add-number c = record { fits = omega (arith, c .before .loop .inv .few, c .before .before .pre .1, c .before .before .good .0 .0) }
+add-number c =
+    let start = c .before .before in
+    record { fits = omega (arith, c .before .loop .inv .few, start .pre .1, start .good .0 .0) }
 
 shared-slice-read-number : tie.Need-shared-slice-read-number Inv-loop μ-loop
 shared-slice-read-number c = omega (arith, c .before .before .loop .inv .few, c .before .before .before .pre .1)
@@ -35,16 +37,22 @@ cast-number : tie.Need-cast-number Inv-loop μ-loop
 cast-number c = record { fits = byte-fits _ (c .shared-slice-known .given _ .fits) }
 
 add-number-2 : tie.Need-add-number-2 Inv-loop μ-loop
-add-number-2 c = record { fits = low-fits (c .before .before .loop .inv) (c .before .loop-test .taken) (c .before .before .before .pre .0) _ (c .shared-slice-known .given _ .fits) }
+add-number-2 c =
+    let start = c .before .before .before in
+    record { fits = low-fits (c .before .before .loop .inv) (c .before .loop-test .taken) (start .pre .0) _ (c .shared-slice-known .given _ .fits) }
 
 loop-less : tie.Need-loop-less Inv-loop μ-loop
 loop-less c = search needs
 
 loop-again : tie.Need-loop-again Inv-loop μ-loop
-loop-again c = low-next (c .before .before .loop .inv) (c .before .loop-test .taken) (c .before .before .before .pre .1) (c .shared-slice-known .given _ .fits)
+loop-again c =
+    let start = c .before .before .before in
+    low-next (c .before .before .loop .inv) (c .before .loop-test .taken) (start .pre .1) (c .shared-slice-known .given _ .fits)
 
 returns : tie.Need-returns Inv-loop μ-loop
-returns c = low-all (c .before .before .args .bytes .now) (c .before .before .args .at) (c .before .before .args .n) (c .before .loop .left) (c .before .loop .number) (c .before .loop .inv) (omega arith)
+returns c =
+    let start = c .before .before in
+    low-all (start .args .bytes .now) (start .args .at) (start .args .n) (c .before .loop .left) (c .before .loop .number) (c .before .loop .inv) (omega arith)
 
 pub number-at-spec : {M : Type 1} → statement M
 number-at-spec =

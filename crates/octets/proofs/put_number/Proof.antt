@@ -21,7 +21,9 @@ cast-bytes : tie.Need-cast-bytes Inv-loop μ-loop
 cast-bytes c = search needs
 
 add-bytes : tie.Need-add-bytes Inv-loop μ-loop
-add-bytes c = record { fits = omega (arith, c .before .loop .inv .1 .long, c .before .before .pre, c .before .before .good .0 .0) }
+add-bytes c =
+    let start = c .before .before in
+    record { fits = omega (arith, c .before .loop .inv .1 .long, start .pre, start .good .0 .0) }
 
 slice-write-bytes : tie.Need-slice-write-bytes Inv-loop μ-loop
 slice-write-bytes c = omega (arith, c .before .loop .inv .1 .long)

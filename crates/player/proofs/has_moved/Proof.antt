@@ -9,7 +9,9 @@ returns : tie.Need-returns
 returns c = moved-many (c .before .args .kind) (c .before .args .answer) (c .before .args .count) (c .if1 .taken)
 
 returns-2 : tie.Need-returns-2
-returns-2 c = moved-finished (c .before .before .args .kind) (c .before .before .args .answer) (c .before .before .args .count) (c .before .if1 .left) (c .if2 .taken)
+returns-2 c =
+    let start = c .before .before in
+    moved-finished (start .args .kind) (start .args .answer) (start .args .count) (c .before .if1 .left) (c .if2 .taken)
 
 enum-told : tie.Need-enum-told
 enum-told c = search needs

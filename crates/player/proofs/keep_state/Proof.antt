@@ -23,7 +23,8 @@ returns-2 c =
     let at-write-state = c .before .before in
     let at-if1 = at-write-state .before .before in
     let at-has-moved = at-if1 .before in
-    written _ _ _ (sym (at-has-moved .has-moved .ensures) ∙ not-false _ (at-if1 .if1 .left)) (at-write-state .write-state .ensures .0) (at-write-state .write-state .ensures .1)
+    written _ _ _ (sym (at-has-moved .has-moved .ensures) ∙ not-false _ (at-if1 .if1 .left)) (at-write-state .write-state .ensures .0)
+    (at-write-state .write-state .ensures .1)
 
 pub keep-state-spec : {M : Type 1} → statement M
 keep-state-spec =

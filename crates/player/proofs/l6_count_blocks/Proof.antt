@@ -39,7 +39,8 @@ returns-3 c =
     let at-if2 = at-setup-at .before in
     let at-if1 = at-if2 .before in
     let entry = at-if1 .before .before .before .before in
-    counts-unsound (entry .args .state .now) (entry .args .counts .now) (sym (at-if1 .before .state-fault .ensures) ∙ at-if1 .if1 .left) (at-setup-at .setup-at .ensures) (at-if2 .if2 .left) (sym (at-are-blocks .are-blocks .ensures) ∙ not-true _ (c .if3 .taken))
+    counts-unsound (entry .args .state .now) (entry .args .counts .now) (sym (at-if1 .before .state-fault .ensures)
+    ∙ at-if1 .if1 .left) (at-setup-at .setup-at .ensures) (at-if2 .if2 .left) (sym (at-are-blocks .are-blocks .ensures) ∙ not-true _ (c .if3 .taken))
 
 count-blocks-requires : tie.Need-count-blocks-requires
 count-blocks-requires c κs = can-list _ _ (sym (c .before .are-blocks .ensures) ∙ not-false _ (c .if3 .left))
@@ -65,7 +66,8 @@ returns-4 c =
     let at-if2 = at-setup-at .before in
     let at-if1 = at-if2 .before in
     let entry = at-if1 .before .before .before .before in
-    counts-leave (entry .args .state .now) (entry .args .counts .now) (sym (at-if1 .before .state-fault .ensures) ∙ at-if1 .if1 .left) (at-setup-at .setup-at .ensures) (at-if2 .if2 .left) (sym (at-are-blocks .are-blocks .ensures) ∙ not-false _ (at-if3 .if3 .left))
+    counts-leave (entry .args .state .now) (entry .args .counts .now) (sym (at-if1 .before .state-fault .ensures)
+    ∙ at-if1 .if1 .left) (at-setup-at .setup-at .ensures) (at-if2 .if2 .left) (sym (at-are-blocks .are-blocks .ensures) ∙ not-false _ (at-if3 .if3 .left))
     (at-count-blocks .count-blocks .ensures .0) (c .count-blocks2 .ensures .0)
 
 pub l6-count-blocks-spec : {M : Type 1} → statement M

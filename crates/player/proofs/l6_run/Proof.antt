@@ -8,8 +8,10 @@ use Rattle.player.proofs.l6_run.Tie as tie
 returns : tie.Need-returns
 unfolding noRun
 returns c =
-    let entry = c .before .before .before .before .before .before in
-    (run-short (entry .args .limit) _ (entry .args .storage .now) (entry .args .state .now) (entry .args .count .now) (c .if1 .taken), λ h. absurd (c .if1 .taken h))
+    let entry = c .before .before .before .before .before .before in (
+      run-short (entry .args .limit) _ (entry .args .storage .now) (entry .args .state .now) (entry .args .count .now) (c .if1 .taken),
+      λ h. absurd (c .if1 .taken h),
+    )
 
 read-state-requires : tie.Need-read-state-requires
 read-state-requires c κs = search needs
@@ -39,9 +41,11 @@ returns-2 c =
     let at-read-state = at-run .before .before .before .before .before in
     let at-if1 = at-read-state .before .before in
     let entry = at-if1 .before .before .before .before .before .before in (
-      run-leaves (entry .args .limit) _ (entry .args .storage .now) (entry .args .state .now) (at-read-state .read-state .ensures) (at-run .run .ensures .0) (at-keep-state .keep-state .ensures .0)
+      run-leaves (entry .args .limit) _ (entry .args .storage .now) (entry .args .state .now) (at-read-state .read-state .ensures)
+          (at-run .run .ensures .0) (at-keep-state .keep-state .ensures .0)
           (entry .args .count .now) (at-if1 .if1 .left) (c .code-of .ensures),
-      λ h. run-told (entry .args .limit) _ (entry .args .storage .now) (entry .args .state .now) (at-read-state .read-state .ensures) (at-run .run .ensures .0) (at-keep-state .keep-state .ensures .0)
+      λ h. run-told (entry .args .limit) _ (entry .args .storage .now) (entry .args .state .now) (at-read-state .read-state .ensures)
+          (at-run .run .ensures .0) (at-keep-state .keep-state .ensures .0)
           (at-keep-state .keep-state .ensures .1),
     )
 

@@ -64,9 +64,11 @@ returns-3 c =
     let at-if2 = at-read-state .before .before in
     let at-if1 = at-if2 .before in
     let entry = at-if1 .before .before .before .before .before .before .before in (
-      step-leaves _ (entry .args .storage .now) (entry .args .state .now) (entry .args .report .now) (at-read-state .read-state .ensures) (at-step .step .ensures .0) (at-keep-state .keep-state .ensures .0)
+      step-leaves _ (entry .args .storage .now) (entry .args .state .now) (entry .args .report .now) (at-read-state .read-state .ensures)
+          (at-step .step .ensures .0) (at-keep-state .keep-state .ensures .0)
           (at-if1 .if1 .left) (at-if2 .if2 .left) (at-put-report .put-report .ensures) (c .code-of .ensures),
-      λ h k. step-told _ (entry .args .storage .now) (entry .args .state .now) (entry .args .report .now) (at-read-state .read-state .ensures) (at-step .step .ensures .0) (at-keep-state .keep-state .ensures .0)
+      λ h k. step-told _ (entry .args .storage .now) (entry .args .state .now) (entry .args .report .now) (at-read-state .read-state .ensures)
+          (at-step .step .ensures .0) (at-keep-state .keep-state .ensures .0)
           (at-keep-state .keep-state .ensures .1),
     )
 

@@ -55,8 +55,10 @@ returns c =
     let long₁ = length-set t at (c .args .a) in
     let long₂ = length-set t₁ (at + 1) (c .args .b) in
     let long₃ = length-set t₂ (at + 2) (c .args .c) in
-    four-row at 1 1 1 (c .args .a ∷ []) (c .args .b ∷ []) (c .args .c ∷ []) t refl refl refl 1 (c .args .d ∷ []) refl (one at _ t (omega (arith, c .pre .0, c .pre .1)))
-    (one (at + 1) _ t₁ (omega (arith, c .pre .0, c .pre .1))) (one (at + 2) _ t₂ (omega (arith, c .pre .0, c .pre .1))) (one (at + 3) _ t₃ (omega (arith, c .pre .0, c .pre .1))) (omega (arith, c .pre .0, c .pre .1)) .put .same
+    four-row at 1 1 1 (c .args .a ∷ []) (c .args .b ∷ []) (c .args .c ∷ []) t refl refl refl 1 (c .args .d ∷ []) refl
+    (one at _ t (omega (arith, c .pre .0, c .pre .1)))
+    (one (at + 1) _ t₁ (omega (arith, c .pre .0, c .pre .1))) (one (at + 2) _ t₂ (omega (arith, c .pre .0, c .pre .1)))
+    (one (at + 3) _ t₃ (omega (arith, c .pre .0, c .pre .1))) (omega (arith, c .pre .0, c .pre .1)) .put .same
 
 pub put-four-spec : {M : Type 1} → statement M
 put-four-spec =

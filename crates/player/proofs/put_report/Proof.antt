@@ -28,7 +28,8 @@ returns c =
     let at-put-four = at-put-store .before .before .before .before in
     let entry = at-put-four .before .before .before in
     let of = entry .args .of in
-    three-row 0 4 4 4 (of .freed ∷ of .delivered ∷ of .size ∷ of .copied ∷ []) (numbersOfStore (of .first)) (numbersOfStore (of .second)) (entry .args .report .now) refl refl refl (at-put-four .put-four .ensures)
+    three-row 0 4 4 4 (of .freed ∷ of .delivered ∷ of .size ∷ of .copied ∷ []) (numbersOfStore (of .first)) (numbersOfStore (of .second))
+    (entry .args .report .now) refl refl refl (at-put-four .put-four .ensures)
     (at-put-store .put-store .ensures) (at-put-store2 .put-store2 .ensures) (omega (arith, entry .pre)) .put .same
     ∙ whole _ (entry .args .report .now) (sym (entry .pre))
 

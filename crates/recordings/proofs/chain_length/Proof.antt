@@ -22,7 +22,9 @@ unfolding nextOf
 loop-holds c = (rw (c .number-of .ensures) (at-start _ (c .before .before .pre)), omega arith)
 
 returns : tie.Need-returns Inv-loop μ-loop
-returns c = at-zero _ (c .before .before .loop .inv .0) (c .if1 .taken) (c .before .before .loop .inv .1)
+returns c =
+    let at-loop = c .before .before in
+    at-zero _ (at-loop .loop .inv .0) (c .if1 .taken) (at-loop .loop .inv .1)
 
 number-of-requires-2 : tie.Need-number-of-requires-2 Inv-loop μ-loop
 number-of-requires-2 c κs = number-inside _ (c .before .before .before .before .before .pre) _ 0 (c .before .before .loop .inv .0 .inside) (omega arith)
@@ -35,8 +37,11 @@ loop-less c = search needs
 
 loop-again : tie.Need-loop-again Inv-loop μ-loop
 unfolding nextOf
-loop-again c = let more = at-more _ (c .before .before .before .loop .inv .0) (c .before .if1 .left) (c .before .before .loop-test .taken) in
-    (rw (c .number-of2 .ensures) (at-next _ (c .before .before .before .before .before .before .pre) (c .before .before .before .loop .inv .0) more), omega arith)
+loop-again c =
+    let at-loop = c .before .before .before in
+    let start = at-loop .before .before .before in
+    let more = at-more _ (at-loop .loop .inv .0) (c .before .if1 .left) (c .before .before .loop-test .taken) in
+    (rw (c .number-of2 .ensures) (at-next _ (start .pre) (at-loop .loop .inv .0) more), omega arith)
 
 returns-2 : tie.Need-returns-2 Inv-loop μ-loop
 returns-2 c = at-last _ (c .before .loop .inv .0) (c .loop-test .left) (c .before .loop .inv .1)

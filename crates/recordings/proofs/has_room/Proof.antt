@@ -40,7 +40,9 @@ enum-told : tie.Need-enum-told Inv-loop μ-loop
 enum-told c = search needs
 
 returns-3 : tie.Need-returns-3 Inv-loop μ-loop
-returns-3 c = sym (room-none _ _ _ (rw (c .enum-told .given .1) at (c .before .before .next-stop .ensures))) ∙ c .before .before .before .loop .inv
+returns-3 c =
+    let at-loop = c .before .before .before in
+    sym (room-none _ _ _ (rw (c .enum-told .given .1) at (c .before .before .next-stop .ensures))) ∙ at-loop .loop .inv
 
 returns-4 : tie.Need-returns-4 Inv-loop μ-loop
 returns-4 c =

@@ -19,7 +19,9 @@ zeros-after-requires : tie.Need-zeros-after-requires
 zeros-after-requires c κs = omega (arith, div-add-mod' (length (c .before .before .before .args .list .now)) 4)
 
 returns-3 : tie.Need-returns-3
-returns-3 c = not-zeros _ (c .before .before .before .if1 .left) (c .before .before .if2 .left) (sym (c .before .zeros-after .ensures) ∙ not-true _ (c .if3 .taken))
+returns-3 c =
+    let at-if = c .before .before .before in
+    not-zeros _ (at-if .if1 .left) (c .before .before .if2 .left) (sym (c .before .zeros-after .ensures) ∙ not-true _ (c .if3 .taken))
 
 nexts-inside-requires : tie.Need-nexts-inside-requires
 nexts-inside-requires c κs = search needs

@@ -19,7 +19,9 @@ enum-known-found : tie.Need-enum-known-found
 enum-known-found c = search needs
 
 returns-2 : tie.Need-returns-2
-returns-2 c = rw (c .enum-told .given .1) (lesser-only _ _ (sym (c .before .before .before .is-after .ensures) ∙ not-false _ (c .before .before .if1 .left)))
+returns-2 c =
+    let at-is-after = c .before .before .before in
+    rw (c .enum-told .given .1) (lesser-only _ _ (sym (at-is-after .is-after .ensures) ∙ not-false _ (c .before .before .if1 .left)))
 
 returns-3 : tie.Need-returns-3
 returns-3 c =

@@ -21,7 +21,9 @@ number-of-requires c κs = number-inside _ (c .before .pre .is-list) 0 0 (some-r
 
 loop-holds : tie.Need-loop-holds Inv-loop μ-loop
 unfolding nextOf
-loop-holds c = (rw (c .number-of .ensures) (at-start _ (c .before .before .pre .is-list)), omega arith, least-start (c .before .before .args .list .now) _)
+loop-holds c =
+    let start = c .before .before in
+    (rw (c .number-of .ensures) (at-start _ (start .pre .is-list)), omega arith, least-start (start .args .list .now) _)
 
 number-of-requires-2 : tie.Need-number-of-requires-2 Inv-loop μ-loop
 number-of-requires-2 c κs = number-inside _ (c .before .before .before .before .pre .is-list) _ 1 (c .before .loop .inv .0 .inside) (omega arith)

@@ -27,7 +27,9 @@ number-of-requires : tie.Need-number-of-requires Inv-loop μ-loop
 number-of-requires c κs = omega (arith, div-mul-le-self (length (c .before .before .before .args .list .now)) 4)
 
 returns : tie.Need-returns Inv-loop μ-loop
-returns c = sym (next-outside _ _ _ (c .before .before .loop-test .taken) (c .before .number-of .ensures) (c .if1 .taken)) ∙ c .before .before .before .loop .inv .1
+returns c =
+    let at-loop = c .before .before .before in
+    sym (next-outside _ _ _ (c .before .before .loop-test .taken) (c .before .number-of .ensures) (c .if1 .taken)) ∙ at-loop .loop .inv .1
 
 loop-less : tie.Need-loop-less Inv-loop μ-loop
 loop-less c = search needs

@@ -6,7 +6,8 @@ use native.Mathlib.Omega.{arith}
 use lib.ListN.{length}
 use Rattle.recordings.specs.Recordings.{rowCount, nextOf, chain}
 use Rattle.recordings.proofs.Chain.{number-inside, some-row, at-more, at-zero, at-last}
-use Rattle.recordings.proofs.Growing.{Passing, passing-none, passing-next, passing-all, entering, grown-few, noted-count, noted-itself, so-far-most}
+use Rattle.recordings.proofs.Growing.{Passing, passing-none, passing-next, passing-all, entering, grown-few, noted-count}
+use Rattle.recordings.proofs.Growing.{noted-itself, so-far-most}
 use borrow.Author.Needs.{needs}
 use Rattle.recordings.proofs.note_few.Statement.{statement}
 use Rattle.recordings.proofs.note_few.Tie as tie

@@ -4,7 +4,8 @@ use native.Mathlib.Omega.{arith}
 use lib.ListN.{length}
 use Rattle.recordings.specs.Recordings.{nextOf, chain}
 use Rattle.recordings.proofs.Chain.{number-inside, some-row}
-use Rattle.recordings.proofs.Growing.{Passing, passing-none, passing-holds, passing-regrown, passing-next, passing-all, entering, so-far-most}
+use Rattle.recordings.proofs.Growing.{Passing, passing-none, passing-holds, passing-regrown, passing-next, passing-all}
+use Rattle.recordings.proofs.Growing.{entering, so-far-most}
 use borrow.Author.Needs.{needs}
 use Rattle.recordings.proofs.note_standing.Statement.{statement}
 use Rattle.recordings.proofs.note_standing.Tie as tie

@@ -3,7 +3,8 @@ use Prim.Native.Nat.{_≤_, _-_}
 use mathlib.Core.Path.{_≡_, ap, _∙_}
 use native.Mathlib.Omega.{arith}
 use lib.ListN.{length}
-use Rattle.recordings.proofs.Putting.{partly, noted-fits, puts-none, puts-length, puts-room, puts-row, puts-number, puts-next, puts-all}
+use Rattle.recordings.proofs.Putting.{partly, noted-fits, puts-none, puts-length, puts-room, puts-row, puts-number}
+use Rattle.recordings.proofs.Putting.{puts-next, puts-all}
 use borrow.Author.Needs.{needs}
 use Rattle.recordings.proofs.put_recordings.Statement.{statement}
 use Rattle.recordings.proofs.put_recordings.Tie as tie

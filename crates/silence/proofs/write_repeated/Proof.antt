@@ -12,7 +12,9 @@ same-length c = search needs
 
 returns : tie.Need-returns
 unfolding testOf
-returns c = (c .before .before .write-picked .ensures .left, c .before .before .write-picked .ensures .numbered)
+returns c =
+    let at-write-picked = c .before .before in
+    (at-write-picked .write-picked .ensures .left, at-write-picked .write-picked .ensures .numbered)
 
 pub write-repeated-spec : {M : Type 1} → statement M
 write-repeated-spec =

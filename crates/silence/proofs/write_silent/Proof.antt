@@ -10,7 +10,9 @@ same-length : tie.Need-same-length
 same-length c = search needs
 
 returns : tie.Need-returns
-returns c = (c .before .before .write-picked .ensures .left, c .before .before .write-picked .ensures .numbered)
+returns c =
+    let at-write-picked = c .before .before in
+    (at-write-picked .write-picked .ensures .left, at-write-picked .write-picked .ensures .numbered)
 
 pub write-silent-spec : {M : Type 1} → statement M
 write-silent-spec =

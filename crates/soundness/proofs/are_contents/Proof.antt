@@ -16,8 +16,9 @@ array-share-prefix-entries c = search needs
 
 slice-aggregate-are-words : tie.Need-slice-aggregate-are-words
 slice-aggregate-are-words c =
-    let long : length (c .before .before .args .t2) ≡ 128 = search needs in
-    sym (length-take-le (c .before .before .args .count) (c .before .before .args .t2) (omega arith))
+    let start = c .before .before in
+    let long : length (start .args .t2) ≡ 128 = search needs in
+    sym (length-take-le (start .args .count) (start .args .t2) (omega arith))
 
 are-words-requires : tie.Need-are-words-requires
 are-words-requires c κs = search needs

@@ -39,7 +39,8 @@ returns-2 c =
     let e = c .before .before .before in
     let start = e .before .before .before in
     let long : length (start .args .t2) ≡ 128 = search needs in
-    stack-used _ _ _ _ (omega arith) (taken-off _ (start .args .count) (start .args .t2) _ undefined (omega arith) (e .before .loop .inv) (omega arith) (sym (c .before .is-definition .ensures) ∙ not-true _ (c .if2 .taken)))
+    stack-used _ _ _ _ (omega arith) (taken-off _ (start .args .count) (start .args .t2) _ undefined (omega arith) (e .before .loop .inv)
+    (omega arith) (sym (c .before .is-definition .ensures) ∙ not-true _ (c .if2 .taken)))
 
 add-i : tie.Need-add-i Inv-loop μ-loop
 add-i c = search needs
@@ -53,13 +54,15 @@ loop-again c =
     let e = c .before .before .before in
     let start = e .before .before .before in
     let long : length (start .args .t2) ≡ 128 = search needs in
-    taken-on _ (start .args .count) (start .args .t2) _ undefined (omega arith) (e .before .loop .inv) (omega arith) (sym (c .before .is-definition .ensures) ∙ not-false _ (c .if2 .left))
+    taken-on _ (start .args .count) (start .args .t2) _ undefined (omega arith) (e .before .loop .inv) (omega arith)
+    (sym (c .before .is-definition .ensures) ∙ not-false _ (c .if2 .left))
 
 returns-3 : tie.Need-returns-3 Inv-loop μ-loop
 returns-3 c =
     let start = c .before .before .before in
     let long : length (start .args .t2) ≡ 128 = search needs in
-    stack-used _ _ _ _ (omega arith) (taken-all (isDefinition (start .args .b)) (start .args .count) (start .args .t2) (c .before .loop .i) undefined (omega arith) (c .before .loop .inv) (omega arith))
+    stack-used _ _ _ _ (omega arith) (taken-all (isDefinition (start .args .b)) (start .args .count) (start .args .t2) (c .before .loop .i) undefined
+    (omega arith) (c .before .loop .inv) (omega arith))
 
 pub are-saved-spec : {M : Type 1} → statement M
 are-saved-spec =

@@ -36,10 +36,14 @@ loop-less : tie.Need-loop-less Inv-loop μ-loop
 loop-less c = omega arith
 
 loop-again : tie.Need-loop-again Inv-loop μ-loop
-loop-again c = λ b. c .before .before .loop .inv b ∙ part-next b (c .before .before .loop .all) (c .before .before .loop .i) (c .before .before .before .args .words .now) (c .before .loop-test .taken)
+loop-again c =
+    let at-loop = c .before .before in
+    let start = at-loop .before in
+    λ b. at-loop .loop .inv b ∙ part-next b (at-loop .loop .all) (at-loop .loop .i) (start .args .words .now) (c .before .loop-test .taken)
 
 returns : tie.Need-returns Inv-loop μ-loop
-returns c = λ b. sym (c .before .loop .inv b ∙ part-end b (c .before .loop .all) (c .before .loop .i) (c .before .before .args .words .now) (c .loop-test .left))
+returns c = λ b. sym (c .before .loop .inv b ∙ part-end b (c .before .loop .all) (c .before .loop .i) (c .before .before .args .words .now)
+    (c .loop-test .left))
 
 pub joined-spec : {M : Type 1} → statement M
 joined-spec =

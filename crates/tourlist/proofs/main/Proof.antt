@@ -54,7 +54,8 @@ part-write-all-start c = search needs
 
 part-write-all-end : tie.Need-part-write-all-end
 part-write-all-end c =
-    let put : Put 440000 _ (replicate 440000 0) _ _ = record { starts = c .before .list-tour .ensures .starts; buffer = c .before .list-tour .ensures .buffer; inside = search needs } in
+    let put : Put 440000 _ (replicate 440000 0) _ _ =
+    record { starts = c .before .list-tour .ensures .starts; buffer = c .before .list-tour .ensures .buffer; inside = search needs } in
     omega (arith, same-length put, c .before .list-tour .ensures .starts)
 
 write-all-requires : tie.Need-write-all-requires

@@ -54,7 +54,11 @@ part-write-all-start c = search needs
 
 part-write-all-end : tie.Need-part-write-all-end
 part-write-all-end c =
-    let put : Put 12331 _ (replicate 12331 0) _ _ = record { starts = c .before .play .ensures .0; buffer = c .before .play .ensures .1; inside = search needs } in
+    let put : Put 12331 _ (replicate 12331 0) _ _ = record {
+      starts = c .before .play .ensures .0;
+      buffer = c .before .play .ensures .1;
+      inside = search needs;
+    } in
     omega (arith, same-length put, c .before .play .ensures .0)
 
 write-all-requires : tie.Need-write-all-requires

@@ -15,7 +15,9 @@ mul-count : tie.Need-mul-count
 mul-count c = search needs
 
 slice-aggregate-put-table : tie.Need-slice-aggregate-put-table
-slice-aggregate-put-table c = sym (length-take-le _ _ (omega (arith, c .before .before .pre .0, c .before .before .pre .1)))
+slice-aggregate-put-table c =
+    let start = c .before .before in
+    sym (length-take-le _ _ (omega (arith, start .pre .0, start .pre .1)))
 
 put-table-requires : tie.Need-put-table-requires
 put-table-requires c κs =
@@ -32,7 +34,8 @@ returns c =
     let few = length-take-le (10 * entry .args .rows) (entry .args .table .now) (omega (arith, entry .pre .0, entry .pre .1)) in
     let place : 8 * length (take (10 * entry .args .rows) (entry .args .table .now)) ≡ 80 * entry .args .rows = omega arith in
     let room : length (entry .args .tab .now) ≡ 64000 = search needs in
-    let is = c .put-table .ensures ∙ ap (λ (n : ℕ). filed (take (10 * entry .args .rows) (entry .args .table .now)) ++ drop n (entry .args .tab .now)) place in (
+    let is = c .put-table .ensures ∙ ap (λ (n : ℕ). filed (take (10 * entry .args .rows) (entry .args .table .now)) ++ drop n (entry .args .tab .now))
+    place in (
       (omega arith, search needs),
       (
         is,

@@ -16,7 +16,9 @@ abbrev μ-loop : tie.MeasureT-loop
 μ-loop table tab₀ i₀ tab i = length table - i
 
 loop-holds : tie.Need-loop-holds Inv-loop μ-loop
-loop-holds c = filing-none (c .before .before .args .table .now) (c .before .before .args .tab .now) (c .before .before .pre)
+loop-holds c =
+    let start = c .before .before in
+    filing-none (start .args .table .now) (start .args .tab .now) (start .pre)
 
 mul-put-number : tie.Need-mul-put-number Inv-loop μ-loop
 mul-put-number c = omega (arith, c .before .before .loop .inv .room, c .before .loop-test .taken)

@@ -3,7 +3,8 @@ use Prim.Native.Nat.{ℕ, _*_}
 use native.Mathlib.Omega.{arith}
 use mathlib.Core.Path.{_≡_, sym, ap, _∙_}
 use lib.ListN.{length}
-use Rattle.tourtext.proofs.Filing.{rows-file, rows-printed, rows-few, width-file, width-printed, line-file, label-file, long-file, line-printed, label-printed, long-printed, by-rows, by-fault}
+use Rattle.tourtext.proofs.Filing.{rows-file, rows-printed, rows-few, width-file, width-printed, line-file, label-file}
+use Rattle.tourtext.proofs.Filing.{long-file, line-printed, label-printed, long-printed, by-rows, by-fault}
 use borrow.Author.Needs.{needs}
 use Rattle.tourtext.proofs.translate.Statement.{statement}
 use Rattle.tourtext.proofs.translate.Tie as tie
@@ -57,7 +58,8 @@ returns c =
     let at-read = at-answer .before .before .before in
     let entry = at-read .before .before .before in
     let long : length (at-read .read .last .1 .1 .0) ≡ 8000 = search needs in
-    let t = by-rows (entry .args .b) (entry .args .text .now) (entry .args .tab .now) (entry .args .printed .now) (at-read .read .last .1 .1 .0) _ (c .put-rows .ensures .1 .1)
+    let t = by-rows (entry .args .b) (entry .args .text .now) (entry .args .tab .now) (entry .args .printed .now) (at-read .read .last .1 .1 .0) _
+    (c .put-rows .ensures .1 .1)
     (rows-few (entry .args .b) (entry .args .text .now) (at-read .read .ensures .0) (at-answer .answer .given .1) (at-read .read .ensures .1)) long
     (rows-file (entry .args .b) (entry .args .text .now) (at-read .read .ensures .0) (at-answer .answer .given .1))
     (rows-printed (entry .args .b) (entry .args .text .now) (at-read .read .ensures .0) (at-answer .answer .given .1))

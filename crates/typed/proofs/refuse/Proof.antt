@@ -11,11 +11,15 @@ returns c = rw (eq-eqb (c .before .args .number) 23 (c .if1 .taken))
 
 returns-2 : tie.Need-returns-2
 unfolding refused
-returns-2 c = rw (ne-eqb (c .before .before .args .number) 23 (c .before .if1 .left), eq-eqb (c .before .before .args .number) 24 (c .if2 .taken))
+returns-2 c =
+    let start = c .before .before in
+    rw (ne-eqb (start .args .number) 23 (c .before .if1 .left), eq-eqb (start .args .number) 24 (c .if2 .taken))
 
 returns-3 : tie.Need-returns-3
 unfolding refused
-returns-3 c = rw (ne-eqb (c .before .before .args .number) 23 (c .before .if1 .left), ne-eqb (c .before .before .args .number) 24 (c .if2 .left))
+returns-3 c =
+    let start = c .before .before in
+    rw (ne-eqb (start .args .number) 23 (c .before .if1 .left), ne-eqb (start .args .number) 24 (c .if2 .left))
 
 pub refuse-spec : {M : Type 1} → statement M
 refuse-spec =

@@ -23,12 +23,14 @@ words-of-requires : tie.Need-words-of-requires Inv-loop μ-loop
 words-of-requires c κs = search needs
 
 loop-holds : tie.Need-loop-holds Inv-loop μ-loop
-loop-holds c = let low : c .before .before .top-of .result ≤ 7 = rw (c .before .before .top-of .ensures) (top-le _) in (
-  low,
-  rw (c .before .size-of .ensures) (size-pos _),
-  rw (c .before .size-of .ensures) (size-small _ low),
-  rw (c .words-of .ensures) (c .before .before .before .pre),
-)
+loop-holds c =
+    let at-top-of = c .before .before in
+    let low : at-top-of .top-of .result ≤ 7 = rw (at-top-of .top-of .ensures) (top-le _) in (
+      low,
+      rw (c .before .size-of .ensures) (size-pos _),
+      rw (c .before .size-of .ensures) (size-small _ low),
+      rw (c .words-of .ensures) (at-top-of .before .pre),
+    )
 
 add-map : tie.Need-add-map Inv-loop μ-loop
 add-map c = search needs

@@ -49,13 +49,16 @@ returns-2 c = search needs
 
 deliver-requires : tie.Need-deliver-requires
 unfolding firstOf
-deliver-requires c κs = let found = sym (told-first _ (c .before .before .before .before .lowest-run .ensures)) ∙ c .before .before .found .given .1 in
+deliver-requires c κs =
+    let at-level-of = c .before .before .before .before .before .before in
+    let at-top-of = at-level-of .before in
+    let found = sym (told-first _ (c .before .before .before .before .lowest-run .ensures)) ∙ c .before .before .found .given .1 in
     let run = runs-sound _ _ _ (size-pos _) (first-mem _ _ found) in (
       search needs,
       search needs,
       run .0,
-      omega (arith, run .1, size-pos (c .before .before .before .before .before .before .level-of .result)),
-      rw (c .before .before .before .before .before .before .level-of .ensures, c .before .before .before .before .before .before .before .top-of .ensures) (level-le _ _),
+      omega (arith, run .1, size-pos (at-level-of .level-of .result)),
+      rw (at-level-of .level-of .ensures, at-top-of .top-of .ensures) (level-le _ _),
       found,
     )
 

@@ -22,7 +22,9 @@ mul-rounded : tie.Need-mul-rounded Inv-loop μ-loop
 mul-rounded c = record { fits = omega (arith, div-mul-le-self (c .before .before .before .args .address) (c .before .loop .n)) }
 
 live-size-requires : tie.Need-live-size-requires Inv-loop μ-loop
-live-size-requires c κs = (c .before .before .before .pre .0, c .before .before .before .pre .1)
+live-size-requires c κs =
+    let start = c .before .before .before in
+    (start .pre .0, start .pre .1)
 
 returns : tie.Need-returns Inv-loop μ-loop
 returns c = search needs

@@ -40,7 +40,17 @@ returns-4 : tie.Need-returns-4
 returns-4 c = search needs
 
 locate-requires : tie.Need-locate-requires
-locate-requires c κs = (tested-readable _ _ _ _ _ (sym (c .before .before .before .before .before .before .before .before .fits2 .ensures) ∙ not-false _ (c .before .before .before .before .before .before .before .if1 .left)) (sym (c .before .before .before .before .before .before .keeps-section .ensures) ∙ not-false _ (c .before .before .before .before .before .if2 .left)) (c .before .before .before .before .before .before .before .before .before .before .before .before .before .before .pre) (sym (c .before .before .before .are-words .ensures) ∙ not-false _ (c .before .before .if3 .left)), sym (c .before .is-reference .ensures) ∙ not-false _ (c .if4 .left))
+locate-requires c κs =
+    let at-are-words = c .before .before .before in
+    let at-if = at-are-words .before .before in
+    let at-keeps-section = at-if .before in
+    let at-if-2 = at-keeps-section .before in
+    let at-fits = at-if-2 .before in
+    let start = at-fits .before .before .before .before .before .before in (
+      tested-readable _ _ _ _ _ (sym (at-fits .fits2 .ensures) ∙ not-false _ (at-if-2 .if1 .left)) (sym (at-keeps-section .keeps-section .ensures)
+          ∙ not-false _ (at-if .if2 .left)) (start .pre) (sym (at-are-words .are-words .ensures) ∙ not-false _ (c .before .before .if3 .left)),
+      sym (c .before .is-reference .ensures) ∙ not-false _ (c .if4 .left),
+    )
 
 enum-known-why : tie.Need-enum-known-why
 enum-known-why c = search needs

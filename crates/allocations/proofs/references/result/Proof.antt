@@ -30,7 +30,10 @@ slice-aggregate-followed : tie.Need-slice-aggregate-followed
 slice-aggregate-followed c = search needs
 
 followed-requires : tie.Need-followed-requires
-followed-requires c κs = subst (λ (ds : List Definition). every (isDefinition 36) ds ≡ true) (sym (c .before .before .before .before .before .pack-all .ensures)) (c .before .before .before .before .before .before .before .definitions .ensures)
+followed-requires c κs =
+    let at-pack-all = c .before .before .before .before .before in
+    let at-definitions = at-pack-all .before .before in
+    subst (λ (ds : List Definition). every (isDefinition 36) ds ≡ true) (sym (at-pack-all .pack-all .ensures)) (at-definitions .definitions .ensures)
 
 returns : tie.Need-returns
 returns c = search needs

@@ -27,28 +27,49 @@ words-of-requires c κs = search needs
 
 sub-free-trees : tie.Need-sub-free-trees
 sub-free-trees c =
-    words-room (c .before .before .before .before .before .args .setup) (c .before .before .before .before .before .args .last) (c .before .before .before .before .before .args .map .now) (c .before .before .before .before .before .pre .0) (c .before .before .before .before .before .pre .1) (c .before .before .before .before .before .pre .2) (c .before .before .before .top-of .result) (c .before .size-of .result) (c .words-of .result) (c .before .before .before .top-of .ensures) (c .before .size-of .ensures) (c .words-of .ensures)
+    let at-top-of = c .before .before .before in
+    let start = at-top-of .before .before in
+    words-room (start .args .setup) (start .args .last) (start .args .map .now) (start .pre .0) (start .pre .1) (start .pre .2)
+    (at-top-of .top-of .result) (c .before .size-of .result) (c .words-of .result) (at-top-of .top-of .ensures) (c .before .size-of .ensures)
+    (c .words-of .ensures)
 
 part-free-trees-start : tie.Need-part-free-trees-start
 part-free-trees-start c =
-    words-room (c .before .before .before .before .before .args .setup) (c .before .before .before .before .before .args .last) (c .before .before .before .before .before .args .map .now) (c .before .before .before .before .before .pre .0) (c .before .before .before .before .before .pre .1) (c .before .before .before .before .before .pre .2) (c .before .before .before .top-of .result) (c .before .size-of .result) (c .words-of .result) (c .before .before .before .top-of .ensures) (c .before .size-of .ensures) (c .words-of .ensures)
+    let at-top-of = c .before .before .before in
+    let start = at-top-of .before .before in
+    words-room (start .args .setup) (start .args .last) (start .args .map .now) (start .pre .0) (start .pre .1) (start .pre .2)
+    (at-top-of .top-of .result) (c .before .size-of .result) (c .words-of .result) (at-top-of .top-of .ensures) (c .before .size-of .ensures)
+    (c .words-of .ensures)
 
 part-free-trees-end : tie.Need-part-free-trees-end
 part-free-trees-end c = search needs
 
 free-trees-requires : tie.Need-free-trees-requires
-free-trees-requires c κs = (
-  omega (arith, c .before .before .before .before .top-of .ensures, top-le (c .before .before .before .before .before .before .args .setup .d)),
-  count-room (c .before .before .before .before .before .before .args .setup) (c .before .before .before .before .before .before .args .last) (c .before .before .before .before .before .before .args .map .now) (c .before .before .before .before .before .before .pre .0) (c .before .before .before .before .before .before .pre .1) (c .before .before .before .before .before .before .pre .2) (c .before .before .before .before .top-of .result) (c .before .before .size-of .result) (c .before .words-of .result) (c .before .before .before .before .top-of .ensures) (c .before .before .size-of .ensures) (c .before .words-of .ensures),
-  part-zeros (c .before .before .before .before .before .before .args .setup) (c .before .before .before .before .before .before .args .last) (c .before .before .before .before .before .before .args .map .now) (c .before .before .before .before .before .before .pre .0) (c .before .before .before .before .before .before .pre .1) (c .before .before .before .before .before .before .pre .2) (c .before .before .before .before .top-of .result) (c .before .before .size-of .result) (c .before .words-of .result) (c .before .before .before .before .top-of .ensures) (c .before .before .size-of .ensures) (c .before .words-of .ensures),
-)
+free-trees-requires c κs =
+    let at-size-of = c .before .before in
+    let at-top-of = at-size-of .before .before in
+    let start = at-top-of .before .before in (
+      omega (arith, at-top-of .top-of .ensures, top-le (start .args .setup .d)),
+      count-room (start .args .setup) (start .args .last) (start .args .map .now) (start .pre .0) (start .pre .1) (start .pre .2)
+          (at-top-of .top-of .result) (at-size-of .size-of .result) (c .before .words-of .result) (at-top-of .top-of .ensures)
+          (at-size-of .size-of .ensures) (c .before .words-of .ensures),
+      part-zeros (start .args .setup) (start .args .last) (start .args .map .now) (start .pre .0) (start .pre .1) (start .pre .2)
+          (at-top-of .top-of .result) (at-size-of .size-of .result) (c .before .words-of .result) (at-top-of .top-of .ensures)
+          (at-size-of .size-of .ensures) (c .before .words-of .ensures),
+    )
 
 same-length : tie.Need-same-length
 same-length c = search needs
 
 returns : tie.Need-returns
 returns c =
-    added-map (c .before .before .before .before .before .before .before .before .before .args .setup) (c .before .before .before .before .before .before .before .before .before .args .last) (c .before .before .before .before .before .before .before .before .before .args .map .now) (c .before .before .before .before .before .before .before .before .before .pre .0) (c .before .before .before .before .before .before .before .before .before .pre .1) (c .before .before .before .before .before .before .before .before .before .pre .2) (c .before .before .before .before .before .before .before .top-of .result) (c .before .before .before .before .before .size-of .result) (c .before .before .before .before .words-of .result) (c .before .before .before .before .before .before .before .top-of .ensures) (c .before .before .before .before .before .size-of .ensures) (c .before .before .before .before .words-of .ensures) _ (c .before .before .free-trees .ensures)
+    let at-words-of = c .before .before .before .before in
+    let at-size-of = at-words-of .before in
+    let at-top-of = at-size-of .before .before in
+    let start = at-top-of .before .before in
+    added-map (start .args .setup) (start .args .last) (start .args .map .now) (start .pre .0) (start .pre .1) (start .pre .2)
+    (at-top-of .top-of .result) (at-size-of .size-of .result) (at-words-of .words-of .result) (at-top-of .top-of .ensures)
+    (at-size-of .size-of .ensures) (at-words-of .words-of .ensures) _ (c .before .before .free-trees .ensures)
 
 pub extend-map-spec : {M : Type 1} → statement M
 extend-map-spec =

@@ -18,17 +18,20 @@ cast-words c = search needs
 
 sub-words : tie.Need-sub-words
 sub-words c =
-    let (later, small) = later-order (c .before .before .before .args .lent) (c .before .before .before .args .last) (c .before .before .before .args .setup) (not-false _ (c .before .if1 .left)) in
-    omega (arith, c .before .before .before .pre .1)
+    let start = c .before .before .before in
+    let (later, small) = later-order (start .args .lent) (start .args .last) (start .args .setup) (not-false _ (c .before .if1 .left)) in
+    omega (arith, start .pre .1)
 
 add-words : tie.Need-add-words
 add-words c =
-    let (later, small) = later-order (c .before .before .before .args .lent) (c .before .before .before .args .last) (c .before .before .before .args .setup) (not-false _ (c .before .if1 .left)) in
+    let start = c .before .before .before in
+    let (later, small) = later-order (start .args .lent) (start .args .last) (start .args .setup) (not-false _ (c .before .if1 .left)) in
     record { fits = omega arith }
 
 sub-result : tie.Need-sub-result
 sub-result c =
-    let (later, small) = later-order (c .before .before .before .args .lent) (c .before .before .before .args .last) (c .before .before .before .args .setup) (not-false _ (c .before .if1 .left)) in
+    let start = c .before .before .before in
+    let (later, small) = later-order (start .args .lent) (start .args .last) (start .args .setup) (not-false _ (c .before .if1 .left)) in
     omega arith
 
 cast-result : tie.Need-cast-result
@@ -39,8 +42,11 @@ rem-result c = search needs
 
 returns-2 : tie.Need-returns-2
 returns-2 c =
-    let (later, small) = later-order (c .before .before .before .before .args .lent) (c .before .before .before .before .args .last) (c .before .before .before .before .args .setup) (not-false _ (c .before .before .if1 .left)) in
-    later-judged (c .before .before .before .before .args .lent) (c .before .before .before .before .args .last) (c .before .before .before .before .args .setup) (c .before .before .before .before .pre .0) (not-false _ (c .before .before .if1 .left)) (c .before .before .before .before .args .last - c .before .before .before .before .args .setup .s1 + 1) (omega (arith, c .before .before .before .before .pre .1))
+    let at-if = c .before .before in
+    let start = at-if .before .before in
+    let (later, small) = later-order (start .args .lent) (start .args .last) (start .args .setup) (not-false _ (at-if .if1 .left)) in
+    later-judged (start .args .lent) (start .args .last) (start .args .setup) (start .pre .0) (not-false _ (at-if .if1 .left))
+    (start .args .last - start .args .setup .s1 + 1) (omega (arith, start .pre .1))
 
 pub extends-spec : {M : Type 1} → statement M
 extends-spec =

@@ -25,21 +25,34 @@ free-tag-requires : tie.Need-free-tag-requires Inv-loop μ-loop
 free-tag-requires c κs = search needs
 
 loop-holds : tie.Need-loop-holds Inv-loop μ-loop
-loop-holds c = (omega arith, refl, omega (arith, zero-mul (size (c .before .before .before .args .k))), c .before .before .before .pre .2 ∙ trees-none (c .before .before .before .args .k) _)
+loop-holds c =
+    let start = c .before .before .before in
+    (omega arith, refl, omega (arith, zero-mul (size (start .args .k))), start .pre .2 ∙ trees-none (start .args .k) _)
 
 slice-write-map : tie.Need-slice-write-map Inv-loop μ-loop
 slice-write-map c =
     let at-size-of = c .before .before .before in
     let start = at-size-of .before .before in
     let l = c .before .loop in
-    omega (arith, trees-room (start .args .k) (c .loop-test .taken) (start .pre .1), trees-next (start .args .k) (l .done) (l .inv .2) (at-size-of .size-of .ensures), size-pos (start .args .k))
+    omega (
+      arith,
+      trees-room (start .args .k) (c .loop-test .taken) (start .pre .1),
+      trees-next (start .args .k) (l .done) (l .inv .2) (at-size-of .size-of .ensures),
+      size-pos (start .args .k),
+    )
 
 add-i : tie.Need-add-i Inv-loop μ-loop
 add-i c =
     let at-size-of = c .before .before .before in
     let start = at-size-of .before .before in
     let l = c .before .loop in
-    record { fits = omega (arith, trees-room (start .args .k) (c .loop-test .taken) (start .pre .1), trees-next (start .args .k) (l .done) (l .inv .2) (at-size-of .size-of .ensures)) }
+    record {
+      fits = omega (
+        arith,
+        trees-room (start .args .k) (c .loop-test .taken) (start .pre .1),
+        trees-next (start .args .k) (l .done) (l .inv .2) (at-size-of .size-of .ensures),
+      );
+    }
 
 add-done : tie.Need-add-done Inv-loop μ-loop
 add-done c = search needs
@@ -52,8 +65,12 @@ loop-again c =
     let at-size-of = c .before .before .before in
     let start = at-size-of .before .before in
     let l = c .before .loop in
-    let room = trees-room (start .args .k) (c .loop-test .taken) (start .pre .1) in
-    (omega arith, length-set (l .map) _ _ ∙ l .inv .1, trees-next (start .args .k) (l .done) (l .inv .2) (at-size-of .size-of .ensures), rw (l .inv .3) (trees-more (start .args .k) (length (start .args .map .now)) (l .done) (l .i) (l .inv .2) room (c .before .before .free-tag .ensures)))
+    let room = trees-room (start .args .k) (c .loop-test .taken) (start .pre .1) in (
+      omega arith,
+      length-set (l .map) _ _ ∙ l .inv .1,
+      trees-next (start .args .k) (l .done) (l .inv .2) (at-size-of .size-of .ensures),
+      rw (l .inv .3) (trees-more (start .args .k) (length (start .args .map .now)) (l .done) (l .i) (l .inv .2) room (c .before .before .free-tag .ensures)),
+    )
 
 same-length : tie.Need-same-length Inv-loop μ-loop
 same-length c = search needs

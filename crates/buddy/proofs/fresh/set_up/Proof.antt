@@ -32,8 +32,12 @@ free-trees-requires c κs =
     let start = at-top-of .before .before in
     let u = start .args .setup in
     let m = start .args .map .now in
-    let fill = count-fill u (at-top-of .top-of .result) (at-size-of .size-of .result) (at-words-of .words-of .result) (at-top-of .top-of .ensures) (at-size-of .size-of .ensures) (at-words-of .words-of .ensures) (start .pre .0) in
-    (omega (arith, at-top-of .top-of .ensures, top-le (u .d)), omega (arith, fill, zeros-long m (at-zero-all .zero-all .ensures)), zeros-again m (at-zero-all .zero-all .ensures))
+    let fill = count-fill u (at-top-of .top-of .result) (at-size-of .size-of .result) (at-words-of .words-of .result) (at-top-of .top-of .ensures)
+    (at-size-of .size-of .ensures) (at-words-of .words-of .ensures) (start .pre .0) in (
+      omega (arith, at-top-of .top-of .ensures, top-le (u .d)),
+      omega (arith, fill, zeros-long m (at-zero-all .zero-all .ensures)),
+      zeros-again m (at-zero-all .zero-all .ensures),
+    )
 
 same-length : tie.Need-same-length
 same-length c = search needs
@@ -47,7 +51,8 @@ returns c =
     let start = at-top-of .before .before in
     let u = start .args .setup in
     let m = start .args .map .now in
-    trees-fresh m (at-zero-all .zero-all .ensures) u (at-top-of .top-of .result) (at-size-of .size-of .result) (at-words-of .words-of .result) (at-top-of .top-of .ensures) (at-size-of .size-of .ensures) (at-words-of .words-of .ensures) (start .pre .0) (c .before .before .free-trees .ensures)
+    trees-fresh m (at-zero-all .zero-all .ensures) u (at-top-of .top-of .result) (at-size-of .size-of .result) (at-words-of .words-of .result)
+    (at-top-of .top-of .ensures) (at-size-of .size-of .ensures) (at-words-of .words-of .ensures) (start .pre .0) (c .before .before .free-trees .ensures)
 
 pub set-up-spec : {M : Type 1} → statement M
 set-up-spec =

@@ -28,9 +28,10 @@ loop-less c = search needs
 
 loop-again : tie.Need-loop-again Inv-loop μ-loop
 loop-again c =
+    let start = c .before .before in
     let l = c .before .loop in
-    let less : l .i < length (c .before .before .args .map .now) = omega (arith, c .loop-test .taken) in
-    (omega arith, length-set (l .map) _ _ ∙ l .inv .1, rw (l .inv .2) (zeros-more (c .before .before .args .map .now) (l .i) less))
+    let less : l .i < length (start .args .map .now) = omega (arith, c .loop-test .taken) in
+    (omega arith, length-set (l .map) _ _ ∙ l .inv .1, rw (l .inv .2) (zeros-more (start .args .map .now) (l .i) less))
 
 same-length : tie.Need-same-length Inv-loop μ-loop
 same-length c = search needs

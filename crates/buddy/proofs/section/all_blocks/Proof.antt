@@ -47,9 +47,10 @@ next : (c : tie.Else2 Inv-loop μ-loop) → let l = c .before .before .before .b
     Passing (start .args .k) (start .args .map .now) (start .args .count * sized .size-of .result) 0 1 (l .loop .whole .at + sized .size-of .result)
     (l .loop .whole .count + c .before .count-blocks .result) (start .args .count)
 next c =
-    let l = c .before .before .before .before .before in
+    let at-if = c .before .before .before in
+    let l = at-if .before .before in
     let sized = l .before .before in
-    pass-on (l .loop .inv .2) (sized .size-of .result) (c .before .count-blocks .result) (sized .size-of .ensures) (c .before .before .before .if1 .taken)
+    pass-on (l .loop .inv .2) (sized .size-of .result) (c .before .count-blocks .result) (sized .size-of .ensures) (at-if .if1 .taken)
     (c .before .count-blocks .ensures) (c .if2 .left) (few (c .before))
 
 size-of-requires : tie.Need-size-of-requires Inv-loop μ-loop

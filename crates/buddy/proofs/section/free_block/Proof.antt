@@ -9,8 +9,12 @@ use Rattle.buddy.proofs.section.free_block.Statement.{statement}
 use Rattle.buddy.proofs.section.free_block.Tie as tie
 
 -- the block that is freed
-block : (c : tie.After-size-of) → let a = c .before .before .before .args in Freeing (a .setup) (a .map .now) (a .address) (c .before .top-of .result) (c .size-of .result)
-block c = freeing (c .before .before .before .args .setup) (c .before .before .before .args .map .now) (c .before .before .before .pre .0) (c .before .before .before .pre .1) (c .before .top-of .result) (c .size-of .result) (c .before .before .before .args .address) (c .before .top-of .ensures) (c .size-of .ensures) (c .before .before .before .pre .2)
+block : (c : tie.After-size-of) → let a = c .before .before .before .args in Freeing (a .setup) (a .map .now) (a .address) (c .before .top-of .result)
+    (c .size-of .result)
+block c =
+    let start = c .before .before .before in
+    freeing (start .args .setup) (start .args .map .now) (start .pre .0) (start .pre .1) (c .before .top-of .result) (c .size-of .result)
+    (start .args .address) (c .before .top-of .ensures) (c .size-of .ensures) (start .pre .2)
 
 top-of-requires : tie.Need-top-of-requires
 top-of-requires c κs = search needs
@@ -34,7 +38,9 @@ div-start : tie.Need-div-start
 div-start c = omega (arith, c .before .before .size-of .ensures, size-pos (c .before .before .before .top-of .result))
 
 mul-start : tie.Need-mul-start
-mul-start c = record { fits = omega (arith, div-add-mod' (c .before .before .before .before .before .args .address - c .before .before .before .before .before .args .setup .s1) (c .before .before .size-of .result)) }
+mul-start c =
+    let start = c .before .before .before .before .before in
+    record { fits = omega (arith, div-add-mod' (start .args .address - start .args .setup .s1) (c .before .before .size-of .result)) }
 
 add-end : tie.Need-add-end
 add-end c = record { fits = omega (arith, block (c .before .before) .fits) }
@@ -58,7 +64,9 @@ same-length : tie.Need-same-length
 same-length c = search needs
 
 returns : tie.Need-returns
-returns c = block (c .before .before .before .before .before .before) .puts (c .before .before .free-up .last .1 .1 .1 .0) (c .before .before .free-up .ensures)
+returns c =
+    let at-free-up = c .before .before in
+    block (at-free-up .before .before .before .before) .puts (at-free-up .free-up .last .1 .1 .1 .0) (at-free-up .free-up .ensures)
 
 pub free-block-spec : {M : Type 1} → statement M
 free-block-spec =

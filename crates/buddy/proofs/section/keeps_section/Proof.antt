@@ -48,18 +48,21 @@ returns c =
 within : (c : tie.Else1) → let w = c .before .before .words-of .result in let n = c .before .before .before .size-of .result in
     (w / n * n ≤ length (c .before .before .before .before .before .before .args .map .now)) × (w / n * n ≤ 65536)
 within c =
-    let w = c .before .before .words-of .result in
-    let n = c .before .before .before .size-of .result in
-    (omega arith, omega (arith, div-add-mod' w n, c .before .before .words-of .ensures, words-le (c .before .before .before .before .before .before .args .setup)))
+    let at-words-of = c .before .before in
+    let start = at-words-of .before .before .before .before in
+    let w = at-words-of .words-of .result in
+    let n = at-words-of .before .size-of .result in
+    (omega arith, omega (arith, div-add-mod' w n, at-words-of .words-of .ensures, words-le (start .args .setup)))
 
 all-blocks-requires : tie.Need-all-blocks-requires
 all-blocks-requires c κs =
-    let sized = c .before .before .before in
-    let w = c .before .before .words-of .result in
+    let at-words-of = c .before .before in
+    let sized = at-words-of .before in
+    let w = at-words-of .words-of .result in
     let start = sized .before .before .before in
     let same = ap (λ (x : ℕ). w / sized .size-of .result * x) (sized .size-of .ensures) in (
       omega (arith, sized .before .top-of .ensures, top-le (start .args .setup .d)),
-      omega (arith, div-le-self w (sized .size-of .result), c .before .before .words-of .ensures, words-le (start .args .setup)),
+      omega (arith, div-le-self w (sized .size-of .result), at-words-of .words-of .ensures, words-le (start .args .setup)),
       omega (arith, within c .1),
       omega arith,
     )

@@ -17,7 +17,9 @@ words-of-requires : tie.Need-words-of-requires
 words-of-requires c κs = search needs
 
 shared-slice-read-tag-size : tie.Need-shared-slice-read-tag-size
-shared-slice-read-tag-size c = omega (arith, keeps-words _ _ (c .before .before .before .before .before .before .pre .0) (c .before .before .before .before .before .before .pre .1), c .before .before .words-of .ensures)
+shared-slice-read-tag-size c =
+    let start = c .before .before .before .before .before .before in
+    omega (arith, keeps-words _ _ (start .pre .0) (start .pre .1), c .before .before .words-of .ensures)
 
 tag-size-requires : tie.Need-tag-size-requires
 tag-size-requires c κs = search needs
@@ -26,10 +28,13 @@ returns-2 : tie.Need-returns-2
 returns-2 c =
     let at-words-of = c .before .before .before in
     let start = at-words-of .before .before .before .before in
-    c .tag-size .ensures ∙ sym (live-tag _ _ (start .pre .0) (start .pre .1) (start .args .address) (omega arith) (omega (arith, at-words-of .words-of .ensures)))
+    c .tag-size .ensures ∙ sym (live-tag _ _ (start .pre .0) (start .pre .1) (start .args .address) (omega arith)
+    (omega (arith, at-words-of .words-of .ensures)))
 
 returns-3 : tie.Need-returns-3
-returns-3 c = sym (live-above _ _ (c .before .before .before .before .before .pre .0) (c .before .before .before .before .before .args .address) (omega (arith, c .before .words-of .ensures)))
+returns-3 c =
+    let start = c .before .before .before .before .before in
+    sym (live-above _ _ (start .pre .0) (start .args .address) (omega (arith, c .before .words-of .ensures)))
 
 pub live-size-spec : {M : Type 1} → statement M
 live-size-spec =

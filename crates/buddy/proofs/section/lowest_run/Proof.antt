@@ -17,7 +17,8 @@ use Rattle.buddy.proofs.section.lowest_run.Statement.{statement}
 use Rattle.buddy.proofs.section.lowest_run.Tie as tie
 
 abbrev Inv-loop : tie.InvT-loop
-Inv-loop setup map j n least end i₀ i = Scanned j (setup .s1) (words setup) map (firstOf (runs (size j) setup (live setup map))) i × (i < end → least ≤ getD map i 0)
+Inv-loop setup map j n least end i₀ i = Scanned j (setup .s1) (words setup) map (firstOf (runs (size j) setup (live setup map))) i
+    × (i < end → least ≤ getD map i 0)
 
 abbrev μ-loop : tie.MeasureT-loop
 μ-loop setup map j n least end i₀ i = end - i
@@ -40,16 +41,19 @@ skip-asks c =
     )
 
 scans : (c : tie.After-words-of Inv-loop μ-loop) {i r : ℕ} → At c i
-    → Passed (c .before .before .before .before .args .map .now) (c .words-of .result) (c .before .free-tag .result) (c .before .before .size-of .result) i r → At c r
+    → Passed (c .before .before .before .before .args .map .now) (c .words-of .result) (c .before .free-tag .result)
+    (c .before .before .size-of .result) i r → At c r
 scans c = let a = c .before .before .before .before .args in
     passed-scanned (a .setup .s1) (words (a .setup)) (a .j) (c .words-of .ensures) (c .before .free-tag .ensures) (c .before .before .size-of .ensures)
 
 -- no smaller block stands here
-large : (c : tie.In-loop Inv-loop μ-loop) → let a = c .before .before .before .before .before .before .before .args in freeTag (a .j) ≤ getD (a .map .now) (c .before .loop .i) 0
+large : (c : tie.In-loop Inv-loop μ-loop) → let a = c .before .before .before .before .before .before .before .args in
+    freeTag (a .j) ≤ getD (a .map .now) (c .before .loop .i) 0
 large c = omega (arith, c .before .loop .inv .1 (c .loop-test .taken), c .before .before .before .before .free-tag .ensures)
 
 -- the words after a live block
-past-live : (c : tie.Else1 Inv-loop μ-loop) → let l = c .before .before .before in let k = getD (l .before .before .before .before .before .before .args .map .now) (l .loop .i) 0 / 2 - 1 in
+past-live : (c : tie.Else1 Inv-loop μ-loop) → let l = c .before .before .before in
+    let k = getD (l .before .before .before .before .before .before .args .map .now) (l .loop .i) 0 / 2 - 1 in
     (k ≤ 7) × ((n : ℕ) → n ≡ size k → At (l .before .before) (l .loop .i + n))
 past-live c =
     let l = c .before .before .before in
@@ -70,19 +74,35 @@ skip-requires : tie.Need-skip-requires Inv-loop μ-loop
 skip-requires c κs = skip-asks c
 
 loop-holds : tie.Need-loop-holds Inv-loop μ-loop
-loop-holds c = (scans (c .before) (scan-starts (c .before .before .before .before .before .args .setup) (c .before .before .before .before .before .args .map .now) (c .before .before .before .before .before .args .j) (c .before .before .before .before .before .pre .0) (c .before .before .before .before .before .pre .1) (c .before .before .before .before .before .pre .2)) (c .skip .ensures .0), c .skip .ensures .1)
+loop-holds c =
+    let start = c .before .before .before .before .before in (
+      scans (c .before) (scan-starts (start .args .setup) (start .args .map .now) (start .args .j) (start .pre .0) (start .pre .1) (start .pre .2))
+          (c .skip .ensures .0),
+      c .skip .ensures .1,
+    )
 
 shared-slice-read-tag : tie.Need-shared-slice-read-tag Inv-loop μ-loop
-shared-slice-read-tag c = omega (arith, c .before .before .before .before .words-of .ensures, keeps-words (c .before .before .before .before .before .before .before .before .args .setup) (c .before .before .before .before .before .before .before .before .args .map .now) (c .before .before .before .before .before .before .before .before .pre .0) (c .before .before .before .before .before .before .before .before .pre .1))
+shared-slice-read-tag c =
+    let at-words-of = c .before .before .before .before in
+    let start = at-words-of .before .before .before .before in
+    omega (arith, at-words-of .words-of .ensures, keeps-words (start .args .setup) (start .args .map .now) (start .pre .0) (start .pre .1))
 
 cast-t12 : tie.Need-cast-t12 Inv-loop μ-loop
 cast-t12 c = search needs
 
 add-t13 : tie.Need-add-t13 Inv-loop μ-loop
-add-t13 c = record { fits = omega (arith, c .before .before .before .before .loop .inv .0 .0, words-le (c .before .before .before .before .before .before .before .before .before .before .args .setup)) }
+add-t13 c =
+    let at-loop = c .before .before .before .before in
+    let start = at-loop .before .before .before .before .before .before in
+    record { fits = omega (arith, at-loop .loop .inv .0 .0, words-le (start .args .setup)) }
 
 returns : tie.Need-returns Inv-loop μ-loop
-returns c = first-told _ (meets-free (c .before .before .before .before .before .before .before .before .before .before .args .setup .s1) (words (c .before .before .before .before .before .before .before .before .before .before .args .setup)) (c .before .before .before .before .loop .i) (c .before .before .before .before .before .before .before .before .before .before .args .map .now) (c .before .before .before .before .loop .inv .0) (omega (arith, c .before .before .before .before .before .before .words-of .ensures)) (large (c .before .before .before)) (λ e. omega (arith, c .before .if1 .taken)))
+returns c =
+    let at-loop = c .before .before .before .before in
+    let at-words-of = at-loop .before .before in
+    let start = at-words-of .before .before .before .before in
+    first-told _ (meets-free (start .args .setup .s1) (words (start .args .setup)) (at-loop .loop .i) (start .args .map .now) (at-loop .loop .inv .0)
+    (omega (arith, at-words-of .words-of .ensures)) (large (c .before .before .before)) (λ e. omega (arith, c .before .if1 .taken)))
 
 sub-size-of : tie.Need-sub-size-of Inv-loop μ-loop
 unfolding freeTag
@@ -92,19 +112,32 @@ size-of-requires-2 : tie.Need-size-of-requires-2 Inv-loop μ-loop
 size-of-requires-2 c κs = past-live c .0
 
 add-skip : tie.Need-add-skip Inv-loop μ-loop
-add-skip c = record { fits = omega (arith, past-live (c .before) .1 (c .size-of2 .result) (c .size-of2 .ensures) .0, words-le (c .before .before .before .before .before .before .before .before .before .before .args .setup)) }
+add-skip c =
+    let start = c .before .before .before .before .before .before .before .before .before .before in
+    record { fits = omega (arith, past-live (c .before) .1 (c .size-of2 .result) (c .size-of2 .ensures) .0, words-le (start .args .setup)) }
 
 skip-requires-2 : tie.Need-skip-requires-2 Inv-loop μ-loop
 skip-requires-2 c κs = skip-asks (c .before .before .before .before .before .before)
 
 loop-less : tie.Need-loop-less Inv-loop μ-loop
-loop-less c = omega (arith, passed-on (c .skip2 .ensures .0), c .before .size-of2 .ensures, size-pos (getD (c .before .before .before .before .before .before .before .before .before .before .before .args .map .now) (c .before .before .before .before .before .loop .i) 0 / 2 - 1))
+loop-less c =
+    let at-loop = c .before .before .before .before .before in
+    let start = at-loop .before .before .before .before .before .before in
+    omega (arith, passed-on (c .skip2 .ensures .0), c .before .size-of2 .ensures, size-pos (getD (start .args .map .now) (at-loop .loop .i) 0 / 2 - 1))
 
 loop-again : tie.Need-loop-again Inv-loop μ-loop
-loop-again c = (scans (c .before .before .before .before .before .before .before) (past-live (c .before .before) .1 (c .before .size-of2 .result) (c .before .size-of2 .ensures)) (c .skip2 .ensures .0), c .skip2 .ensures .1)
+loop-again c = (
+  scans (c .before .before .before .before .before .before .before) (past-live (c .before .before) .1 (c .before .size-of2 .result)
+      (c .before .size-of2 .ensures)) (c .skip2 .ensures .0),
+  c .skip2 .ensures .1,
+)
 
 returns-2 : tie.Need-returns-2 Inv-loop μ-loop
-returns-2 c = first-told _ (scan-ends (c .before .before .before .before .before .before .before .args .setup .s1) (words (c .before .before .before .before .before .before .before .args .setup)) (c .before .loop .i) (c .before .before .before .before .before .before .before .args .map .now) (c .before .loop .inv .0) (omega (arith, c .before .before .before .words-of .ensures)))
+returns-2 c =
+    let at-words-of = c .before .before .before in
+    let start = at-words-of .before .before .before .before in
+    first-told _ (scan-ends (start .args .setup .s1) (words (start .args .setup)) (c .before .loop .i) (start .args .map .now)
+    (c .before .loop .inv .0) (omega (arith, at-words-of .words-of .ensures)))
 
 pub lowest-run-spec : {M : Type 1} → statement M
 lowest-run-spec =

@@ -26,7 +26,9 @@ size-of-requires c κs = search needs
 
 returns-4 : tie.Need-returns-4
 unfolding tagSize
-returns-4 c = c .size-of .ensures ∙ rw (le-ltb _ _ (c .before .before .before .if1 .left), ne-eqb _ _ (c .before .before .if2 .left), le-ltb _ _ (c .before .if3 .left))
+returns-4 c =
+    let at-if = c .before .before .before in
+    c .size-of .ensures ∙ rw (le-ltb _ _ (at-if .if1 .left), ne-eqb _ _ (c .before .before .if2 .left), le-ltb _ _ (c .before .if3 .left))
 
 pub tag-size-spec : {M : Type 1} → statement M
 tag-size-spec =

@@ -64,7 +64,9 @@ size-of-requires : tie.Need-size-of-requires
 size-of-requires c κs = omega arith
 
 div-result : tie.Need-div-result
-div-result c = omega (arith, c .size-of .ensures, size-pos (c .before .before .before .before .before .before .before .before .before .before .args .k))
+div-result c =
+    let start = c .before .before .before .before .before .before .before .before .before .before in
+    omega (arith, c .size-of .ensures, size-pos (start .args .k))
 
 returns-5 : tie.Need-returns-5
 returns-5 c =

@@ -30,7 +30,8 @@ abbrev split-below : ℕ → In 1 split-kinds.ps
 split-below t = and 1 split-kinds.ps (falls 1 split-kinds.ps _<_ μ-split t) split.Pre
 
 -- what the calls ask and give, below the measure t
-abbrev split-calls : ℕ → In 0 live-tag-kinds.ps × Out 0 live-tag-kinds.ps live-tag-kinds.r × In 0 free-tag-kinds.ps × Out 0 free-tag-kinds.ps free-tag-kinds.r × In 1 split-kinds.ps × Out 1 split-kinds.ps split-kinds.r
+abbrev split-calls : ℕ → In 0 live-tag-kinds.ps × Out 0 live-tag-kinds.ps live-tag-kinds.r × In 0 free-tag-kinds.ps
+    × Out 0 free-tag-kinds.ps free-tag-kinds.r × In 1 split-kinds.ps × Out 1 split-kinds.ps split-kinds.r
 split-calls t = (
   live-tag-reads.Asked,
   live-tag-reads.Learnt,
@@ -50,7 +51,9 @@ split-same-length : (t : ℕ) → split-lts.Need-same-length (split-calls t) (sp
 split-same-length t c = search needs
 
 split-returns : (t : ℕ) → split-lts.Need-returns (split-calls t) (split-at t) split.Post
-split-returns t c = λ at w. split-ends (c .before .before .before .args .k) (c .before .before .before .args .j) (c .live-tag .result) at _ (c .before .if1 .taken) (c .live-tag .ensures) w
+split-returns t c =
+    let start = c .before .before .before in
+    λ at w. split-ends (start .args .k) (start .args .j) (c .live-tag .result) at _ (c .before .if1 .taken) (c .live-tag .ensures) w
 
 split-sub-free-tag : (t : ℕ) → split-lts.Need-sub-free-tag (split-calls t) (split-at t) split.Post
 split-sub-free-tag t c = omega arith
@@ -89,11 +92,13 @@ split-same-length-2 : (t : ℕ) → split-lts.Need-same-length-2 (split-calls t)
 split-same-length-2 t c = c .before .tags .given .1 ∙ simp length-set
 
 split-returns-2 : (t : ℕ) → split-lts.Need-returns-2 (split-calls t) (split-at t) split.Post
-split-returns-2 t c = λ at w.
-    let e = c .before .before .before .before .before .before .before in
-    let tag = c .before .before .before .before .free-tag in
-    split-goes (e .args .k) (e .args .j) (tag .result) at _ (e .args .tags .now) _ (c .before .before .split .last .1 .1 .0) refl refl (omega arith)
-    (half-size _ _ (omega arith) (e .pre .1 .2)) (tag .ensures) w (c .before .before .split .ensures at)
+split-returns-2 t c =
+    let at-split = c .before .before in
+    λ at w.
+    let e = at-split .before .before .before .before .before in
+    let tag = at-split .before .before .free-tag in
+    split-goes (e .args .k) (e .args .j) (tag .result) at _ (e .args .tags .now) _ (at-split .split .last .1 .1 .0) refl refl (omega arith)
+    (half-size _ _ (omega arith) (e .pre .1 .2)) (tag .ensures) w (at-split .split .ensures at)
 
 pub +split-spec : {M : Type 1} → statement M
 +split-spec = close μ-split λ t. split-lts.spec (split-calls t)

@@ -66,7 +66,9 @@ loop-again c =
     )
 
 returns-2 : tie.Need-returns-2 Inv-loop μ-loop
-returns-2 c = sym (adds-end (c .before .before .before .args .k) (c .before .before .before .args .bytes .now) (omega arith) (c .before .loop .inv .2))
+returns-2 c =
+    let start = c .before .before .before in
+    sym (adds-end (start .args .k) (start .args .bytes .now) (omega arith) (c .before .loop .inv .2))
 
 pub count-blocks-spec : {M : Type 1} → statement M
 count-blocks-spec =

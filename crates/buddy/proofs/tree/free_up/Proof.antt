@@ -23,14 +23,19 @@ abbrev μ-loop : tie.MeasureT-loop
 -- the block goes on: its other half is free
 goes-on : (c : tie.Then1 Inv-loop μ-loop) → let l = c .before .before .before .loop in
     (l .j < c .before .before .before .before .before .args .k) × (getD (l .tags) (otherPlace (size (l .j)) (l .at)) 0 ≡ freeTag (l .j))
-goes-on c = let l = c .before .before .before .loop in both-hold (l .j) _ (getD (l .tags) (otherPlace (size (l .j)) (l .at)) 0) (freeTag (l .j)) (c .before .is-joined .ensures) (c .if1 .taken)
+goes-on c =
+    let at-loop = c .before .before .before in
+    let l = at-loop .loop in both-hold (l .j) _ (getD (l .tags) (otherPlace (size (l .j)) (l .at)) 0) (freeTag (l .j)) (c .before .is-joined .ensures)
+    (c .if1 .taken)
 
 -- the block of both halves
 pair : (c : tie.After-pair-start Inv-loop μ-loop) → let start = c .pair-start .result in let n = c .before .size-of .result in
-    (start + n + n ≤ size (c .before .before .before .before .before .before .before .args .k)) × (size (c .before .before .before .before .before .before .before .args .k) ≤ 128)
+    (start + n + n ≤ size (c .before .before .before .before .before .before .before .args .k))
+    × (size (c .before .before .before .before .before .before .before .args .k) ≤ 128)
 pair c =
     let l = c .before .before .before .before .before in
-    let h = rise-pair (l .loop .inv .1 .1) (goes-on (c .before .before) .0) (c .before .size-of .result) (c .before .size-of .ensures) (c .pair-start .result) (c .pair-start .ensures) in
+    let h = rise-pair (l .loop .inv .1 .1) (goes-on (c .before .before) .0) (c .before .size-of .result) (c .before .size-of .ensures)
+    (c .pair-start .result) (c .pair-start .ensures) in
     (h .2, size-small (l .before .before .args .k) (omega arith))
 
 loop-holds : tie.Need-loop-holds Inv-loop μ-loop
@@ -43,13 +48,18 @@ size-of-requires : tie.Need-size-of-requires Inv-loop μ-loop
 size-of-requires c κs = omega (arith, rise-low (c .before .before .before .loop .inv .1 .1))
 
 pair-start-requires : tie.Need-pair-start-requires Inv-loop μ-loop
-pair-start-requires c κs = let small = size-small (c .before .before .before .before .loop .j) (omega (arith, rise-low (c .before .before .before .before .loop .inv .1 .1))) in (omega (arith, c .size-of .ensures, size-pos (c .before .before .before .before .loop .j)), omega (arith, c .size-of .ensures))
+pair-start-requires c κs =
+    let at-loop = c .before .before .before .before in
+    let small = size-small (at-loop .loop .j) (omega (arith, rise-low (at-loop .loop .inv .1 .1))) in
+    (omega (arith, c .size-of .ensures, size-pos (at-loop .loop .j)), omega (arith, c .size-of .ensures))
 
 add-tags : tie.Need-add-tags Inv-loop μ-loop
 add-tags c = let h = pair c in record { fits = omega arith }
 
 slice-write-tags : tie.Need-slice-write-tags Inv-loop μ-loop
-slice-write-tags c = let h = pair c in omega (arith, c .before .before .before .before .before .loop .inv .0, c .before .size-of .ensures, size-pos (c .before .before .before .before .before .loop .j))
+slice-write-tags c =
+    let at-loop = c .before .before .before .before .before in
+    let h = pair c in omega (arith, at-loop .loop .inv .0, c .before .size-of .ensures, size-pos (at-loop .loop .j))
 
 add-j : tie.Need-add-j Inv-loop μ-loop
 add-j c = let h = goes-on (c .before .before) in record { fits = omega (arith, h .0) }
@@ -59,23 +69,36 @@ loop-less c = let h = goes-on (c .before .before) in omega (arith, h .0)
 
 loop-again : tie.Need-loop-again Inv-loop μ-loop
 loop-again c =
+    let at-loop = c .before .before .before .before .before in
     let (less, free) = goes-on (c .before .before) in (
-      rw length-set (c .before .before .before .before .before .loop .inv .0),
-      (_, rise-widens (c .before .before .before .before .before .loop .inv .1 .1) less (c .before .size-of .result) (c .before .size-of .ensures) (c .pair-start .result) (c .pair-start .ensures) free),
-      λ new r. rise-widens (c .before .before .before .before .before .loop .inv .2 new r) less (c .before .size-of .result) (c .before .size-of .ensures) (c .pair-start .result) (c .pair-start .ensures) free,
+      rw length-set (at-loop .loop .inv .0),
+      (
+        _,
+        rise-widens (at-loop .loop .inv .1 .1) less (c .before .size-of .result) (c .before .size-of .ensures) (c .pair-start .result)
+            (c .pair-start .ensures) free,
+      ),
+      λ new r. rise-widens (at-loop .loop .inv .2 new r) less (c .before .size-of .result) (c .before .size-of .ensures) (c .pair-start .result)
+          (c .pair-start .ensures) free,
     )
 
 free-tag-requires : tie.Need-free-tag-requires Inv-loop μ-loop
 free-tag-requires c κs = omega (arith, rise-low (c .before .before .before .loop .inv .1 .1))
 
 slice-write-tags-2 : tie.Need-slice-write-tags-2 Inv-loop μ-loop
-slice-write-tags-2 c = omega (arith, c .before .before .before .before .loop .inv .0, rise-inside (c .before .before .before .before .loop .inv .1 .1), size-pos (c .before .before .before .before .loop .j))
+slice-write-tags-2 c =
+    let at-loop = c .before .before .before .before in
+    omega (arith, at-loop .loop .inv .0, rise-inside (at-loop .loop .inv .1 .1), size-pos (at-loop .loop .j))
 
 same-length : tie.Need-same-length Inv-loop μ-loop
 same-length c = rw length-set (c .before .before .before .before .loop .inv .0 ∙ sym (c .before .before .before .before .before .before .pre .1))
 
 returns : tie.Need-returns Inv-loop μ-loop
-returns c = λ new r. ap (λ (x : ℕ). set (c .before .before .before .before .loop .tags) (c .before .before .before .before .loop .at) x) (c .free-tag .ensures) ∙ rise-ends (c .before .before .before .before .loop .inv .2 new r) (not-both (c .before .before .before .before .loop .j) (c .before .before .before .before .before .before .args .k) _ _ (c .before .before .is-joined .ensures) (c .before .if1 .left))
+returns c =
+    let at-loop = c .before .before .before .before in
+    let start = at-loop .before .before in
+    λ new r. ap (λ (x : ℕ). set (at-loop .loop .tags) (at-loop .loop .at) x) (c .free-tag .ensures)
+    ∙ rise-ends (at-loop .loop .inv .2 new r) (not-both (at-loop .loop .j) (start .args .k) _ _ (c .before .before .is-joined .ensures)
+    (c .before .if1 .left))
 
 pub free-up-spec : {M : Type 1} → statement M
 free-up-spec =

@@ -17,17 +17,23 @@ div-if2 c = search needs
 
 returns-2 : tie.Need-returns-2
 unfolding isRest
-returns-2 c = rw (eq-eqb (c .before .before .args .tag % 2) 1 (c .before .if1 .left), ne-eqb (c .before .before .args .i / c .before .before .args .n % 2) 1 (c .if2 .taken))
+returns-2 c =
+    let start = c .before .before in
+    rw (eq-eqb (start .args .tag % 2) 1 (c .before .if1 .left), ne-eqb (start .args .i / start .args .n % 2) 1 (c .if2 .taken))
 
 sub-result : tie.Need-sub-result
-sub-result c = odd-past (c .before .before .args .i) (c .before .before .args .n) (c .if2 .left)
+sub-result c =
+    let start = c .before .before in
+    odd-past (start .args .i) (start .args .n) (c .if2 .left)
 
 shared-slice-read-result : tie.Need-shared-slice-read-result
 shared-slice-read-result c = omega arith
 
 returns-3 : tie.Need-returns-3
 unfolding isRest
-returns-3 c = rw (eq-eqb (c .before .before .before .args .tag % 2) 1 (c .before .before .if1 .left), eq-eqb (c .before .before .before .args .i / c .before .before .before .args .n % 2) 1 (c .before .if2 .left))
+returns-3 c =
+    let start = c .before .before .before in
+    rw (eq-eqb (start .args .tag % 2) 1 (c .before .before .if1 .left), eq-eqb (start .args .i / start .args .n % 2) 1 (c .before .if2 .left))
 
 pub is-rest-spec : {M : Type 1} → statement M
 is-rest-spec =

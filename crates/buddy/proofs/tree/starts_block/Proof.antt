@@ -15,13 +15,17 @@ shared-slice-read-tag : tie.Need-shared-slice-read-tag
 shared-slice-read-tag c = omega arith
 
 returns : tie.Need-returns
-returns c = sym (zero-stops (c .before .before .before .args .k) (c .before .before .before .args .bytes .now) (c .before .before .before .args .i) (c .if1 .taken))
+returns c =
+    let start = c .before .before .before in
+    sym (zero-stops (start .args .k) (start .args .bytes .now) (start .args .i) (c .if1 .taken))
 
 live-tag-requires : tie.Need-live-tag-requires
 live-tag-requires c κs = omega arith
 
 returns-2 : tie.Need-returns-2
-returns-2 c = sym (above-stops (c .before .before .before .before .before .args .k) (c .before .before .before .before .before .args .bytes .now) (c .before .before .before .before .before .args .i) (omega (arith, c .if2 .taken, c .before .live-tag .ensures)))
+returns-2 c =
+    let start = c .before .before .before .before .before in
+    sym (above-stops (start .args .k) (start .args .bytes .now) (start .args .i) (omega (arith, c .if2 .taken, c .before .live-tag .ensures)))
 
 sub-size-of : tie.Need-sub-size-of
 sub-size-of c = omega arith
@@ -31,18 +35,31 @@ unfolding liveTag
 size-of-requires c κs = omega (arith, c .if2 .left, c .before .live-tag .ensures)
 
 rem-if3 : tie.Need-rem-if3
-rem-if3 c = omega (arith, c .size-of .ensures, size-pos ((getD (c .before .before .before .before .before .before .args .bytes .now) (c .before .before .before .before .before .before .args .i) 0 - 1) / 2))
+rem-if3 c =
+    let start = c .before .before .before .before .before .before in
+    omega (arith, c .size-of .ensures, size-pos ((getD (start .args .bytes .now) (start .args .i) 0 - 1) / 2))
 
 returns-3 : tie.Need-returns-3
 unfolding tagLevel
-returns-3 c = sym (off-stops (c .before .before .before .before .before .before .before .args .k) (c .before .before .before .before .before .before .before .args .bytes .now) (c .before .before .before .before .before .before .before .args .i) (c .before .size-of .result) (c .before .size-of .ensures) (c .if3 .taken))
+returns-3 c =
+    let start = c .before .before .before .before .before .before .before in
+    sym (off-stops (start .args .k) (start .args .bytes .now) (start .args .i) (c .before .size-of .result) (c .before .size-of .ensures) (c .if3 .taken))
 
 is-rest-requires : tie.Need-is-rest-requires
-is-rest-requires c κs = (omega (arith, c .before .size-of .ensures, size-pos ((getD (c .before .before .before .before .before .before .before .args .bytes .now) (c .before .before .before .before .before .before .before .args .i) 0 - 1) / 2)), omega arith)
+is-rest-requires c κs =
+    let start = c .before .before .before .before .before .before .before in
+    (omega (arith, c .before .size-of .ensures, size-pos ((getD (start .args .bytes .now) (start .args .i) 0 - 1) / 2)), omega arith)
 
 returns-4 : tie.Need-returns-4
 unfolding tagLevel
-returns-4 c = ap not (c .is-rest .ensures) ∙ sym (starts-else (c .before .before .before .before .before .before .before .before .args .k) (c .before .before .before .before .before .before .before .before .args .bytes .now) (c .before .before .before .before .before .before .before .before .args .i) (c .before .before .size-of .result) (c .before .before .size-of .ensures) (c .before .before .before .before .before .if1 .left) (omega (arith, c .before .before .before .if2 .left, c .before .before .before .before .live-tag .ensures)) (c .before .if3 .left))
+returns-4 c =
+    let at-size-of = c .before .before in
+    let at-if = at-size-of .before in
+    let at-live-tag = at-if .before in
+    let at-if-2 = at-live-tag .before in
+    let start = at-if-2 .before .before .before in
+    ap not (c .is-rest .ensures) ∙ sym (starts-else (start .args .k) (start .args .bytes .now) (start .args .i) (at-size-of .size-of .result)
+    (at-size-of .size-of .ensures) (at-if-2 .if1 .left) (omega (arith, at-if .if2 .left, at-live-tag .live-tag .ensures)) (c .before .if3 .left))
 
 pub starts-block-spec : {M : Type 1} → statement M
 starts-block-spec =

@@ -5,7 +5,9 @@ use Rattle.block.proofs.Size.{fitting-facts}
 use Rattle.block.proofs.Change.{words-whole}
 use Rattle.operands.proofs.Storing.{still-reached}
 use Rattle.commit.proofs.Delivering.{same-run, same-copy}
-use Rattle.commit.proofs.Carrying.{store-asks, two-asks, set-up-asks, deliver-asks, deliver-two-asks, free-asks, input-asks, print-asks, save-asks, restore-asks, did-store, did-two, did-set-up, did-deliver, did-deliver-two, did-free, did-input, did-print, did-save, did-restore, idles}
+use Rattle.commit.proofs.Carrying.{store-asks, two-asks, set-up-asks, deliver-asks, deliver-two-asks, free-asks, input-asks}
+use Rattle.commit.proofs.Carrying.{print-asks, save-asks, restore-asks, did-store, did-two, did-set-up, did-deliver}
+use Rattle.commit.proofs.Carrying.{did-deliver-two, did-free, did-input, did-print, did-save, did-restore, idles}
 use borrow.Author.Needs.{needs}
 use Rattle.commit.proofs.carry.carry_out.Statement.{statement}
 use Rattle.commit.proofs.carry.carry_out.Tie as tie
@@ -40,7 +42,8 @@ enum-known-action-3 c = search needs
 
 set-up-requires : tie.Need-set-up-requires
 set-up-requires c κs =
-    let h = set-up-asks _ _ (c .before .before .before .before .before .before .before .pre .3 .1) (c .before .before .action3 .given .1) in
+    let start = c .before .before .before .before .before .before .before in
+    let h = set-up-asks _ _ (start .pre .3 .1) (c .before .before .action3 .given .1) in
     (words-whole _ _ (h .0), h .1)
 
 words-of-requires : tie.Need-words-of-requires
@@ -92,16 +95,20 @@ store-requires-6 c κs =
     let at-storage8 = c .before .before .before in
     let at-storage7 = at-storage8 .before .before .before .before .before in
     let at-action5 = at-storage7 .before .before .before .before .before .before .before in
-    let start = at-action5 .before .before .before .before .before in
-    (start .pre .0, still-reached _ _ _ _ _ (at-storage8 .storage8 .given ∙ at-storage7 .storage7 .given) (deliver-two-asks _ _ (start .pre .3 .1) (at-action5 .action5 .given .1) .2))
+    let start = at-action5 .before .before .before .before .before in (
+      start .pre .0,
+      still-reached _ _ _ _ _ (at-storage8 .storage8 .given ∙ at-storage7 .storage7 .given)
+          (deliver-two-asks _ _ (start .pre .3 .1) (at-action5 .action5 .given .1) .2),
+    )
 
 enum-known-action-6 : tie.Need-enum-known-action-6
 enum-known-action-6 c = search needs
 
 free-block-requires : tie.Need-free-block-requires
 free-block-requires c κs =
-    let h = free-asks _ _ (c .before .before .before .before .before .before .before .pre .3 .1) (c .before .before .action6 .given .1) in
-    (c .before .before .before .before .before .before .before .pre .1, c .before .before .before .before .before .before .before .pre .2, h .1)
+    let start = c .before .before .before .before .before .before .before in
+    let h = free-asks _ _ (start .pre .3 .1) (c .before .before .action6 .given .1) in
+    (start .pre .1, start .pre .2, h .1)
 
 store-requires-7 : tie.Need-store-requires-7
 store-requires-7 c κs =
@@ -123,14 +130,17 @@ enum-known-action-8 c = search needs
 
 print-into-requires : tie.Need-print-into-requires
 print-into-requires c κs =
-    let (narrow, room) = print-asks _ _ (c .before .before .before .before .before .before .before .pre .3 .1) (c .before .before .action8 .given .1) in
+    let start = c .before .before .before .before .before .before .before in
+    let (narrow, room) = print-asks _ _ (start .pre .3 .1) (c .before .before .action8 .given .1) in
     (narrow, omega arith)
 
 enum-known-action-9 : tie.Need-enum-known-action-9
 enum-known-action-9 c = search needs
 
 mul-entries : tie.Need-mul-entries
-mul-entries c = let h = save-asks _ _ (c .before .before .before .before .before .before .pre .3 .1) (c .before .action9 .given .1) in search needs
+mul-entries c =
+    let start = c .before .before .before .before .before .before in
+    let h = save-asks _ _ (start .pre .3 .1) (c .before .action9 .given .1) in search needs
 
 element-write-entries : tie.Need-element-write-entries
 element-write-entries c = save-asks _ _ (c .before .before .before .before .before .before .pre .3 .1) (c .before .action9 .given .1)
@@ -148,7 +158,9 @@ same-length : tie.Need-same-length
 same-length c = search needs
 
 returns : tie.Need-returns
-returns c = did-store _ _ _ _ _ _ _ _ _ (c .before .before .before .before .before .before .action .given .1) (c .before .before .store .ensures)
+returns c =
+    let at-action = c .before .before .before .before .before .before in
+    did-store _ _ _ _ _ _ _ _ _ (at-action .action .given .1) (c .before .before .store .ensures)
 
 same-length-2 : tie.Need-same-length-2
 same-length-2 c = search needs
@@ -170,7 +182,8 @@ returns-3 c =
     let at-words-of = c .before .before .before in
     let at-set-up = at-words-of .before .before .before .before in
     let at-action3 = at-set-up .before .before .before in
-    did-set-up _ _ _ _ _ _ _ _ _ (at-action3 .action3 .given .1) (at-words-of .words-of .ensures) (at-set-up .set-up .ensures) (c .before .before .zero-words .ensures)
+    did-set-up _ _ _ _ _ _ _ _ _ (at-action3 .action3 .given .1) (at-words-of .words-of .ensures) (at-set-up .set-up .ensures)
+    (c .before .before .zero-words .ensures)
 
 same-length-5 : tie.Need-same-length-5
 same-length-5 c = search needs
@@ -195,7 +208,8 @@ returns-5 c =
     let at-store5 = c .before .before .before .before .before .before .before in
     let at-take-run2 = at-store5 .before .before .before .before .before .before .before in
     let at-action5 = at-take-run2 .before .before .before .before in
-    did-deliver-two _ _ _ _ _ _ _ _ _ (at-take-run2 .take-run2 .ensures) (at-action5 .action5 .given .1) (at-store5 .store5 .ensures) (c .before .before .store6 .ensures)
+    did-deliver-two _ _ _ _ _ _ _ _ _ (at-take-run2 .take-run2 .ensures) (at-action5 .action5 .given .1) (at-store5 .store5 .ensures)
+    (c .before .before .store6 .ensures)
 
 same-length-9 : tie.Need-same-length-9
 same-length-9 c = search needs
@@ -213,13 +227,17 @@ same-length-11 : tie.Need-same-length-11
 same-length-11 c = search needs
 
 returns-7 : tie.Need-returns-7
-returns-7 c = did-input _ _ _ _ _ _ _ _ _ (c .before .before .before .before .before .before .action7 .given .1) (c .before .before .store8 .ensures)
+returns-7 c =
+    let at-action = c .before .before .before .before .before .before in
+    did-input _ _ _ _ _ _ _ _ _ (at-action .action7 .given .1) (c .before .before .store8 .ensures)
 
 same-length-12 : tie.Need-same-length-12
 same-length-12 c = search needs
 
 returns-8 : tie.Need-returns-8
-returns-8 c = did-print _ _ _ _ _ _ _ _ _ (c .before .before .before .before .before .action8 .given .1) (c .before .before .print-into .ensures)
+returns-8 c =
+    let at-action = c .before .before .before .before .before in
+    did-print _ _ _ _ _ _ _ _ _ (at-action .action8 .given .1) (c .before .before .print-into .ensures)
 
 returns-9 : tie.Need-returns-9
 returns-9 c = did-save _ _ _ _ _ _ _ _ _ (c .before .action9 .given .1)
@@ -228,7 +246,9 @@ same-length-13 : tie.Need-same-length-13
 same-length-13 c = search needs
 
 returns-10 : tie.Need-returns-10
-returns-10 c = did-restore _ _ _ _ _ _ _ _ _ (c .before .before .before .before .before .before .action10 .given .1) (c .before .before .store9 .ensures)
+returns-10 c =
+    let at-action = c .before .before .before .before .before .before in
+    did-restore _ _ _ _ _ _ _ _ _ (at-action .action10 .given .1) (c .before .before .store9 .ensures)
 
 returns-11 : tie.Need-returns-11
 returns-11 c = idles _ _ _ _ _ _ _ _ _ _ (c .match .keys11)

@@ -14,12 +14,21 @@ level-of-requires c κs = omega (arith, c .top-of .ensures, top-le (c .before .b
 
 deliver-requires : tie.Need-deliver-requires
 deliver-requires c κs =
-    let start = c .before .before .before .before .before in
-    let r = start .pre .2 in
-    (start .pre .0, start .pre .1, run-low _ r, run-inside _ r, run-small _ r (c .before .before .top-of .ensures) (c .before .level-of .ensures), run-first _ r (c .before .before .top-of .ensures) (c .before .level-of .ensures))
+    let at-top-of = c .before .before in
+    let start = at-top-of .before .before .before in
+    let r = start .pre .2 in (
+      start .pre .0,
+      start .pre .1,
+      run-low _ r,
+      run-inside _ r,
+      run-small _ r (at-top-of .top-of .ensures) (c .before .level-of .ensures),
+      run-first _ r (at-top-of .top-of .ensures) (c .before .level-of .ensures),
+    )
 
 fill-requires : tie.Need-fill-requires
-fill-requires c κs = let r = c .before .before .before .before .before .before .before .before .before .pre .2 in (run-low _ r, run-lies _ r, λ some. copy-lies _ r (c .before .before .before .before .before .before .before .before .before .pre .3 some))
+fill-requires c κs =
+    let start = c .before .before .before .before .before .before .before .before .before in
+    let r = start .pre .2 in (run-low _ r, run-lies _ r, λ some. copy-lies _ r (start .pre .3 some))
 
 same-length : tie.Need-same-length
 same-length c = search needs
@@ -32,8 +41,10 @@ returns c =
     let at-deliver = c .before .before .before .before .before .before in
     let at-level-of = at-deliver .before .before in
     let at-top-of = at-level-of .before in
-    let start = at-top-of .before .before .before in
-    (run-delivered _ (start .pre .2) (at-top-of .top-of .ensures) (at-level-of .level-of .ensures) (at-deliver .deliver .ensures), c .before .before .fill .ensures)
+    let start = at-top-of .before .before .before in (
+      run-delivered _ (start .pre .2) (at-top-of .top-of .ensures) (at-level-of .level-of .ensures) (at-deliver .deliver .ensures),
+      c .before .before .fill .ensures,
+    )
 
 pub take-run-spec : {M : Type 1} → statement M
 take-run-spec =

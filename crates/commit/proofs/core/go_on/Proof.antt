@@ -4,7 +4,8 @@ use native.Mathlib.Numerals.{add-one}
 use mathlib.Core.Path.{sym}
 use Rattle.commit.specs.Carried.{setupAfter, countsAfter, isRecorded}
 use Rattle.commit.proofs.Others.{stays}
-use Rattle.commit.proofs.Turning.{input-fits, print-fits, save-room, restore-room, save-definition-room, restore-definition-room, call-room, return-room}
+use Rattle.commit.proofs.Turning.{input-fits, print-fits, save-room, restore-room, save-definition-room}
+use Rattle.commit.proofs.Turning.{restore-definition-room, call-room, return-room}
 use borrow.Author.Needs.{needs}
 use Rattle.commit.proofs.core.go_on.Statement.{statement}
 use Rattle.commit.proofs.core.go_on.Tie as tie
@@ -43,7 +44,9 @@ enum-told-4 : tie.Need-enum-told-4
 enum-told-4 c = search needs
 
 add-after-4 : tie.Need-add-after-4
-add-after-4 c = record { fits = omega (arith, save-definition-room (c .before .before .before .pre .countable) (c .before .enum-told4 .given .1) .1) }
+add-after-4 c =
+    let start = c .before .before .before in
+    record { fits = omega (arith, save-definition-room (start .pre .countable) (c .before .enum-told4 .given .1) .1) }
 
 enum-told-5 : tie.Need-enum-told-5
 enum-told-5 c = search needs

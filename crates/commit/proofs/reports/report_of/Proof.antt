@@ -3,7 +3,8 @@ use mathlib.Core.Path.{_∙_}
 use Rattle.machine.specs.Storage.{noReport}
 use Rattle.commit.specs.Reported.{reportOf}
 use Rattle.commit.proofs.Others.{unreported}
-use Rattle.commit.proofs.Turning.{store-short, two-short, deliver-short, deliver-two-short, free-short, input-short, restore-short}
+use Rattle.commit.proofs.Turning.{store-short, two-short, deliver-short, deliver-two-short, free-short, input-short}
+use Rattle.commit.proofs.Turning.{restore-short}
 use borrow.Author.Needs.{needs}
 use Rattle.commit.proofs.reports.report_of.Statement.{statement}
 use Rattle.commit.proofs.reports.report_of.Tie as tie
@@ -103,31 +104,45 @@ tell-requires-8 c κs = search needs
 
 returns : tie.Need-returns
 unfolding reportOf
-returns c = c .tell .ensures ∙ rw (c .before .before .before .before .action .given .1, c .before .before .store-to .ensures, c .before .no-store .ensures)
+returns c =
+    let at-action = c .before .before .before .before in
+    c .tell .ensures ∙ rw (at-action .action .given .1, c .before .before .store-to .ensures, c .before .no-store .ensures)
 
 returns-2 : tie.Need-returns-2
 unfolding reportOf
-returns-2 c = c .tell2 .ensures ∙ rw (c .before .before .before .before .action2 .given .1, c .before .before .store-to2 .ensures, c .before .store-to3 .ensures)
+returns-2 c =
+    let at-action = c .before .before .before .before in
+    c .tell2 .ensures ∙ rw (at-action .action2 .given .1, c .before .before .store-to2 .ensures, c .before .store-to3 .ensures)
 
 returns-3 : tie.Need-returns-3
 unfolding reportOf
-returns-3 c = c .tell3 .ensures ∙ rw (c .before .before .before .before .action3 .given .1, c .before .before .store-to4 .ensures, c .before .no-store2 .ensures)
+returns-3 c =
+    let at-action = c .before .before .before .before in
+    c .tell3 .ensures ∙ rw (at-action .action3 .given .1, c .before .before .store-to4 .ensures, c .before .no-store2 .ensures)
 
 returns-4 : tie.Need-returns-4
 unfolding reportOf
-returns-4 c = c .tell4 .ensures ∙ rw (c .before .before .before .before .action4 .given .1, c .before .before .store-to5 .ensures, c .before .store-to6 .ensures)
+returns-4 c =
+    let at-action = c .before .before .before .before in
+    c .tell4 .ensures ∙ rw (at-action .action4 .given .1, c .before .before .store-to5 .ensures, c .before .store-to6 .ensures)
 
 returns-5 : tie.Need-returns-5
 unfolding reportOf
-returns-5 c = c .tell5 .ensures ∙ rw (c .before .before .before .before .action5 .given .1, c .before .before .store-to7 .ensures, c .before .no-store3 .ensures)
+returns-5 c =
+    let at-action = c .before .before .before .before in
+    c .tell5 .ensures ∙ rw (at-action .action5 .given .1, c .before .before .store-to7 .ensures, c .before .no-store3 .ensures)
 
 returns-6 : tie.Need-returns-6
 unfolding reportOf
-returns-6 c = c .tell6 .ensures ∙ rw (c .before .before .before .before .action6 .given .1, c .before .before .store-to8 .ensures, c .before .no-store4 .ensures)
+returns-6 c =
+    let at-action = c .before .before .before .before in
+    c .tell6 .ensures ∙ rw (at-action .action6 .given .1, c .before .before .store-to8 .ensures, c .before .no-store4 .ensures)
 
 returns-7 : tie.Need-returns-7
 unfolding reportOf
-returns-7 c = c .tell7 .ensures ∙ rw (c .before .before .before .before .action7 .given .1, c .before .before .store-to9 .ensures, c .before .no-store5 .ensures)
+returns-7 c =
+    let at-action = c .before .before .before .before in
+    c .tell7 .ensures ∙ rw (at-action .action7 .given .1, c .before .before .store-to9 .ensures, c .before .no-store5 .ensures)
 
 returns-8 : tie.Need-returns-8
 unfolding noReport

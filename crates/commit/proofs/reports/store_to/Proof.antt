@@ -21,10 +21,15 @@ no-store-requires-2 : tie.Need-no-store-requires-2
 no-store-requires-2 c κs = search needs
 
 returns : tie.Need-returns
-returns c = to-null _ (c .before .before .before .before .at .given .1) (c .before .before .width .ensures) (c .before .if1 .taken) (c .no-store2 .ensures)
+returns c =
+    let at-at = c .before .before .before .before in
+    to-null _ (at-at .at .given .1) (c .before .before .width .ensures) (c .before .if1 .taken) (c .no-store2 .ensures)
 
 cast-t9 : tie.Need-cast-t9
-cast-t9 c = omega (arith, field-short 0 (c .before .before .before .at .given .1) (c .before .before .before .before .before .pre), field-there (c .before .width .ensures) (c .if1 .left))
+cast-t9 c =
+    let at-at = c .before .before .before in
+    let start = at-at .before .before in
+    omega (arith, field-short 0 (at-at .at .given .1) (start .pre), field-there (c .before .width .ensures) (c .if1 .left))
 
 cast-t10 : tie.Need-cast-t10
 cast-t10 c = omega (arith, field-short 0 (c .before .before .before .at .given .1) (c .before .before .before .before .before .pre))
@@ -36,7 +41,9 @@ returns-2 : tie.Need-returns-2
 returns-2 c = to-bug _ (c .before .enum-told .given .1) (c .no-store .ensures)
 
 returns-3 : tie.Need-returns-3
-returns-3 c = to-field _ (c .before .before .before .before .at .given .1) (c .before .before .width .ensures) (c .before .if1 .left) (c .kept-bits .ensures)
+returns-3 c =
+    let at-at = c .before .before .before .before in
+    to-field _ (at-at .at .given .1) (c .before .before .width .ensures) (c .before .if1 .left) (c .kept-bits .ensures)
 
 pub store-to-spec : {M : Type 1} → statement M
 store-to-spec =

@@ -47,18 +47,25 @@ loop-less c = search needs
 
 loop-again : tie.Need-loop-again Inv-loop μ-loop
 loop-again c =
-    let a = c .before .before .before .args in
-    let l = c .before .before .loop in
-    (omega arith, length-set (l .storage) _ _ ∙ l .inv .1, rw (l .inv .2) (one-copied (a .storage .now) (a .n) (l .i) (c .before .loop-test .taken) (a .to) (a .from) (c .before .before .before .pre .0) (c .before .before .before .pre .1) (c .before .before .before .pre .2)))
+    let start = c .before .before .before in
+    let a = start .args in
+    let l = c .before .before .loop in (
+      omega arith,
+      length-set (l .storage) _ _ ∙ l .inv .1,
+      rw (l .inv .2) (one-copied (a .storage .now) (a .n) (l .i) (c .before .loop-test .taken) (a .to) (a .from) (start .pre .0) (start .pre .1)
+          (start .pre .2)),
+    )
 
 same-length : tie.Need-same-length Inv-loop μ-loop
 same-length c = search needs
 
 returns : tie.Need-returns Inv-loop μ-loop
 returns c =
-    let a = c .before .before .args in
+    let start = c .before .before in
+    let a = start .args in
     let done : c .before .loop .i ≡ a .n = omega arith in
-    c .before .loop .inv .2 ∙ rw done (all-placed (a .storage .now) (take (a .n) (drop (a .from) (a .storage .now))) (a .to) (a .n) (length-copied (a .storage .now) (a .from) (a .n) (c .before .before .pre .1)))
+    c .before .loop .inv .2 ∙ rw done (all-placed (a .storage .now) (take (a .n) (drop (a .from) (a .storage .now))) (a .to) (a .n)
+    (length-copied (a .storage .now) (a .from) (a .n) (start .pre .1)))
 
 pub copy-words-spec : {M : Type 1} → statement M
 copy-words-spec =

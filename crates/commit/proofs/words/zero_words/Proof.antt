@@ -38,9 +38,13 @@ loop-less c = search needs
 
 loop-again : tie.Need-loop-again Inv-loop μ-loop
 loop-again c =
-    let a = c .before .before .args in
-    let l = c .before .loop in
-    (omega arith, length-set (l .storage) _ _ ∙ l .inv .1, rw (l .inv .2) (one-zero (a .storage .now) (a .n) (l .i) (c .loop-test .taken) (a .from) (c .before .before .pre)))
+    let start = c .before .before in
+    let a = start .args in
+    let l = c .before .loop in (
+      omega arith,
+      length-set (l .storage) _ _ ∙ l .inv .1,
+      rw (l .inv .2) (one-zero (a .storage .now) (a .n) (l .i) (c .loop-test .taken) (a .from) (start .pre)),
+    )
 
 same-length : tie.Need-same-length Inv-loop μ-loop
 same-length c = search needs

@@ -12,21 +12,24 @@ row-of-requires c κs = row-inside (c .before .args .table .now) (c .before .pre
 
 mul-x : tie.Need-mul-x
 mul-x c =
-    let at-args = c .before .before .args in
-    let at-pre = c .before .before .pre in
+    let start = c .before .before in
+    let at-args = start .args in
+    let at-pre = start .pre in
     let inside = place-inside (at-args .table .now) (at-pre .0) 1 (at-args .l) (at-pre .1) in omega arith
 
 element-copy-out-x : tie.Need-element-copy-out-x
 element-copy-out-x c =
-    let at-args = c .before .before .args in
-    let at-pre = c .before .before .pre in
+    let start = c .before .before in
+    let at-args = start .args in
+    let at-pre = start .pre in
     place-inside (at-args .table .now) (at-pre .0) 1 _ (at-pre .1)
 
 mark-tests-requires : tie.Need-mark-tests-requires
 mark-tests-requires c κs =
-    let at-pre = c .before .before .before .before .pre in
+    let start = c .before .before .before .before in
+    let at-pre = start .pre in
     let at-row-of = c .before .before .row-of in
-    let at-args = c .before .before .before .before .args in
+    let at-args = start .args in
     (at-pre .0, rw (at-row-of .ensures) (first-test (at-args .table .now) (at-pre .0) (at-args .l) (at-pre .1)))
 
 element-copy-out-mark-chain : tie.Need-element-copy-out-mark-chain
@@ -34,9 +37,10 @@ element-copy-out-mark-chain c = search needs
 
 mark-chain-requires : tie.Need-mark-chain-requires
 mark-chain-requires c κs =
-    let at-pre = c .before .before .before .before .before .before .before .pre in
+    let start = c .before .before .before .before .before .before .before in
+    let at-pre = start .pre in
     let at-row-of = c .before .before .before .before .before .row-of in
-    let at-args = c .before .before .before .before .before .before .before .args in
+    let at-args = start .args in
     (at-pre .0, rw (at-row-of .ensures) (first-operation (at-args .table .now) (at-pre .0) (at-args .l) (at-pre .1)))
 
 returns : tie.Need-returns

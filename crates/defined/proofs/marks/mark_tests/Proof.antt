@@ -18,35 +18,39 @@ loop-holds c = walks-begin _ _ 2 _ _ _ (c .before .pre .0) (c .before .pre .1)
 
 join-at-requires : tie.Need-join-at-requires Inv-loop μ-loop
 join-at-requires c κs =
-    let at-args = c .before .before .before .before .args in
-    let at-pre = c .before .before .before .before .pre in
+    let start = c .before .before .before .before in
+    let at-args = start .args in
+    let at-pre = start .pre in
     let at-loop = c .before .before .loop in
     let at-loop-test = c .before .loop-test in
     place-inside (at-args .table .now) (at-pre .0) 2 (at-loop .t) (at-loop .inv .place .isRow (at-loop-test .taken))
 
 row-of-requires : tie.Need-row-of-requires Inv-loop μ-loop
 row-of-requires c κs =
-    let at-args = c .before .before .before .before .before .args in
-    let at-pre = c .before .before .before .before .before .pre in
+    let start = c .before .before .before .before .before in
+    let at-args = start .args in
+    let at-pre = start .pre in
     let at-loop = c .before .before .before .loop in
     let at-loop-test = c .before .before .loop-test in
     row-inside (at-args .table .now) (at-pre .0) 2 (at-loop .t) (at-loop .inv .place .isRow (at-loop-test .taken))
 
 loop-less : tie.Need-loop-less Inv-loop μ-loop
 loop-less c =
+    let start = c .before .before .before .before .before .before in
     let at-row-of = c .row-of in
-    let at-args = c .before .before .before .before .before .before .args in
-    let at-pre = c .before .before .before .before .before .before .pre in
+    let at-args = start .args in
+    let at-pre = start .pre in
     let at-loop = c .before .before .before .before .loop in
     let at-loop-test = c .before .before .before .loop-test in
     rw (at-row-of .ensures) (left-falls (at-args .table .now) (at-pre .0) 2 (at-loop .t) (at-loop .inv .place .isRow) (at-loop-test .taken))
 
 loop-again : tie.Need-loop-again Inv-loop μ-loop
 loop-again c =
+    let start = c .before .before .before .before .before .before in
     let at-join-at = c .before .join-at in
     let at-row-of = c .row-of in
-    let at-args = c .before .before .before .before .before .before .args in
-    let at-pre = c .before .before .before .before .before .before .pre in
+    let at-args = start .args in
+    let at-pre = start .pre in
     let at-loop = c .before .before .before .before .loop in
     let at-loop-test = c .before .before .before .loop-test in
     rw (at-join-at .ensures, at-row-of .ensures)
@@ -56,8 +60,9 @@ loop-again c =
 returns : tie.Need-returns Inv-loop μ-loop
 unfolding testsMarked
 returns c =
-    let at-args = c .before .before .before .args in
-    let at-pre = c .before .before .before .pre in
+    let start = c .before .before .before in
+    let at-args = start .args in
+    let at-pre = start .pre in
     let at-loop = c .before .loop in
     walks-end _ (at-args .table .now) (at-pre .0) 2 _ (at-args .x) (at-args .marks .now) (at-loop .marks) (at-loop .t) (at-args .x) (omega arith) (at-loop .inv)
 

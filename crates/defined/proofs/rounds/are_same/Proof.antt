@@ -40,12 +40,16 @@ loop-less : tie.Need-loop-less Inv-loop μ-loop
 loop-less c = omega arith
 
 loop-again : tie.Need-loop-again Inv-loop μ-loop
-loop-again c = let args = c .before .before .before .before .before .args in agree-on (args .walked .now) (args .sets .now)
-    (c .before .before .before .before .loop .i) (c .before .before .before .before .loop .inv) (c .if1 .left)
+loop-again c =
+    let at-loop = c .before .before .before .before in
+    let args = at-loop .before .args in agree-on (args .walked .now) (args .sets .now)
+    (at-loop .loop .i) (at-loop .loop .inv) (c .if1 .left)
 
 returns-2 : tie.Need-returns-2 Inv-loop μ-loop
-returns-2 c = λ _. agree-all (c .before .before .args .walked .now) (c .before .before .args .sets .now) (c .before .loop .i)
-    (c .before .before .pre .0) (c .before .before .pre .1) (omega arith) (c .before .loop .inv)
+returns-2 c =
+    let start = c .before .before in
+    λ _. agree-all (start .args .walked .now) (start .args .sets .now) (c .before .loop .i)
+    (start .pre .0) (start .pre .1) (omega arith) (c .before .loop .inv)
 
 pub are-same-spec : {M : Type 1} → statement M
 are-same-spec =

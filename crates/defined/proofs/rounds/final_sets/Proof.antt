@@ -28,7 +28,9 @@ unfolding finalSets firstRounds
 loop-holds c = rw (c .before .first-sets .ensures, c .no-sets .ensures) (long-first, long-none, refl)
 
 are-same-requires : tie.Need-are-same-requires Inv-loop μ-loop
-are-same-requires c κs = (c .before .before .before .loop .inv .1, c .before .before .before .loop .inv .0)
+are-same-requires c κs =
+    let at-loop = c .before .before .before in
+    (at-loop .loop .inv .1, at-loop .loop .inv .0)
 
 returns : tie.Need-returns Inv-loop μ-loop
 returns c =

@@ -15,8 +15,9 @@ returns c = row-passed _ _ _ _ (λ e. c .if1 .taken (c .before .kind-at .ensures
 
 mul-x : tie.Need-mul-x
 mul-x c =
-    let at-args = c .before .before .before .args in
-    let at-pre = c .before .before .before .pre in
+    let start = c .before .before .before in
+    let at-args = start .args in
+    let at-pre = start .pre in
     let at-kind-at = c .before .kind-at in
     let at-if1 = c .if1 in
     let i : IsRow (at-args .table .now) 1 (at-args .l) = record { low = at-pre .1; high = at-pre .2; is = sym (at-kind-at .ensures) ∙ at-if1 .left } in
@@ -25,8 +26,9 @@ mul-x c =
 
 element-copy-out-x : tie.Need-element-copy-out-x
 element-copy-out-x c =
-    let at-args = c .before .before .before .args in
-    let at-pre = c .before .before .before .pre in
+    let start = c .before .before .before in
+    let at-args = start .args in
+    let at-pre = start .pre in
     let at-kind-at = c .before .kind-at in
     let at-if1 = c .if1 in
     let i : IsRow (at-args .table .now) 1 (at-args .l) = record { low = at-pre .1; high = at-pre .2; is = sym (at-kind-at .ensures) ∙ at-if1 .left } in
@@ -34,8 +36,9 @@ element-copy-out-x c =
 
 mul-if2 : tie.Need-mul-if2
 mul-if2 c =
-    let at-args = c .before .before .before .before .args in
-    let at-pre = c .before .before .before .before .pre in
+    let start = c .before .before .before .before in
+    let at-args = start .args in
+    let at-pre = start .pre in
     let at-kind-at = c .before .before .kind-at in
     let at-if1 = c .before .if1 in
     let i : IsRow (at-args .table .now) 1 (at-args .l) = record { low = at-pre .1; high = at-pre .2; is = sym (at-kind-at .ensures) ∙ at-if1 .left } in
@@ -44,8 +47,9 @@ mul-if2 c =
 
 element-copy-out-if2 : tie.Need-element-copy-out-if2
 element-copy-out-if2 c =
-    let at-args = c .before .before .before .before .args in
-    let at-pre = c .before .before .before .before .pre in
+    let start = c .before .before .before .before in
+    let at-args = start .args in
+    let at-pre = start .pre in
     let at-kind-at = c .before .before .kind-at in
     let at-if1 = c .before .if1 in
     let i : IsRow (at-args .table .now) 1 (at-args .l) = record { low = at-pre .1; high = at-pre .2; is = sym (at-kind-at .ensures) ∙ at-if1 .left } in
@@ -60,8 +64,9 @@ returns-2 c =
 
 join-at-requires : tie.Need-join-at-requires
 join-at-requires c κs =
-    let at-args = c .before .before .before .before .before .before .before .args in
-    let at-pre = c .before .before .before .before .before .before .before .pre in
+    let start = c .before .before .before .before .before .before .before in
+    let at-args = start .args in
+    let at-pre = start .pre in
     let at-kind-at = c .before .before .before .before .before .kind-at in
     let at-if1 = c .before .before .before .before .if1 in
     let i : IsRow (at-args .table .now) 1 (at-args .l) = record { low = at-pre .1; high = at-pre .2; is = sym (at-kind-at .ensures) ∙ at-if1 .left } in

@@ -24,15 +24,17 @@ loop-holds c = (omega arith, refl)
 mul-use-at : tie.Need-mul-use-at Inv-loop μ-loop
 unfolding Rattle.table.specs.Row.rows
 mul-use-at c =
-    let at-args = c .before .before .before .args in
-    let at-pre = c .before .before .before .pre in
+    let start = c .before .before .before in
+    let at-args = start .args in
+    let at-pre = start .pre in
     let few = rows-inside (at-args .table .now) (at-pre) in omega arith
 
 element-copy-out-use-at : tie.Need-element-copy-out-use-at Inv-loop μ-loop
 unfolding Rattle.table.specs.Row.rows
 element-copy-out-use-at c =
-    let at-args = c .before .before .before .args in
-    let at-pre = c .before .before .before .pre in
+    let start = c .before .before .before in
+    let at-args = start .args in
+    let at-pre = start .pre in
     let few = rows-inside (at-args .table .now) (at-pre) in omega arith
 
 use-at-requires : tie.Need-use-at-requires Inv-loop μ-loop

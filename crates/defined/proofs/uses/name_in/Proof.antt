@@ -36,10 +36,11 @@ wide-requires-2 c κs = search needs
 returns : tie.Need-returns Inv-loop μ-loop
 unfolding namesOf
 returns c =
-    let at-args = c .before .before .before .before .before .before .before .args in
+    let start = c .before .before .before .before .before .before .before in
+    let at-args = start .args in
     let at-wide2 = c .wide2 in
     let at-loop = c .before .before .before .before .before .before .loop in
-    let at-pre = c .before .before .before .before .before .before .before .pre in
+    let at-pre = start .pre in
     let at-wide = c .before .before .before .wide in
     let at-contains = c .before .before .contains in
     let at-if1 = c .before .if1 in
@@ -56,9 +57,10 @@ loop-less c = omega arith
 
 loop-again : tie.Need-loop-again Inv-loop μ-loop
 loop-again c =
-    let at-args = c .before .before .before .before .before .before .args in
+    let start = c .before .before .before .before .before .before in
+    let at-args = start .args in
     let at-loop = c .before .before .before .before .before .loop in
-    let at-pre = c .before .before .before .before .before .before .pre in
+    let at-pre = start .pre in
     let at-wide = c .before .before .wide in
     let at-contains = c .before .contains in
     let at-if1 = c .if1 in
@@ -69,9 +71,10 @@ loop-again c =
 returns-2 : tie.Need-returns-2 Inv-loop μ-loop
 unfolding namesOf
 returns-2 c =
-    let at-args = c .before .before .args in
+    let start = c .before .before in
+    let at-args = start .args in
     let at-loop = c .before .loop in
-    let at-pre = c .before .before .pre in
+    let at-pre = start .pre in
     first-none (at-args .t1 .fields) (at-args .x) (at-loop .i) (at-pre) (record { 0 = 0 }) (omega arith) ∙ sym (at-loop .inv)
 
 pub name-in-spec : {M : Type 1} → statement M

@@ -16,15 +16,17 @@ returns c = row-taken _ _ _ _ (sym (c .before .kind-at .ensures) ∙ c .if1 .tak
 
 row-of-requires : tie.Need-row-of-requires
 row-of-requires c κs =
-    let at-args = c .before .before .before .args in
-    let at-pre = c .before .before .before .pre in
+    let start = c .before .before .before in
+    let at-args = start .args in
+    let at-pre = start .pre in
     row-there (at-args .table .now) (at-pre .0) (at-args .r) (at-pre .2)
 
 row-use-requires : tie.Need-row-use-requires
 row-use-requires c κs =
+    let start = c .before .before .before .before in
     let at-row-of = c .row-of in
-    let at-args = c .before .before .before .before .args in
-    let at-pre = c .before .before .before .before .pre in
+    let at-args = start .args in
+    let at-pre = start .pre in
     let at-if1 = c .before .if1 in
     let at-kind-at = c .before .before .kind-at in
     rw (at-row-of .ensures) (references-at (at-args .table .now) (at-pre .0) (at-args .r) (at-pre .1) (at-pre .2) (λ e. at-if1 .left (at-kind-at .ensures ∙ e)))

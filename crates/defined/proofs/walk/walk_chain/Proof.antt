@@ -1,5 +1,6 @@
 -- `defined::walk::walk_chain` meets its contract. The invariant: what is left of the chain gives what the whole gives. Assumes nothing.
-use Rattle.defined.proofs.Loops.{Walks, rowsLeft, row-inside, next-inside, go-to-inside, do-inside, name-inside, first-operation, left-falls, walks-begin, walks-on, walks-end}
+use Rattle.defined.proofs.Loops.{Walks, rowsLeft, row-inside, next-inside, go-to-inside, do-inside, name-inside}
+use Rattle.defined.proofs.Loops.{first-operation, left-falls, walks-begin, walks-on, walks-end}
 use native.Mathlib.Omega.{arith}
 use mathlib.Core.Path.{_≡_, refl, sym, _∙_}
 use Rattle.table.specs.Row.{rowAt, firstOperation}
@@ -19,54 +20,60 @@ row-of-requires c κs = row-inside (c .before .args .table .now) (c .before .pre
 
 loop-holds : tie.Need-loop-holds Inv-loop μ-loop
 loop-holds c =
+    let start = c .before .before in
     let at-row-of = c .row-of in
-    let at-args = c .before .before .args in
-    let at-pre = c .before .before .pre in
+    let at-args = start .args in
+    let at-pre = start .pre in
     rw (at-row-of .ensures) (walks-begin _ (at-args .table .now) 3 _ _ _ (at-pre .0)
     (first-operation (at-args .table .now) (at-pre .0) (at-args .l) (at-pre .1)))
 
 row-of-requires-2 : tie.Need-row-of-requires-2 Inv-loop μ-loop
 row-of-requires-2 c κs =
-    let at-args = c .before .before .before .before .args in
-    let at-pre = c .before .before .before .before .pre in
+    let start = c .before .before .before .before in
+    let at-args = start .args in
+    let at-pre = start .pre in
     let at-loop = c .before .loop in
     let at-loop-test = c .loop-test in
     row-inside (at-args .table .now) (at-pre .0) 3 (at-loop .r) (at-loop .inv .place .isRow (at-loop-test .taken))
 
 enter-requires : tie.Need-enter-requires Inv-loop μ-loop
 enter-requires c κs =
+    let start = c .before .before .before .before .before .before in
     let at-row-of2 = c .before .row-of2 in
-    let at-args = c .before .before .before .before .before .before .args in
-    let at-pre = c .before .before .before .before .before .before .pre in
+    let at-args = start .args in
+    let at-pre = start .pre in
     let at-loop = c .before .before .before .loop in
     let at-loop-test = c .before .before .loop-test in
     rw (at-row-of2 .ensures) (do-inside (at-args .table .now) (at-pre .0) (at-loop .r) (at-loop .inv .place .isRow (at-loop-test .taken)))
 
 set-past-requires : tie.Need-set-past-requires Inv-loop μ-loop
 set-past-requires c κs =
+    let start = c .before .before .before .before .before .before .before in
     let at-row-of2 = c .before .before .row-of2 in
-    let at-args = c .before .before .before .before .before .before .before .args in
-    let at-pre = c .before .before .before .before .before .before .before .pre in
+    let at-args = start .args in
+    let at-pre = start .pre in
     let at-loop = c .before .before .before .before .loop in
     let at-loop-test = c .before .before .before .loop-test in
     rw (at-row-of2 .ensures) (name-inside (at-args .table .now) (at-pre .0) (at-loop .r) (at-loop .inv .place .isRow (at-loop-test .taken)))
 
 loop-less : tie.Need-loop-less Inv-loop μ-loop
 loop-less c =
+    let start = c .before .before .before .before .before .before .before .before in
     let at-row-of2 = c .before .before .before .row-of2 in
-    let at-args = c .before .before .before .before .before .before .before .before .args in
-    let at-pre = c .before .before .before .before .before .before .before .before .pre in
+    let at-args = start .args in
+    let at-pre = start .pre in
     let at-loop = c .before .before .before .before .before .loop in
     let at-loop-test = c .before .before .before .before .loop-test in
     rw (at-row-of2 .ensures) (left-falls (at-args .table .now) (at-pre .0) 3 (at-loop .r) (at-loop .inv .place .isRow) (at-loop-test .taken))
 
 loop-again : tie.Need-loop-again Inv-loop μ-loop
 loop-again c =
+    let start = c .before .before .before .before .before .before .before .before in
     let at-enter = c .before .enter in
     let at-set-past = c .set-past in
     let at-row-of2 = c .before .before .before .row-of2 in
-    let at-args = c .before .before .before .before .before .before .before .before .args in
-    let at-pre = c .before .before .before .before .before .before .before .before .pre in
+    let at-args = start .args in
+    let at-pre = start .pre in
     let at-loop = c .before .before .before .before .before .loop in
     let at-loop-test = c .before .before .before .before .loop-test in
     rw (at-enter .ensures, at-set-past .ensures, at-row-of2 .ensures)
@@ -75,19 +82,21 @@ loop-again c =
 
 leave-requires : tie.Need-leave-requires Inv-loop μ-loop
 leave-requires c κs =
-    let at-args = c .before .before .before .before .before .args in
+    let start = c .before .before .before .before .before in
+    let at-args = start .args in
     let at-row-of = c .before .before .before .row-of in
-    let at-pre = c .before .before .before .before .before .pre in
+    let at-pre = start .pre in
     let t = at-args .table .now in
     rw (at-row-of .ensures) (next-inside t (at-pre .0) 1 (at-args .l) (at-pre .1), go-to-inside t (at-pre .0) (at-args .l) (at-pre .1))
 
 returns : tie.Need-returns Inv-loop μ-loop
 unfolding chainWalked
 returns c =
+    let start = c .before .before .before .before .before .before in
     let at-leave = c .leave in
     let at-row-of = c .before .before .before .before .row-of in
-    let at-args = c .before .before .before .before .before .before .args in
-    let at-pre = c .before .before .before .before .before .before .pre in
+    let at-args = start .args in
+    let at-pre = start .pre in
     let at-loop = c .before .before .before .loop in
     rw (at-leave .ensures, at-row-of .ensures)
     (walks-end _ (at-args .table .now) (at-pre .0) 3 _ (at-args .start) (at-args .sets .now) (at-loop .sets) (at-loop .r) (at-loop .x) (omega arith)

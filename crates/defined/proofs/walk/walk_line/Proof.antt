@@ -11,9 +11,10 @@ row-of-requires c κs = row-inside (c .before .args .table .now) (c .before .pre
 
 walk-tests-requires : tie.Need-walk-tests-requires
 walk-tests-requires c κs =
+    let start = c .before .before .before in
     let at-row-of = c .before .row-of in
-    let at-args = c .before .before .before .args in
-    let at-pre = c .before .before .before .pre in
+    let at-args = start .args in
+    let at-pre = start .pre in
     rw (at-row-of .ensures) (next-inside (at-args .table .now) (at-pre .0) 1 (at-args .l) (at-pre .1))
 
 walk-chain-requires : tie.Need-walk-chain-requires

@@ -19,30 +19,35 @@ use Rattle.commit.specs.Feasible.{Countable}
 use Rattle.commit.specs.Reported.{Reportable}
 use Rattle.commit.specs.Then.{engineWith}
 use Rattle.commit.proofs.Others.{unrecorded}
-use Rattle.commit.proofs.Turning.{define-name, save-definition-room, restore-definition-room, call-room, return-room, Turned, turned-kept, turned-define, turned-save, turned-restore, turned-call, turned-return}
+use Rattle.commit.proofs.Turning.{define-name, save-definition-room, restore-definition-room, call-room, return-room, Turned}
+use Rattle.commit.proofs.Turning.{turned-kept, turned-define, turned-save, turned-restore, turned-call, turned-return}
 use Rattle.engine.specs.Starting.{Ready}
 use Rattle.engine.specs.Walking.{walkFrom}
 use Rattle.machine.specs.Sound.{lends}
 use Rattle.engine.proofs.First.{first-goes, first-stops}
 use Rattle.engine.proofs.Turns.{Going}
-use Rattle.engine.proofs.Now.{started, starts, ready-now, refused-now, feasible-now, countable-now, counted-now, reportable-now, ended-now, next-now}
+use Rattle.engine.proofs.Now.{started, starts, ready-now, refused-now, feasible-now, countable-now, counted-now}
+use Rattle.engine.proofs.Now.{reportable-now, ended-now, next-now}
 use borrow.Author.Needs.{needs}
 use Rattle.engine.proofs.walks.walk.Statement.{statement}
 use Rattle.engine.proofs.walks.walk.Tie as tie
 
 abbrev Inv-loop : tie.InvT-loop
-Inv-loop table storage₀ input output₀ limit judged width place₀ bugs₀ entries₀ setup₀ definitions₀ saved₀ calls₀ counts₀ map₀ fields₀ count₀ storage output place bugs entries setup definitions saved calls counts map fields count =
+Inv-loop table storage₀ input output₀ limit judged width place₀ bugs₀ entries₀ setup₀ definitions₀ saved₀ calls₀ counts₀ map₀ fields₀ count₀ storage
+    output place bugs entries setup definitions saved calls counts map fields count =
     (length storage ≡ length storage₀) × (length output ≡ length output₀) × (length map ≡ 4096) × Going width table input
     (walkFrom 0 (limit - 1) (lends table input output₀) (engineWith width place₀ bugs₀ (recording definitions₀ saved₀ calls₀) entries₀ counts₀ setup₀
     map₀ storage₀)) limit count output (engineWith width place bugs (recording definitions saved calls) entries counts setup map storage) ×
     (unpackedAll fields ≡ definitions)
 
 abbrev μ-loop : tie.MeasureT-loop
-μ-loop table storage₀ input output₀ limit judged width place₀ bugs₀ entries₀ setup₀ definitions₀ saved₀ calls₀ counts₀ map₀ fields₀ count₀ storage output place bugs entries setup definitions saved calls counts map fields count =
+μ-loop table storage₀ input output₀ limit judged width place₀ bugs₀ entries₀ setup₀ definitions₀ saved₀ calls₀ counts₀ map₀ fields₀ count₀ storage
+    output place bugs entries setup definitions saved calls counts map fields count =
     limit - count
 
 judged : (c : tie.After-first Inv-loop μ-loop) → let start = c .before .before .before .before .before .before in
-    Ready (c .first .given .0 .0) (lends (start .args .table .now) (start .args .input .now) (start .args .output .now)) (record { state = start .args .state; storage = start .args .storage .now })
+    Ready (c .first .given .0 .0) (lends (start .args .table .now) (start .args .input .now) (start .args .output .now))
+    (record { state = start .args .state; storage = start .args .storage .now })
 judged k =
     let start = k .before .before .before .before .before .before in
     first-goes (k .first .given .1) (start .pre .1)
@@ -55,7 +60,8 @@ countable : (c : tie.After-planned2 Inv-loop μ-loop) → let turn = c .before .
 countable k =
     let at-plan-step = k .before .before in
     let turn = at-plan-step .before .before .before .before .before .before in
-    let at-state = turn .before .before .before .before .before .before .before .before .before .before .before .before .before .before .before .before .before in
+    let at-state = turn .before .before .before .before .before .before .before .before .before .before .before .before .before .before .before
+    .before .before in
     let ready = judged (at-state) in countable-now _ _ _ _ _ _ _ _ _ _ _ _ _ _ _ _ (turn .loop .inv .3) (turn .loop .inv .4) (ready .wide)
     (ready .fits) (at-plan-step .plan-step .ensures) (k .planned2 .given .1) (turn .loop .inv .2)
 
@@ -63,11 +69,13 @@ reportable : (c : tie.After-planned2 Inv-loop μ-loop) → Reportable (c .planne
 reportable k =
     let at-plan-step = k .before .before in
     let turn = at-plan-step .before .before .before .before .before .before in
-    let at-state = turn .before .before .before .before .before .before .before .before .before .before .before .before .before .before .before .before .before in
+    let at-state = turn .before .before .before .before .before .before .before .before .before .before .before .before .before .before .before
+    .before .before in
     let ready = judged (at-state) in reportable-now _ _ _ _ _ _ _ _ _ _ _ _ _ _ _ _ (turn .loop .inv .3) (turn .loop .inv .4) (ready .wide)
     (ready .fits) (at-plan-step .plan-step .ensures) (k .planned2 .given .1) (turn .loop .inv .2)
 
-turn-of : (c : tie.Joined1 Inv-loop μ-loop) → let at-planned2 = c .before .before .before .before .before .before .before .before .before .before .before .before .before .before in
+turn-of : (c : tie.Joined1 Inv-loop μ-loop)
+    → let at-planned2 = c .before .before .before .before .before .before .before .before .before .before .before .before .before .before in
     let turn = at-planned2 .before .before .before .before .before .before .before .before in
     Turned (at-planned2 .planned2 .given .0 .1 .0) (at-planned2 .planned2 .given .0 .0) (turn .loop .counts)
     (recording (turn .loop .definitions) (turn .loop .saved) (turn .loop .calls)) (c .if1 .action) (c .if1 .place) (c .if1 .definitions) (c .if1 .saved)
@@ -139,7 +147,8 @@ slice-aggregate-plan-step c = search needs
 plan-step-requires : tie.Need-plan-step-requires Inv-loop μ-loop
 plan-step-requires c κs =
     let turn = c .before .before .before .before .before in
-    let at-state = turn .before .before .before .before .before .before .before .before .before .before .before .before .before .before .before .before .before in
+    let at-state = turn .before .before .before .before .before .before .before .before .before .before .before .before .before .before .before
+    .before .before in
     let ready = judged (at-state) in (
       ready-now _ _ _ _ _ _ _ _ _ _ _ _ _ _ _ _ (turn .loop .inv .3) (turn .loop .inv .4) (ready .wide) (ready .fits),
       ready .fits,
@@ -181,13 +190,15 @@ go-on-requires c κs =
     let at-planned2 = c .before in
     let at-plan-step = at-planned2 .before .before in
     let turn = at-plan-step .before .before .before .before .before .before in
-    let at-state = turn .before .before .before .before .before .before .before .before .before .before .before .before .before .before .before .before .before in
+    let at-state = turn .before .before .before .before .before .before .before .before .before .before .before .before .before .before .before
+    .before .before in
     let ready = judged (at-state) in counted-now _ _ _ _ _ _ _ _ _ _ _ _ _ _ _ _ (turn .loop .inv .3) (turn .loop .inv .4) (ready .wide) (ready .fits)
     (at-plan-step .plan-step .ensures) (at-planned2 .planned2 .given .1) (turn .loop .inv .2)
 
 cast-carry-out : tie.Need-cast-carry-out Inv-loop μ-loop
 cast-carry-out c =
-    let at-state = c .before .before .before .before .before .before .before .before .before .before .before .before .before .before .before .before .before .before .before .before .before .before .before .before .before .before .before in
+    let at-state = c .before .before .before .before .before .before .before .before .before .before .before .before .before .before .before .before
+    .before .before .before .before .before .before .before .before .before .before .before in
     let range = width-range _ (judged (at-state) .wide) in omega (arith, range .1)
 
 slice-aggregate-carry-out : tie.Need-slice-aggregate-carry-out Inv-loop μ-loop
@@ -198,7 +209,8 @@ carry-out-requires c κs =
     let at-planned2 = c .before .before .before .before .before .before .before in
     let at-plan-step = at-planned2 .before .before in
     let turn = at-plan-step .before .before .before .before .before .before in
-    let at-state = turn .before .before .before .before .before .before .before .before .before .before .before .before .before .before .before .before .before in
+    let at-state = turn .before .before .before .before .before .before .before .before .before .before .before .before .before .before .before
+    .before .before in
     let ready = judged (at-state) in let readable = ready-now _ _ _ _ _ _ _ _ _ _ _ _ _ _ _ _ (turn .loop .inv .3) (turn .loop .inv .4) (ready .wide)
     (ready .fits) .readable in (
       readable .width,
@@ -356,13 +368,15 @@ ended-requires-2 c κs = search needs
 same-length-3 : tie.Need-same-length-3 Inv-loop μ-loop
 same-length-3 c =
     let at-storage = c .before .before .before .before .before .before .before .before .before .before .before in
-    let turn = at-storage .before .before .before .before .before .before .before .before .before .before .before .before .before .before .before .before .before .before in
+    let turn = at-storage .before .before .before .before .before .before .before .before .before .before .before .before .before .before .before
+    .before .before .before in
     at-storage .storage .given ∙ turn .loop .inv .0
 
 same-length-4 : tie.Need-same-length-4 Inv-loop μ-loop
 same-length-4 c =
     let at-output = c .before .before .before .before .before .before .before .before .before in
-    let turn = at-output .before .before .before .before .before .before .before .before .before .before .before .before .before .before .before .before .before .before .before .before in
+    let turn = at-output .before .before .before .before .before .before .before .before .before .before .before .before .before .before .before
+    .before .before .before .before .before in
     at-output .output .given ∙ turn .loop .inv .1
 
 returns-3 : tie.Need-returns-3 Inv-loop μ-loop
@@ -385,7 +399,8 @@ returns-3 c =
 
 loop-less : tie.Need-loop-less Inv-loop μ-loop
 loop-less c =
-    let turn = c .before .before .before .before .before .before .before .before .before .before .before .before .before .before .before .before .before .before .before .before .before .before .before .before .before .before in
+    let turn = c .before .before .before .before .before .before .before .before .before .before .before .before .before .before .before .before
+    .before .before .before .before .before .before .before .before .before .before in
     let few = turn .loop .inv .3 .few in omega arith
 
 loop-again : tie.Need-loop-again Inv-loop μ-loop
@@ -398,7 +413,8 @@ loop-again c =
     let at-planned2 = at-go-on .before .before in
     let at-plan-step = at-planned2 .before .before in
     let turn = at-plan-step .before .before .before .before .before .before in
-    let at-state2 = turn .before .before .before .before .before .before .before .before .before .before .before .before .before .before .before .before .before in
+    let at-state2 = turn .before .before .before .before .before .before .before .before .before .before .before .before .before .before .before
+    .before .before in
     let ready = judged (at-state2) in (
       at-storage .storage .given ∙ turn .loop .inv .0,
       at-output .output .given ∙ turn .loop .inv .1,

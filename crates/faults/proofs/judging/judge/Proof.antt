@@ -10,7 +10,8 @@ use Rattle.faults.specs.Checking.{lineRead}
 use Rattle.faults.specs.Places.{sizeOf, linesIn, linesBefore}
 use Rattle.lines.proofs.Parts.{part-slice}
 use Rattle.faults.proofs.Texting.{line-inside}
-use Rattle.faults.proofs.Judged.{Judging, nothing-typed, judging-none, judging-all, judging-count, judging-stop, judging-small, judging-more}
+use Rattle.faults.proofs.Judged.{Judging, nothing-typed, judging-none, judging-all, judging-count, judging-stop}
+use Rattle.faults.proofs.Judged.{judging-small, judging-more}
 use borrow.Author.Needs.{needs}
 use Rattle.faults.proofs.judging.judge.Statement.{statement}
 use Rattle.faults.proofs.judging.judge.Tie as tie
@@ -104,8 +105,11 @@ add-lines c =
 
 loop-less : tie.Need-loop-less Inv-loop μ-loop
 loop-less c =
-    let inside = line-inside (c .before .before .before .before .before .before .before .before .before .before .before .before .args .text .now) _ _
-    (c .before .before .before .before .before .before .loop-test .taken) (c .before .before .before .before .before .line-end .ensures) in omega arith
+    let inside = (let at-line-end = c .before .before .before .before .before in
+    let at-loop-test = at-line-end .before in
+    let start = at-loop-test .before .before .before .before .before .before in
+    line-inside (start .args .text .now) _ _ (at-loop-test .loop-test .taken) (at-line-end .line-end .ensures)) in
+    omega arith
 
 loop-again : tie.Need-loop-again Inv-loop μ-loop
 loop-again c =

@@ -15,7 +15,9 @@ shared-slice-read-result : tie.Need-shared-slice-read-result
 shared-slice-read-result c = omega arith
 
 returns-2 : tie.Need-returns-2
-returns-2 c = last-byte (c .before .before .args .s .now) (c .before .before .args .at) (omega arith)
+returns-2 c =
+    let start = c .before .before in
+    last-byte (start .args .s .now) (start .args .at) (omega arith)
 
 pub at-end-spec : {M : Type 1} → statement M
 at-end-spec =

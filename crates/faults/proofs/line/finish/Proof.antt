@@ -50,7 +50,9 @@ returns-3 c = search needs
 
 returns-4 : tie.Need-returns-4
 unfolding finishWalk
-returns-4 c = c .end-scan .ensures ∙ sym (ap (finishWalk (c .before .before .before .before .before .args .s .now)) (c .before .before .walk .given .1))
+returns-4 c =
+    let start = c .before .before .before .before .before in
+    c .end-scan .ensures ∙ sym (ap (finishWalk (start .args .s .now)) (c .before .before .walk .given .1))
 
 returns-5 : tie.Need-returns-5
 unfolding finishWalk
@@ -58,11 +60,15 @@ returns-5 c = search needs
 
 returns-6 : tie.Need-returns-6
 unfolding finishWalk
-returns-6 c = c .end-scan2 .ensures ∙ sym (ap (finishWalk (c .before .before .before .before .before .args .s .now)) (c .before .before .walk2 .given .1))
+returns-6 c =
+    let start = c .before .before .before .before .before in
+    c .end-scan2 .ensures ∙ sym (ap (finishWalk (start .args .s .now)) (c .before .before .walk2 .given .1))
 
 returns-7 : tie.Need-returns-7
 unfolding finishWalk
-returns-7 c = c .end-scan3 .ensures ∙ sym (ap (finishWalk (c .before .before .before .before .before .args .s .now)) (c .before .before .walk3 .given .1))
+returns-7 c =
+    let start = c .before .before .before .before .before in
+    c .end-scan3 .ensures ∙ sym (ap (finishWalk (start .args .s .now)) (c .before .before .walk3 .given .1))
 
 pub finish-spec : {M : Type 1} → statement M
 finish-spec =

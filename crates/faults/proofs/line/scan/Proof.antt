@@ -6,7 +6,8 @@ use borrow.Author.Tests.{not-true, not-false}
 use lib.ListN.{length}
 use Prim.Native.Nat.{ℕ}
 use Rattle.faults.specs.declared.Walk.{Walk}
-use Rattle.faults.proofs.Walked.{Walked, walked-none, starts, few-placed, walked-bad, walked-none-left, walked-more, place-later, walked-all}
+use Rattle.faults.proofs.Walked.{Walked, walked-none, starts, few-placed, walked-bad, walked-none-left, walked-more}
+use Rattle.faults.proofs.Walked.{place-later, walked-all}
 use borrow.Author.Needs.{needs}
 use Rattle.faults.proofs.line.scan.Statement.{statement}
 use Rattle.faults.proofs.line.scan.Tie as tie

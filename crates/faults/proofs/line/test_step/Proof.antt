@@ -30,7 +30,8 @@ unfolding wordWalk spelled
 returns c =
     let at-is-same = c .before in
     let entry = at-is-same .before .before .before .before in
-    let is = ap (λ (w : List ℕ). same w (spelled "THEN")) (sym (part-slice (entry .args .at) (entry .args .end) (entry .args .s .now))) ∙ sym (at-is-same .is-same .ensures) ∙ c .if1 .taken in
+    let is = ap (λ (w : List ℕ). same w (spelled "THEN")) (sym (part-slice (entry .args .at) (entry .args .end) (entry .args .s .now)))
+    ∙ sym (at-is-same .is-same .ensures) ∙ c .if1 .taken in
     rw is
 
 go-step-requires : tie.Need-go-step-requires
@@ -42,7 +43,8 @@ returns-2 c =
     let at-if1 = c .before in
     let at-is-same = at-if1 .before in
     let entry = at-is-same .before .before .before .before in
-    let is = ap (λ (w : List ℕ). same w (spelled "THEN")) (sym (part-slice (entry .args .at) (entry .args .end) (entry .args .s .now))) ∙ sym (at-is-same .is-same .ensures) ∙ at-if1 .if1 .left in
+    let is = ap (λ (w : List ℕ). same w (spelled "THEN")) (sym (part-slice (entry .args .at) (entry .args .end) (entry .args .s .now)))
+    ∙ sym (at-is-same .is-same .ensures) ∙ at-if1 .if1 .left in
     c .go-step .ensures ∙ rw is
 
 pub test-step-spec : {M : Type 1} → statement M

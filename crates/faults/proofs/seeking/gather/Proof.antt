@@ -22,7 +22,9 @@ same-length : tie.Need-same-length Inv-loop μ-loop
 same-length c = search needs
 
 returns : tie.Need-returns Inv-loop μ-loop
-returns c = (c .before .before .loop .inv .1 .0, c .before .before .loop .inv .1 .1)
+returns c =
+    let at-loop = c .before .before in
+    (at-loop .loop .inv .1 .0, at-loop .loop .inv .1 .1)
 
 word-end-requires : tie.Need-word-end-requires Inv-loop μ-loop
 word-end-requires c κs = search needs

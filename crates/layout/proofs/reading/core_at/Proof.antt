@@ -60,8 +60,10 @@ returns c =
     let at-read-words2 = at-current-at .before .before in
     let at-read-words = at-read-words2 .before .before .before in
     let entry = at-read-words .before .before .before in
-    core-read (entry .args .bytes .now) (at-read-words .read-words .ensures) (at-read-words2 .read-words2 .ensures) (at-current-at .current-at .ensures) (at-saved-at .saved-at .ensures)
-    (at-calls-at .calls-at .ensures) (at-place-at .place-at .ensures) (at-count-at .count-at .ensures) (at-count-at2 .count-at2 .ensures) (at-count-at3 .count-at3 .ensures) (at-setup-at .setup-at .ensures)
+    core-read (entry .args .bytes .now) (at-read-words .read-words .ensures) (at-read-words2 .read-words2 .ensures)
+    (at-current-at .current-at .ensures) (at-saved-at .saved-at .ensures)
+    (at-calls-at .calls-at .ensures) (at-place-at .place-at .ensures) (at-count-at .count-at .ensures) (at-count-at2 .count-at2 .ensures)
+    (at-count-at3 .count-at3 .ensures) (at-setup-at .setup-at .ensures)
     (at-count-at4 .count-at4 .ensures) (c .count-at5 .ensures)
 
 pub core-at-spec : {M : Type 1} → statement M

@@ -26,7 +26,9 @@ shared-slice-read-t14 : tie.Need-shared-slice-read-t14
 shared-slice-read-t14 c = search needs
 
 returns : tie.Need-returns
-returns c = definition-read (c .before .before .before .before .args .bytes .now) (c .before .before .before .before .args .at) (c .before .before .before .before .pre)
+returns c =
+    let start = c .before .before .before .before in
+    definition-read (start .args .bytes .now) (start .args .at) (start .pre)
 
 pub definition-at-spec : {M : Type 1} → statement M
 definition-at-spec =

@@ -38,7 +38,8 @@ loop-again : tie.Need-loop-again Inv-loop μ-loop
 loop-again c =
     let at-loop = c .before .before in
     let entry = at-loop .before in
-    reads-next lowFirst 1 (at-loop .loop .inv) (omega (arith, at-loop .loop .inv .long)) (byte-read (entry .args .bytes .now) (entry .args .at) (at-loop .loop .i) (omega (arith, at-loop .loop .inv .long, entry .pre)))
+    reads-next lowFirst 1 (at-loop .loop .inv) (omega (arith, at-loop .loop .inv .long)) (byte-read (entry .args .bytes .now) (entry .args .at)
+    (at-loop .loop .i) (omega (arith, at-loop .loop .inv .long, entry .pre)))
 
 same-length : tie.Need-same-length Inv-loop μ-loop
 same-length c = c .before .loop .inv .long

@@ -16,7 +16,9 @@ abbrev μ-loop : tie.MeasureT-loop
 μ-loop bytes at words₀ i₀ words i = length words₀ - i
 
 loop-holds : tie.Need-loop-holds Inv-loop μ-loop
-loop-holds c = reads-none lowFirst 8 (c .before .before .args .at) _ (c .before .before .args .bytes .now) _ refl
+loop-holds c =
+    let start = c .before .before in
+    reads-none lowFirst 8 (start .args .at) _ (start .args .bytes .now) _ refl
 
 mul-number-at : tie.Need-mul-number-at Inv-loop μ-loop
 mul-number-at c = search needs
@@ -40,7 +42,9 @@ loop-less : tie.Need-loop-less Inv-loop μ-loop
 loop-less c = search needs
 
 loop-again : tie.Need-loop-again Inv-loop μ-loop
-loop-again c = reads-next lowFirst 8 (c .before .before .loop .inv) (omega (arith, c .before .before .loop .inv .long)) (c .number-at .ensures)
+loop-again c =
+    let at-loop = c .before .before in
+    reads-next lowFirst 8 (at-loop .loop .inv) (omega (arith, at-loop .loop .inv .long)) (c .number-at .ensures)
 
 same-length : tie.Need-same-length Inv-loop μ-loop
 same-length c = c .before .loop .inv .long

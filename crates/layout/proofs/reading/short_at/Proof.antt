@@ -25,10 +25,14 @@ mul-result : tie.Need-mul-result
 mul-result c = omega (arith, c .shared-slice-known2 .given (c .before .before .args .at + 1))
 
 add-result-2 : tie.Need-add-result-2
-add-result-2 c = omega (arith, c .before .shared-slice-known .given (c .before .before .args .at), c .shared-slice-known2 .given (c .before .before .args .at + 1))
+add-result-2 c =
+    let start = c .before .before in
+    omega (arith, c .before .shared-slice-known .given (start .args .at), c .shared-slice-known2 .given (start .args .at + 1))
 
 returns : tie.Need-returns
-returns c = omega (arith, short-at (c .before .before .args .at) (c .before .before .args .bytes .now) (c .before .before .pre))
+returns c =
+    let start = c .before .before in
+    omega (arith, short-at (start .args .at) (start .args .bytes .now) (start .pre))
 
 pub short-at-spec : {M : Type 1} → statement M
 short-at-spec =

@@ -42,7 +42,8 @@ loop-again c =
     let at-loop = at-loop-test .before in
     let entry = at-loop .before in
     let byte = c .shared-slice-known .given (at-loop .loop .i) .fits in
-    puts-next (bytesOf 1) 0 1 (length-bytes 1) (omega (arith, entry .pre)) (at-loop .loop .inv) (at-loop-test .loop-test .taken) (byte-placed (entry .args .at) (at-loop .loop .i) _ (at-loop .loop .bytes)
+    puts-next (bytesOf 1) 0 1 (length-bytes 1) (omega (arith, entry .pre)) (at-loop .loop .inv) (at-loop-test .loop-test .taken)
+    (byte-placed (entry .args .at) (at-loop .loop .i) _ (at-loop .loop .bytes)
     (omega (arith, entry .pre, at-loop-test .loop-test .taken, kept (at-loop .loop .inv .put-so))) byte) byte
 
 same-length : tie.Need-same-length Inv-loop μ-loop
@@ -50,8 +51,10 @@ same-length c = kept (c .before .loop .inv .put-so)
 
 returns : tie.Need-returns Inv-loop μ-loop
 returns c =
-    let all = c .before .loop .inv in
-    (puts-all (bytesOf 1) 0 1 (length-bytes 1) (omega (arith, c .before .before .pre)) all (c .loop-test .left), record { long = refl; each = λ i h. all .each i (omega (arith, c .loop-test .left)) })
+    let all = c .before .loop .inv in (
+      puts-all (bytesOf 1) 0 1 (length-bytes 1) (omega (arith, c .before .before .pre)) all (c .loop-test .left),
+      record { long = refl; each = λ i h. all .each i (omega (arith, c .loop-test .left)) },
+    )
 
 pub put-bytes-spec : {M : Type 1} → statement M
 put-bytes-spec =

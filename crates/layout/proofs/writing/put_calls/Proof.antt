@@ -65,7 +65,11 @@ returns c =
     let at-loop = c .before in
     let entry = at-loop .before .before in
     let all = at-loop .loop .inv .1 in (
-      puts-all bytesOfPlace (testsOf 0) 5 length-place (omega (arith, entry .pre, at-loop .loop .inv .0)) all (omega (arith, at-loop .loop .inv .0, c .loop-test .left)),
+      puts-all bytesOfPlace (testsOf 0) 5 length-place (omega (arith, entry .pre, at-loop .loop .inv .0)) all (omega (
+        arith,
+        at-loop .loop .inv .0,
+        c .loop-test .left,
+      )),
       record {
         long = at-loop .loop .inv .0;
         each = λ i h. all .each i (omega (arith, c .loop-test .left));

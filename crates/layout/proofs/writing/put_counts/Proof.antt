@@ -25,8 +25,10 @@ returns c =
     let at-put-number2 = at-put-number3 .before .before .before .before in
     let at-put-number = at-put-number2 .before .before .before .before in
     let entry = at-put-number .before .before .before in
-    let row = three-row 27 8 8 8 (bytesOf 8 (entry .args .contents)) (bytesOf 8 (entry .args .saved)) (bytesOf 8 (entry .args .calls)) (entry .args .bytes .now) (length-bytes 8 _) (length-bytes 8 _) (length-bytes 8 _)
-    (number-placed 27 8 _ _ (at-put-number .put-number .ensures)) (number-placed 35 8 _ _ (at-put-number2 .put-number2 .ensures)) (number-placed 43 8 _ _ (at-put-number3 .put-number3 .ensures)) (omega (arith, entry .pre)) in
+    let row = three-row 27 8 8 8 (bytesOf 8 (entry .args .contents)) (bytesOf 8 (entry .args .saved)) (bytesOf 8 (entry .args .calls))
+    (entry .args .bytes .now) (length-bytes 8 _) (length-bytes 8 _) (length-bytes 8 _)
+    (number-placed 27 8 _ _ (at-put-number .put-number .ensures)) (number-placed 35 8 _ _ (at-put-number2 .put-number2 .ensures))
+    (number-placed 43 8 _ _ (at-put-number3 .put-number3 .ensures)) (omega (arith, entry .pre)) in
     (row .put .same, (entry .fits .contents .fits, entry .fits .saved .fits, entry .fits .calls .fits))
 
 pub put-counts-spec : {M : Type 1} → statement M

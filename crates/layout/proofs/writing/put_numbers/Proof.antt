@@ -26,7 +26,17 @@ returns c =
     let setup = at-put-setup .put-setup .ensures in
     let counts = at-put-counts .put-counts .ensures in (
       numbers-put (entry .args .core) (entry .args .bytes .now) (entry .pre) (streams .0) (setup .0) (counts .0),
-      record { place = streams .1 .0; taken = streams .1 .1; written = streams .1 .2; d = setup .1 .0; s1 = setup .1 .1; s2 = setup .1 .2; contents = counts .1 .0; saved = counts .1 .1; calls = counts .1 .2 },
+      record {
+        place = streams .1 .0;
+        taken = streams .1 .1;
+        written = streams .1 .2;
+        d = setup .1 .0;
+        s1 = setup .1 .1;
+        s2 = setup .1 .2;
+        contents = counts .1 .0;
+        saved = counts .1 .1;
+        calls = counts .1 .2;
+      },
     )
 
 pub put-numbers-spec : {M : Type 1} → statement M

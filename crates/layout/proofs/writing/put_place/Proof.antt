@@ -43,8 +43,10 @@ returns c =
     let entry = at-put-number .before .before .before .before in
     let p = entry .args .p in
     let at = entry .args .at in
-    let row = three-row at 1 2 2 (bytesOf 1 (p .kind)) (bytesOf 2 (p .row)) (bytesOf 2 (p .line)) (entry .args .bytes .now) (length-bytes 1 _) (length-bytes 2 _) (length-bytes 2 _)
-    (number-placed at 1 _ _ (at-put-number .put-number .ensures)) (number-placed _ 2 _ _ (at-put-number2 .put-number2 .ensures)) (number-placed _ 2 _ _ (at-put-number3 .put-number3 .ensures)) (entry .pre) in
+    let row = three-row at 1 2 2 (bytesOf 1 (p .kind)) (bytesOf 2 (p .row)) (bytesOf 2 (p .line)) (entry .args .bytes .now) (length-bytes 1 _)
+    (length-bytes 2 _) (length-bytes 2 _)
+    (number-placed at 1 _ _ (at-put-number .put-number .ensures)) (number-placed _ 2 _ _ (at-put-number2 .put-number2 .ensures))
+    (number-placed _ 2 _ _ (at-put-number3 .put-number3 .ensures)) (entry .pre) in
     (row .put .same, record { kind = search needs; row = search needs; line = search needs })
 
 pub put-place-spec : {M : Type 1} → statement M

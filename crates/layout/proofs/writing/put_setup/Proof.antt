@@ -34,8 +34,10 @@ returns c =
     let at-put-number2 = at-put-number3 .before .before .before .before .before in
     let at-put-number = at-put-number2 .before .before .before .before .before in
     let entry = at-put-number .before .before .before .before in
-    let row = three-row 21 2 2 2 (bytesOf 2 (entry .args .setup .d)) (bytesOf 2 (entry .args .setup .s1)) (bytesOf 2 (entry .args .setup .s2)) (entry .args .bytes .now) (length-bytes 2 _) (length-bytes 2 _)
-    (length-bytes 2 _) (number-placed 21 2 _ _ (at-put-number .put-number .ensures)) (number-placed 23 2 _ _ (at-put-number2 .put-number2 .ensures)) (number-placed 25 2 _ _ (at-put-number3 .put-number3 .ensures))
+    let row = three-row 21 2 2 2 (bytesOf 2 (entry .args .setup .d)) (bytesOf 2 (entry .args .setup .s1)) (bytesOf 2 (entry .args .setup .s2))
+    (entry .args .bytes .now) (length-bytes 2 _) (length-bytes 2 _)
+    (length-bytes 2 _) (number-placed 21 2 _ _ (at-put-number .put-number .ensures)) (number-placed 23 2 _ _ (at-put-number2 .put-number2 .ensures))
+    (number-placed 25 2 _ _ (at-put-number3 .put-number3 .ensures))
     (omega (arith, entry .pre)) in
     (row .put .same, (search needs, search needs, search needs))
 

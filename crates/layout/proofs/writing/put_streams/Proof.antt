@@ -27,8 +27,10 @@ returns c =
     let at-put-number = at-put-number2 .before .before .before .before in
     let at-put-place = at-put-number .before .before .before .before in
     let entry = at-put-place .before .before .before in
-    let row = three-row 0 5 8 8 (bytesOfPlace (entry .args .place)) (bytesOf 8 (entry .args .taken)) (bytesOf 8 (entry .args .written)) (entry .args .bytes .now) (length-place _) (length-bytes 8 _) (length-bytes 8 _)
-    (at-put-place .put-place .ensures .0) (number-placed 5 8 _ _ (at-put-number .put-number .ensures)) (number-placed 13 8 _ _ (at-put-number2 .put-number2 .ensures)) (omega (arith, entry .pre)) in
+    let row = three-row 0 5 8 8 (bytesOfPlace (entry .args .place)) (bytesOf 8 (entry .args .taken)) (bytesOf 8 (entry .args .written))
+    (entry .args .bytes .now) (length-place _) (length-bytes 8 _) (length-bytes 8 _)
+    (at-put-place .put-place .ensures .0) (number-placed 5 8 _ _ (at-put-number .put-number .ensures))
+    (number-placed 13 8 _ _ (at-put-number2 .put-number2 .ensures)) (omega (arith, entry .pre)) in
     (row .put .same, (at-put-place .put-place .ensures .1, entry .fits .taken .fits, entry .fits .written .fits))
 
 pub put-streams-spec : {M : Type 1} → statement M

@@ -49,7 +49,8 @@ loop-again c =
     let at-loop-test = at-shared-slice-known2 .before .before in
     let at-loop = at-loop-test .before in
     let entry = at-loop .before .before .before in
-    puts-next (bytesOf 8) 0 8 (length-bytes 8) (entry .pre) (at-loop .loop .inv) (at-loop-test .loop-test .taken) (number-placed _ 8 _ _ (at-put-number .put-number .ensures))
+    puts-next (bytesOf 8) 0 8 (length-bytes 8) (entry .pre) (at-loop .loop .inv) (at-loop-test .loop-test .taken)
+    (number-placed _ 8 _ _ (at-put-number .put-number .ensures))
     (at-shared-slice-known2 .shared-slice-known2 .given (at-loop .loop .i) .fits)
 
 same-length : tie.Need-same-length Inv-loop μ-loop
@@ -57,8 +58,11 @@ same-length c = kept (c .before .loop .inv .put-so)
 
 returns : tie.Need-returns Inv-loop μ-loop
 returns c =
-    let all = c .before .loop .inv in
-    (puts-all (bytesOf 8) 0 8 (length-bytes 8) (c .before .before .before .before .pre) all (c .loop-test .left), record { long = refl; each = λ i h. all .each i (omega (arith, c .loop-test .left)) })
+    let start = c .before .before .before .before in
+    let all = c .before .loop .inv in (
+      puts-all (bytesOf 8) 0 8 (length-bytes 8) (start .pre) all (c .loop-test .left),
+      record { long = refl; each = λ i h. all .each i (omega (arith, c .loop-test .left)) },
+    )
 
 pub put-words-spec : {M : Type 1} → statement M
 put-words-spec =

@@ -38,7 +38,12 @@ returns c =
     let at-put-numbers = at-put-arrays .before .before .before .before in
     let entry = at-put-numbers .before .before .before .before .before in
     let long : length (entry .args .state .map) ≡ 4096 = sym (slice-aggregate-put-bytes at-map2) in
-    let ok : Ranged (entry .args .state) = record { width = at-put-width .put-width .ensures .1; numbers = at-put-numbers .put-numbers .ensures .1; arrays = at-put-arrays .put-arrays .ensures .1; map = rw long at (at-put-bytes .put-bytes .ensures .1) } in (
+    let ok : Ranged (entry .args .state) = record {
+      width = at-put-width .put-width .ensures .1;
+      numbers = at-put-numbers .put-numbers .ensures .1;
+      arrays = at-put-arrays .put-arrays .ensures .1;
+      map = rw long at (at-put-bytes .put-bytes .ensures .1);
+    } in (
       state-put (entry .args .state) ok (entry .args .bytes .now) (entry .pre) (at-put-numbers .put-numbers .ensures .0) (at-put-arrays .put-arrays .ensures .0)
           (at-put-bytes .put-bytes .ensures .0) (at-put-width .put-width .ensures .0),
       state-back (entry .args .state) ok,

@@ -46,7 +46,10 @@ returns c =
     ∙ sym (at-is-argument .is-argument .ensures) ∙ not-true _ (c .if1 .taken))
 
 add-at : tie.Need-add-at Inv-loop μ-loop
-add-at c = let inside = part-inside _ _ _ (c .before .before .before .before .loop-test .taken) (c .before .before .before .comma-end .ensures) in omega arith
+add-at c =
+    let at-comma-end = c .before .before .before in
+    let at-loop-test = at-comma-end .before in
+    let inside = part-inside _ _ _ (at-loop-test .loop-test .taken) (at-comma-end .comma-end .ensures) in omega arith
 
 loop-less : tie.Need-loop-less Inv-loop μ-loop
 loop-less c =

@@ -41,8 +41,9 @@ comma-end-requires-2 c κs = stepping-inside _ _ (c .before .loop .inv)
 
 returns : tie.Need-returns Inv-loop μ-loop
 returns c =
-    let inside = part-inside _ _ _ (stepping-inside _ _ (c .before .before .loop .inv)) (c .comma-end2 .ensures) in
-    (inside .0, (inside .1, stepping-all _ _ (c .before .before .loop .inv) _ (c .comma-end2 .ensures) (c .before .loop-test .left)))
+    let at-loop = c .before .before in
+    let inside = part-inside _ _ _ (stepping-inside _ _ (at-loop .loop .inv)) (c .comma-end2 .ensures) in
+    (inside .0, (inside .1, stepping-all _ _ (at-loop .loop .inv) _ (c .comma-end2 .ensures) (c .before .loop-test .left)))
 
 pub argument-at-spec : {M : Type 1} → statement M
 argument-at-spec =

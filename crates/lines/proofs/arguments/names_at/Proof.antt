@@ -51,8 +51,12 @@ returns-3 c =
     let at-comma-end2 = at-if2 .before in
     let at-if1 = at-comma-end2 .before in
     let at-comma-end = at-if1 .before in
-    let entry = at-comma-end .before .before in
-    (omega arith, called _ _ (at-comma-end .comma-end .ensures) (at-if1 .if1 .left) _ (at-comma-end2 .comma-end2 .ensures) (at-if2 .if2 .left) (ap (λ (w : List ℕ). same w (spelled "DO")) (sym (part-slice 0 (at-comma-end .comma-end .result) (entry .args .s .now))) ∙ sym (at-is-same .is-same .ensures) ∙ c .if3 .taken))
+    let entry = at-comma-end .before .before in (
+      omega arith,
+      called _ _ (at-comma-end .comma-end .ensures) (at-if1 .if1 .left) _ (at-comma-end2 .comma-end2 .ensures) (at-if2 .if2 .left)
+          (ap (λ (w : List ℕ). same w (spelled "DO")) (sym (part-slice 0 (at-comma-end .comma-end .result) (entry .args .s .now)))
+          ∙ sym (at-is-same .is-same .ensures) ∙ c .if3 .taken),
+    )
 
 add-result : tie.Need-add-result
 add-result c = search needs
@@ -65,8 +69,12 @@ returns-4 c =
     let at-comma-end2 = at-if2 .before in
     let at-if1 = at-comma-end2 .before in
     let at-comma-end = at-if1 .before in
-    let entry = at-comma-end .before .before in
-    (omega arith, shortened _ _ (at-comma-end .comma-end .ensures) (at-if1 .if1 .left) _ (at-comma-end2 .comma-end2 .ensures) (at-if2 .if2 .left) (ap (λ (w : List ℕ). same w (spelled "DO")) (sym (part-slice 0 (at-comma-end .comma-end .result) (entry .args .s .now))) ∙ sym (at-is-same .is-same .ensures) ∙ c .if3 .left))
+    let entry = at-comma-end .before .before in (
+      omega arith,
+      shortened _ _ (at-comma-end .comma-end .ensures) (at-if1 .if1 .left) _ (at-comma-end2 .comma-end2 .ensures) (at-if2 .if2 .left)
+          (ap (λ (w : List ℕ). same w (spelled "DO")) (sym (part-slice 0 (at-comma-end .comma-end .result) (entry .args .s .now)))
+          ∙ sym (at-is-same .is-same .ensures) ∙ c .if3 .left),
+    )
 
 pub names-at-spec : {M : Type 1} → statement M
 names-at-spec =

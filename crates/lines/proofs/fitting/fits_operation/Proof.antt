@@ -17,7 +17,9 @@ names-at-requires : tie.Need-names-at-requires
 names-at-requires c κs = search needs
 
 form-at-requires : tie.Need-form-at-requires
-form-at-requires c κs = (c .before .before .before .pre .0, c .before .before .before .pre .1)
+form-at-requires c κs =
+    let start = c .before .before .before in
+    (start .pre .0, start .pre .1)
 
 returns : tie.Need-returns
 returns c = operations-fit _ _ (c .form-at .ensures) ∙ fits-plain _ _ _ (c .before .if1 .taken) (c .before .before .names-at .ensures .1)

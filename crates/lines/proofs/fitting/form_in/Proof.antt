@@ -61,7 +61,9 @@ is-meant-requires c κs =
     )
 
 returns-2 : tie.Need-returns-2 Inv-loop μ-loop
-returns-2 c = tried-stop _ _ _ (c .before .before .before .before .loop .inv .0) (omega arith) (sym (c .before .is-meant .ensures) ∙ c .if2 .taken)
+returns-2 c =
+    let at-loop = c .before .before .before .before in
+    tried-stop _ _ _ (at-loop .loop .inv .0) (omega arith) (sym (c .before .is-meant .ensures) ∙ c .if2 .taken)
 
 add-i : tie.Need-add-i Inv-loop μ-loop
 add-i c = search needs

@@ -9,7 +9,8 @@ use Rattle.lines.specs.Words.{isKind}
 use Rattle.lines.specs.Forms.{noForm}
 use Rattle.lines.specs.Walking.{formsOf, kindNumber}
 use Rattle.lines.proofs.Parts.{part-inside, part-slice}
-use Rattle.lines.proofs.Coding.{number-there, Matched, matched-none, matched-end, matched-short, matched-not, matched-more, matched-all}
+use Rattle.lines.proofs.Coding.{number-there, Matched, matched-none, matched-end, matched-short, matched-not, matched-more}
+use Rattle.lines.proofs.Coding.{matched-all}
 use Rattle.lines.proofs.Coding.{kindNumbers, length-padded, kind-at, of-kind, fits-numbers}
 use borrow.Author.Needs.{needs}
 use Rattle.lines.proofs.fitting.is_form.Statement.{statement}
@@ -74,6 +75,7 @@ is-kind-requires c κs = search needs
 
 returns-3 : tie.Need-returns-3 Inv-loop μ-loop
 returns-3 c =
+    let at-if = c .before .before .before .before .before in
     let at-is-kind = c .before in
     let at-comma-end = at-is-kind .before .before in
     let at-if2 = at-comma-end .before in
@@ -84,14 +86,17 @@ returns-3 c =
     let number = at-number-in .number-in .ensures
     ∙ ap (λ (t : List ℕ). getD t (8 * entry .args .form + (at-loop .loop .i + 1)) 0) (entry .pre .0)
     ∙ kind-at (formsOf (entry .args .tests)) (entry .args .form) (at-loop .loop .i) (entry .pre .1 .1 .0) (at-loop-test .loop-test .taken) in
-    matched-not _ _ _ _ (at-loop .loop .inv) (at-loop-test .loop-test .taken) (λ z. c .before .before .before .before .before .if1 .left (number
+    matched-not _ _ _ _ (at-loop .loop .inv) (at-loop-test .loop-test .taken) (λ z. at-if .if1 .left (number
     ∙ z)) _
     (at-if2 .if2 .left) (at-comma-end .comma-end .ensures)
     (ap (isKind _ _) (sym (part-slice (at-loop .loop .at) (at-comma-end .comma-end .result) (entry .args .s .now))) ∙ of-kind _ _ (sym number)
     ∙ sym (at-is-kind .is-kind .ensures) ∙ not-true _ (c .if3 .taken)) ∙ fits-numbers _ _ _ _ (entry .pre .1 .1 .0)
 
 add-at : tie.Need-add-at Inv-loop μ-loop
-add-at c = let inside = part-inside _ _ _ (c .before .before .before .before .if2 .left) (c .before .before .before .comma-end .ensures) in omega arith
+add-at c =
+    let at-comma-end = c .before .before .before in
+    let at-if = at-comma-end .before in
+    let inside = part-inside _ _ _ (at-if .if2 .left) (at-comma-end .comma-end .ensures) in omega arith
 
 add-i : tie.Need-add-i Inv-loop μ-loop
 add-i c = search needs
@@ -101,6 +106,7 @@ loop-less c = search needs
 
 loop-again : tie.Need-loop-again Inv-loop μ-loop
 loop-again c =
+    let at-if = c .before .before .before .before .before in
     let at-is-kind = c .before in
     let at-comma-end = at-is-kind .before .before in
     let at-if2 = at-comma-end .before in
@@ -111,14 +117,16 @@ loop-again c =
     let number = at-number-in .number-in .ensures
     ∙ ap (λ (t : List ℕ). getD t (8 * entry .args .form + (at-loop .loop .i + 1)) 0) (entry .pre .0)
     ∙ kind-at (formsOf (entry .args .tests)) (entry .args .form) (at-loop .loop .i) (entry .pre .1 .1 .0) (at-loop-test .loop-test .taken) in
-    matched-more _ _ _ _ (at-loop .loop .inv) (at-loop-test .loop-test .taken) (λ z. c .before .before .before .before .before .if1 .left (number
+    matched-more _ _ _ _ (at-loop .loop .inv) (at-loop-test .loop-test .taken) (λ z. at-if .if1 .left (number
     ∙ z)) _
     (at-if2 .if2 .left) (at-comma-end .comma-end .ensures)
     (ap (isKind _ _) (sym (part-slice (at-loop .loop .at) (at-comma-end .comma-end .result) (entry .args .s .now))) ∙ of-kind _ _ (sym number)
     ∙ sym (at-is-kind .is-kind .ensures) ∙ not-false _ (c .if3 .left))
 
 returns-4 : tie.Need-returns-4 Inv-loop μ-loop
-returns-4 c = matched-all _ _ _ _ (c .before .loop .inv) (c .loop-test .left) ∙ fits-numbers _ _ _ _ (c .before .before .before .before .pre .1 .1 .0)
+returns-4 c =
+    let start = c .before .before .before .before in
+    matched-all _ _ _ _ (c .before .loop .inv) (c .loop-test .left) ∙ fits-numbers _ _ _ _ (start .pre .1 .1 .0)
 
 pub is-form-spec : {M : Type 1} → statement M
 is-form-spec =

@@ -37,18 +37,21 @@ returns-2 c =
 
 returns-3 : tie.Need-returns-3
 returns-3 c =
-    (never-closed _ _ (c .before .before .before .before .if1 .left) _ (c .before .before .if2 .taken) (c .before .inside-end .ensures) (c .if3 .left), tt)
+    let at-if = c .before .before .before .before in
+    (never-closed _ _ (at-if .if1 .left) _ (c .before .before .if2 .taken) (c .before .inside-end .ensures) (c .if3 .left), tt)
 
 returns-4 : tie.Need-returns-4
-returns-4 c = (
-  word-here _ _ (c .before .before .before .before .before .if1 .left) _ (c .before .before .before .if2 .left)
-      (sym (c .before .before .is-name .ensures) ∙ c .before .if4 .taken) (c .word-end .ensures),
-  within-word _ _ _ (c .before .before .before .before .before .if1 .left) (c .word-end .ensures),
-)
+returns-4 c =
+    let at-if = c .before .before .before .before .before in (
+      word-here _ _ (at-if .if1 .left) _ (c .before .before .before .if2 .left)
+          (sym (c .before .before .is-name .ensures) ∙ c .before .if4 .taken) (c .word-end .ensures),
+      within-word _ _ _ (at-if .if1 .left) (c .word-end .ensures),
+    )
 
 returns-5 : tie.Need-returns-5
 returns-5 c =
-    (no-token-here _ _ (c .before .before .before .before .if1 .left) (c .before .before .if2 .left) (sym (c .before .is-name .ensures) ∙ c .if4 .left), tt)
+    let at-if = c .before .before .before .before in
+    (no-token-here _ _ (at-if .if1 .left) (c .before .before .if2 .left) (sym (c .before .is-name .ensures) ∙ c .if4 .left), tt)
 
 pub token-at-spec : {M : Type 1} → statement M
 token-at-spec =

@@ -42,7 +42,14 @@ loop-less c = omega arith
 
 loop-again : tie.Need-loop-again Inv-loop μ-loop
 unfolding undefined
-loop-again c = (omega arith, packed-next _ _ _ (c .before .before .before .loop .inv .1) (omega (arith, c .before .before .before .loop .inv .3)) (omega (arith, c .before .before .before .loop .inv .2)) _ (c .pack .ensures), search needs, c .before .before .before .loop .inv .3)
+loop-again c =
+    let at-loop = c .before .before .before in (
+      omega arith,
+      packed-next _ _ _ (at-loop .loop .inv .1) (omega (arith, at-loop .loop .inv .3)) (omega (arith, at-loop .loop .inv .2)) _
+          (c .pack .ensures),
+      search needs,
+      at-loop .loop .inv .3,
+    )
 
 returns : tie.Need-returns Inv-loop μ-loop
 returns c = packed-all _ _ _ (c .before .loop .inv .1) (omega (arith, c .before .loop .inv .3)) (omega (arith, c .before .loop .inv .2))

@@ -18,10 +18,21 @@ enum-known-place-2 : tie.Need-enum-known-place-2
 enum-known-place-2 c = search needs
 
 word-after-requires : tie.Need-word-after-requires
-word-after-requires c κs = let place = field-reached _ _ _ (c .before .place2 .given .1) (c .before .before .before .before .pre .4) in (c .before .before .before .before .pre .0, c .before .before .before .before .pre .1, c .before .before .before .before .pre .2, c .before .before .before .before .pre .3, place .1, place .2)
+word-after-requires c κs =
+    let start = c .before .before .before .before in
+    let place = field-reached _ _ _ (c .before .place2 .given .1) (start .pre .4) in (
+      start .pre .0,
+      start .pre .1,
+      start .pre .2,
+      start .pre .3,
+      place .1,
+      place .2,
+    )
 
 read-field-requires : tie.Need-read-field-requires
-read-field-requires c κs = (omega (arith, c .before .before .before .before .before .pre .0), field-reached _ _ _ (c .before .before .place2 .given .1) (c .before .before .before .before .before .pre .4) .0)
+read-field-requires c κs =
+    let start = c .before .before .before .before .before in
+    (omega (arith, start .pre .0), field-reached _ _ _ (c .before .before .place2 .given .1) (start .pre .4) .0)
 
 returns : tie.Need-returns
 returns c = bug-contents _ _ _ _ (c .before .before .place .given .1)

@@ -3,7 +3,8 @@
 use native.Mathlib.Omega.{arith}
 use mathlib.Core.Path.{refl, _∙_}
 use Rattle.operands.specs.Reading.{seen}
-use Rattle.operands.proofs.Follows.{Followed, followed-first, followed-all, name-left, followed-next, followed-stopped, followed-last, one-field, one-name, without-bugs, link-with}
+use Rattle.operands.proofs.Follows.{Followed, followed-first, followed-all, name-left, followed-next, followed-stopped}
+use Rattle.operands.proofs.Follows.{followed-last, one-field, one-name, without-bugs, link-with}
 use borrow.Author.Needs.{needs}
 use Rattle.operands.proofs.references.follow.Statement.{statement}
 use Rattle.operands.proofs.references.follow.Tie as tie
@@ -15,7 +16,9 @@ abbrev μ-loop : tie.MeasureT-loop
 μ-loop b bugs fields setup map storage value left₀ i spot₀ left spot = left
 
 bug-before-requires : tie.Need-bug-before-requires Inv-loop μ-loop
-bug-before-requires c κs = (c .before .before .before .pre .1, one-field _ (c .before .before .before .pre .2) (c .if1 .taken))
+bug-before-requires c κs =
+    let start = c .before .before .before in
+    (start .pre .1, one-field _ (start .pre .2) (c .if1 .taken))
 
 mul-link-to : tie.Need-mul-link-to Inv-loop μ-loop
 mul-link-to c = search needs
@@ -67,7 +70,9 @@ name-before-requires-2 : tie.Need-name-before-requires-2 Inv-loop μ-loop
 name-before-requires-2 c κs = (c .before .before .before .before .before .before .before .before .pre .1, name-left _ _ _ (c .before .loop .inv) (omega arith))
 
 link-to-requires-2 : tie.Need-link-to-requires-2 Inv-loop μ-loop
-link-to-requires-2 c κs = (without-bugs _ _ (c .before .before .before .before .before .before .before .before .before .pre .0), c .name-before2 .ensures .1)
+link-to-requires-2 c κs =
+    let start = c .before .before .before .before .before .before .before .before .before in
+    (without-bugs _ _ (start .pre .0), c .name-before2 .ensures .1)
 
 enum-known-answer : tie.Need-enum-known-answer Inv-loop μ-loop
 enum-known-answer c = search needs

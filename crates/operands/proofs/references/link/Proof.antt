@@ -29,14 +29,25 @@ cast-right : tie.Need-cast-right
 cast-right c = search needs
 
 word-at-requires : tie.Need-word-at-requires
-word-at-requires c κs = let low = c .before .before .before .before .before .before .before .before .pre .1 .low (c .before .before .before .before .if2 .left) in let high = c .before .before .before .before .before .before .before .before .pre .1 .high (c .before .before .before .before .if2 .left) in let less = c .before .before .if3 .left in (omega arith, omega arith)
+word-at-requires c κs =
+    let at-if = c .before .before .before .before in
+    let start = at-if .before .before .before .before in
+    let low = start .pre .1 .low (at-if .if2 .left) in let high = start .pre .1 .high (at-if .if2 .left) in let less = c .before .before .if3 .left in
+    (omega arith, omega arith)
 
 read-field-requires : tie.Need-read-field-requires
-read-field-requires c κs = (omega (arith, c .before .before .before .before .before .before .before .before .before .pre .0), c .before .before .before .before .before .before .before .before .before .pre .1 .right (not-false _ (c .before .before .before .before .before .before .if1 .left)))
+read-field-requires c κs =
+    let at-if = c .before .before .before .before .before .before in
+    let start = at-if .before .before .before in
+    (omega (arith, start .pre .0), start .pre .1 .right (not-false _ (at-if .if1 .left)))
 
 returns-4 : tie.Need-returns-4
 unfolding wordAt
-returns-4 c = link-inside _ _ _ _ _ _ (not-false _ (c .before .before .before .before .before .before .before .if1 .left)) (c .before .before .before .before .before .before .if2 .left) (c .before .before .before .before .if3 .left) (c .before .word-at .ensures) (c .read-field .ensures)
+returns-4 c =
+    let at-if = c .before .before .before .before in
+    let at-if-2 = at-if .before .before in
+    let at-if-3 = at-if-2 .before in
+    link-inside _ _ _ _ _ _ (not-false _ (at-if-3 .if1 .left)) (at-if-2 .if2 .left) (at-if .if3 .left) (c .before .word-at .ensures) (c .read-field .ensures)
 
 pub link-spec : {M : Type 1} → statement M
 link-spec =

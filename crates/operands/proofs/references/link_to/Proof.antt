@@ -13,7 +13,9 @@ use Rattle.operands.proofs.references.link_to.Statement.{statement}
 use Rattle.operands.proofs.references.link_to.Tie as tie
 
 live-size-requires : tie.Need-live-size-requires
-live-size-requires c κs = (c .before .before .pre .0 .whole, c .before .before .pre .0 .kept)
+live-size-requires c κs =
+    let start = c .before .before in
+    (start .pre .0 .whole, start .pre .0 .kept)
 
 cast-i : tie.Need-cast-i
 cast-i c = search needs
@@ -28,10 +30,15 @@ unpack-requires : tie.Need-unpack-requires
 unpack-requires c κs = search needs
 
 link-requires : tie.Need-link-requires
-link-requires c κs = (c .before .before .before .before .before .before .pre .0 .width, lying-as _ _ (c .before .before .before .before .before .before .pre .0) _ (c .unpack .ensures ∙ unpacked-at _ _) _ _ (c .before .before .before .live-size .ensures))
+link-requires c κs =
+    let at-live-size = c .before .before .before in
+    let start = at-live-size .before .before .before in
+    (start .pre .0 .width, lying-as _ _ (start .pre .0) _ (c .unpack .ensures ∙ unpacked-at _ _) _ _ (at-live-size .live-size .ensures))
 
 returns : tie.Need-returns
-returns c = c .link .ensures ∙ link-as _ _ _ (c .before .unpack .ensures ∙ unpacked-at _ _) _ _ (c .before .before .before .before .live-size .ensures)
+returns c =
+    let at-live-size = c .before .before .before .before in
+    c .link .ensures ∙ link-as _ _ _ (c .before .unpack .ensures ∙ unpacked-at _ _) _ _ (at-live-size .live-size .ensures)
 
 pub link-to-spec : {M : Type 1} → statement M
 link-to-spec =

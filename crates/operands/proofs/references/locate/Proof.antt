@@ -9,7 +9,9 @@ use Rattle.operands.proofs.references.locate.Statement.{statement}
 use Rattle.operands.proofs.references.locate.Tie as tie
 
 bug-before-requires : tie.Need-bug-before-requires
-bug-before-requires c κs = (c .before .before .before .before .pre .1, no-field _ (c .before .before .before .before .pre .1) (c .if1 .taken))
+bug-before-requires c κs =
+    let start = c .before .before .before .before in
+    (start .pre .1, no-field _ (start .pre .1) (c .if1 .taken))
 
 mul-t13 : tie.Need-mul-t13
 mul-t13 c = search needs
@@ -19,10 +21,14 @@ element-copy-out-t16 c = c .bug-before .ensures .1
 
 returns : tie.Need-returns
 unfolding locate leads
-returns c = bug-spot _ _ _ (c .before .before .before .before .before .before .pre .1) (c .before .before .if1 .taken) (c .before .bug-before .ensures)
+returns c =
+    let start = c .before .before .before .before .before .before in
+    bug-spot _ _ _ (start .pre .1) (c .before .before .if1 .taken) (c .before .bug-before .ensures)
 
 follow-requires : tie.Need-follow-requires
-follow-requires c κs = (c .before .before .before .before .pre .0, c .before .before .before .before .pre .1, c .if1 .left)
+follow-requires c κs =
+    let start = c .before .before .before .before in
+    (start .pre .0, start .pre .1, c .if1 .left)
 
 returns-2 : tie.Need-returns-2
 unfolding locate leads

@@ -5,8 +5,10 @@ use mathlib.Core.Path.{refl, sym, ap, _∙_}
 use Rattle.operands.specs.Reading.{seen, toldLinked}
 use Rattle.operands.specs.Through.{through}
 use Rattle.operands.proofs.Answers.{at-is, stopped-is}
-use Rattle.operands.proofs.Follows.{Followed, followed-first, followed-all, name-left, followed-at, followed-refused, link-reached}
-use Rattle.operands.proofs.Through.{delivery-low, delivery-lies, through-readable, through-reached, through-contents, through-lying, through-link}
+use Rattle.operands.proofs.Follows.{Followed, followed-first, followed-all, name-left, followed-at, followed-refused}
+use Rattle.operands.proofs.Follows.{link-reached}
+use Rattle.operands.proofs.Through.{delivery-low, delivery-lies, through-readable, through-reached, through-contents}
+use Rattle.operands.proofs.Through.{through-lying, through-link}
 use Rattle.operands.proofs.Unpacking.{unpacked-at}
 use borrow.Author.Needs.{needs}
 use Rattle.operands.proofs.references.locate_through.Statement.{statement}

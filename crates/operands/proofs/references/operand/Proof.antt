@@ -14,7 +14,10 @@ returns : tie.Need-returns
 returns c = literal _ _ _ (c .if1 .taken)
 
 bug-before-requires : tie.Need-bug-before-requires
-bug-before-requires c κs = (c .before .before .before .before .before .before .pre .1 .reference (c .before .before .if1 .left), no-field _ (c .before .before .before .before .before .before .pre .1 .reference (c .before .before .if1 .left)) (c .if2 .taken))
+bug-before-requires c κs =
+    let at-if = c .before .before in
+    let start = at-if .before .before .before .before in
+    (start .pre .1 .reference (at-if .if1 .left), no-field _ (start .pre .1 .reference (at-if .if1 .left)) (c .if2 .taken))
 
 mul-t15 : tie.Need-mul-t15
 mul-t15 c = search needs
@@ -24,25 +27,44 @@ element-copy-out-t18 c = c .bug-before .ensures .1
 
 returns-2 : tie.Need-returns-2
 unfolding contentsOf widthOf
-returns-2 c = found _ _ _ (c .before .before .before .before .if1 .left) (at-bug _ _ _ (c .before .before .before .before .before .before .before .before .pre .1 .reference (c .before .before .before .before .if1 .left)) (c .before .before .if2 .taken) (c .before .bug-before .ensures)) refl refl
+returns-2 c =
+    let at-if = c .before .before .before .before in
+    let start = at-if .before .before .before .before in
+    found _ _ _ (at-if .if1 .left) (at-bug _ _ _ (start .pre .1 .reference (at-if .if1 .left)) (c .before .before .if2 .taken)
+    (c .before .bug-before .ensures)) refl refl
 
 follow-requires : tie.Need-follow-requires
-follow-requires c κs = (c .before .before .before .before .before .before .pre .0, c .before .before .before .before .before .before .pre .1 .reference (c .before .before .if1 .left), c .if2 .left)
+follow-requires c κs =
+    let start = c .before .before .before .before .before .before in
+    (start .pre .0, start .pre .1 .reference (c .before .before .if1 .left), c .if2 .left)
 
 enum-known-answer : tie.Need-enum-known-answer
 enum-known-answer c = search needs
 
 width-of-requires : tie.Need-width-of-requires
-width-of-requires c κs = reached-narrow _ _ _ _ (c .before .before .before .before .before .before .before .before .before .before .pre .0 .width) (leads-reached _ _ (c .before .before .before .before .before .before .before .before .before .before .pre .0) _ (c .before .before .before .before .before .before .before .before .before .before .pre .1 .reference (c .before .before .before .before .before .before .if1 .left)) (at-is _ _ (c .before .before .before .follow .ensures) (c .before .answer .given .1)))
+width-of-requires c κs =
+    let at-follow = c .before .before .before in
+    let at-if = at-follow .before .before .before in
+    let start = at-if .before .before .before .before in
+    reached-narrow _ _ _ _ (start .pre .0 .width) (leads-reached _ _ (start .pre .0) _ (start .pre .1 .reference (at-if .if1 .left))
+    (at-is _ _ (at-follow .follow .ensures) (c .before .answer .given .1)))
 
 enum-known-answer-2 : tie.Need-enum-known-answer-2
 enum-known-answer-2 c = search needs
 
 returns-3 : tie.Need-returns-3
-returns-3 c = found _ _ _ (c .before .before .before .before .before .before .before .if1 .left) (at-is _ _ (c .before .before .before .before .follow .ensures) (c .before .before .answer .given .1)) (holds-is _ _ (c .before .before .before .before .follow .ensures) (c .before .before .answer .given .1)) (c .width-of .ensures)
+returns-3 c =
+    let at-answer = c .before .before in
+    let at-follow = at-answer .before .before in
+    let at-if = at-follow .before .before .before in
+    found _ _ _ (at-if .if1 .left) (at-is _ _ (at-follow .follow .ensures) (at-answer .answer .given .1))
+    (holds-is _ _ (at-follow .follow .ensures) (at-answer .answer .given .1)) (c .width-of .ensures)
 
 returns-4 : tie.Need-returns-4
-returns-4 c = not-found _ _ _ (c .before .before .before .before .before .before .if1 .left) (stopped-is _ _ (c .before .before .before .follow .ensures) (c .before .answer2 .given .1))
+returns-4 c =
+    let at-follow = c .before .before .before in
+    let at-if = at-follow .before .before .before in
+    not-found _ _ _ (at-if .if1 .left) (stopped-is _ _ (at-follow .follow .ensures) (c .before .answer2 .given .1))
 
 pub operand-spec : {M : Type 1} → statement M
 operand-spec =

@@ -13,7 +13,9 @@ low-bits-requires : tie.Need-low-bits-requires
 low-bits-requires c κs = search needs
 
 mul-bugs : tie.Need-mul-bugs
-mul-bugs c = let letter = bug-letter _ _ _ (c .before .before .at .given .1) (c .before .before .before .before .before .pre .1) in search needs
+mul-bugs c =
+    let start = c .before .before .before .before .before in
+    let letter = bug-letter _ _ _ (c .before .before .at .given .1) (start .pre .1) in search needs
 
 element-write-bugs : tie.Need-element-write-bugs
 element-write-bugs c = bug-letter _ _ _ (c .before .before .at .given .1) (c .before .before .before .before .before .pre .1)
@@ -28,16 +30,26 @@ mul-store-field : tie.Need-mul-store-field
 mul-store-field c = let (_, _, high) = field-reached _ _ _ (c .before .at2 .given .1) (c .before .before .before .before .pre .1) in search needs
 
 slice-read-store-field : tie.Need-slice-read-store-field
-slice-read-store-field c = let (_, low, high) = field-reached _ _ _ (c .before .before .at2 .given .1) (c .before .before .before .before .before .pre .1) in omega arith
+slice-read-store-field c =
+    let start = c .before .before .before .before .before in
+    let (_, low, high) = field-reached _ _ _ (c .before .before .at2 .given .1) (start .pre .1) in omega arith
 
 store-field-requires : tie.Need-store-field-requires
-store-field-requires c κs = (omega (arith, c .before .before .before .before .before .pre .0), field-reached _ _ _ (c .before .before .at2 .given .1) (c .before .before .before .before .before .pre .1) .0)
+store-field-requires c κs =
+    let start = c .before .before .before .before .before in
+    (omega (arith, start .pre .0), field-reached _ _ _ (c .before .before .at2 .given .1) (start .pre .1) .0)
 
 mul-storage : tie.Need-mul-storage
-mul-storage c = let (_, _, high) = field-reached _ _ _ (c .before .before .before .at2 .given .1) (c .before .before .before .before .before .before .pre .1) in search needs
+mul-storage c =
+    let at-at = c .before .before .before in
+    let start = at-at .before .before .before in
+    let (_, _, high) = field-reached _ _ _ (at-at .at2 .given .1) (start .pre .1) in search needs
 
 slice-write-storage : tie.Need-slice-write-storage
-slice-write-storage c = let (_, low, high) = field-reached _ _ _ (c .before .before .before .at2 .given .1) (c .before .before .before .before .before .before .pre .1) in omega arith
+slice-write-storage c =
+    let at-at = c .before .before .before in
+    let start = at-at .before .before .before in
+    let (_, low, high) = field-reached _ _ _ (at-at .at2 .given .1) (start .pre .1) in omega arith
 
 returns : tie.Need-returns
 returns c = stored-bug _ _ _ _ _ (c .before .before .at .given .1) (c .low-bits .ensures)

@@ -12,7 +12,9 @@ use Rattle.operations.proofs.actions.plan_contents.Statement.{statement
 use Rattle.operations.proofs.actions.plan_contents.Tie as tie
 
 locate-requires : tie.Need-locate-requires
-locate-requires c κs = (c .before .before .before .pre .0, c .before .before .before .pre .2)
+locate-requires c κs =
+    let start = c .before .before .before in
+    (start .pre .0, start .pre .2)
 
 enum-known-found : tie.Need-enum-known-found
 enum-known-found c = search needs
@@ -25,13 +27,23 @@ unfolding contentsPlan
 returns c = stops _ (bind-no _ _ (stopped-is _ _ (c .before .before .before .locate .ensures) (c .before .found2 .given .1)))
 
 returns-2 : tie.Need-returns-2
-returns-2 c = stops _ (save-full _ _ _ _ _ (at-is _ _ (c .before .before .before .before .before .before .locate .ensures) (c .before .before .before .before .found .given .1)) (c .before .if1 .taken) (c .if2 .taken))
+returns-2 c =
+    let at-found = c .before .before .before .before in
+    let at-locate = at-found .before .before in
+    stops _ (save-full _ _ _ _ _ (at-is _ _ (at-locate .locate .ensures) (at-found .found .given .1)) (c .before .if1 .taken) (c .if2 .taken))
 
 returns-3 : tie.Need-returns-3
-returns-3 c = does _ (save-done _ _ _ _ _ (at-is _ _ (c .before .before .before .before .before .before .locate .ensures) (c .before .before .before .before .found .given .1)) (c .before .if1 .taken) (c .if2 .left) (holds-is _ _ (c .before .before .before .before .before .before .locate .ensures) (c .before .before .before .before .found .given .1)))
+returns-3 c =
+    let at-found = c .before .before .before .before in
+    let at-locate = at-found .before .before in
+    does _ (save-done _ _ _ _ _ (at-is _ _ (at-locate .locate .ensures) (at-found .found .given .1)) (c .before .if1 .taken) (c .if2 .left)
+    (holds-is _ _ (at-locate .locate .ensures) (at-found .found .given .1)))
 
 returns-4 : tie.Need-returns-4
-returns-4 c = stops _ (restore-empty _ _ _ _ _ (at-is _ _ (c .before .before .before .before .before .before .locate .ensures) (c .before .before .before .before .found .given .1)) (c .before .if1 .left) (c .if3 .taken))
+returns-4 c =
+    let at-found = c .before .before .before .before in
+    let at-locate = at-found .before .before in
+    stops _ (restore-empty _ _ _ _ _ (at-is _ _ (at-locate .locate .ensures) (at-found .found .given .1)) (c .before .if1 .left) (c .if3 .taken))
 
 sub-i : tie.Need-sub-i
 sub-i c = search needs
@@ -43,7 +55,10 @@ element-copy-out-t27 : tie.Need-element-copy-out-t27
 element-copy-out-t27 c = search needs
 
 returns-5 : tie.Need-returns-5
-returns-5 c = does _ (restore-done _ _ _ _ _ (at-is _ _ (c .before .before .before .before .before .before .before .locate .ensures) (c .before .before .before .before .before .found .given .1)) (c .before .before .if1 .left) (c .before .if3 .left))
+returns-5 c =
+    let at-found = c .before .before .before .before .before in
+    let at-locate = at-found .before .before in
+    does _ (restore-done _ _ _ _ _ (at-is _ _ (at-locate .locate .ensures) (at-found .found .given .1)) (c .before .before .if1 .left) (c .before .if3 .left))
 
 pub plan-contents-spec : {M : Type 1} → statement M
 plan-contents-spec =

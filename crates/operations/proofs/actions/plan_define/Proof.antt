@@ -9,7 +9,9 @@ use Rattle.operations.proofs.actions.plan_define.Statement.{statement}
 use Rattle.operations.proofs.actions.plan_define.Tie as tie
 
 operand-requires : tie.Need-operand-requires
-operand-requires c κs = (c .before .before .before .before .before .pre .0, c .before .before .before .before .before .pre .1)
+operand-requires c κs =
+    let start = c .before .before .before .before .before in
+    (start .pre .0, start .pre .1)
 
 enum-known-x : tie.Need-enum-known-x
 enum-known-x c = search needs
@@ -22,7 +24,9 @@ unfolding definePlan
 returns c = stops _ (bind-no _ _ (no-value-is _ (c .before .before .before .operand .ensures) (c .before .x2 .given .1)))
 
 operand-requires-2 : tie.Need-operand-requires-2
-operand-requires-2 c κs = (c .before .before .before .before .before .before .before .before .before .pre .0, c .before .before .before .before .before .before .before .before .before .pre .2)
+operand-requires-2 c κs =
+    let start = c .before .before .before .before .before .before .before .before .before in
+    (start .pre .0, start .pre .2)
 
 enum-known-y : tie.Need-enum-known-y
 enum-known-y c = search needs
@@ -32,10 +36,17 @@ enum-known-y-2 c = search needs
 
 returns-2 : tie.Need-returns-2
 unfolding definePlan
-returns-2 c = stops _ (bind-yes _ _ (value-is _ (c .before .before .before .before .before .before .before .operand .ensures) (c .before .before .before .before .before .x .given .1)) ∙ bind-no _ _ (no-value-is _ (c .before .before .before .operand2 .ensures) (c .before .y2 .given .1)))
+returns-2 c =
+    let at-operand = c .before .before .before in
+    let at-x = at-operand .before .before in
+    let at-operand-2 = at-x .before .before in
+    stops _ (bind-yes _ _ (value-is _ (at-operand-2 .operand .ensures) (at-x .x .given .1))
+    ∙ bind-no _ _ (no-value-is _ (at-operand .operand2 .ensures) (c .before .y2 .given .1)))
 
 operand-requires-3 : tie.Need-operand-requires-3
-operand-requires-3 c κs = (c .before .before .before .before .before .before .before .before .before .before .before .before .before .pre .0, c .before .before .before .before .before .before .before .before .before .before .before .before .before .pre .3)
+operand-requires-3 c κs =
+    let start = c .before .before .before .before .before .before .before .before .before .before .before .before .before in
+    (start .pre .0, start .pre .3)
 
 enum-known-z : tie.Need-enum-known-z
 enum-known-z c = search needs
@@ -56,7 +67,9 @@ returns-3 c =
     let at-operand2 = at-y .before .before in
     let at-x = at-operand2 .before .before in
     let at-operand = at-x .before .before in
-    follows _ (bind-yes _ _ (value-is _ (at-operand .operand .ensures) (at-x .x .given .1)) ∙ bind-yes _ _ (value-is _ (at-operand2 .operand2 .ensures) (at-y .y .given .1)) ∙ bind-yes _ _ (value-is _ (at-operand3 .operand3 .ensures) (c .before .before .z .given .1))) (c .define .ensures)
+    follows _ (bind-yes _ _ (value-is _ (at-operand .operand .ensures) (at-x .x .given .1))
+    ∙ bind-yes _ _ (value-is _ (at-operand2 .operand2 .ensures) (at-y .y .given .1))
+    ∙ bind-yes _ _ (value-is _ (at-operand3 .operand3 .ensures) (c .before .before .z .given .1))) (c .define .ensures)
 
 returns-4 : tie.Need-returns-4
 unfolding definePlan
@@ -66,7 +79,9 @@ returns-4 c =
     let at-operand2 = at-y .before .before in
     let at-x = at-operand2 .before .before in
     let at-operand = at-x .before .before in
-    stops _ (bind-yes _ _ (value-is _ (at-operand .operand .ensures) (at-x .x .given .1)) ∙ bind-yes _ _ (value-is _ (at-operand2 .operand2 .ensures) (at-y .y .given .1)) ∙ bind-no _ _ (no-value-is _ (at-operand3 .operand3 .ensures) (c .before .z2 .given .1)))
+    stops _ (bind-yes _ _ (value-is _ (at-operand .operand .ensures) (at-x .x .given .1))
+    ∙ bind-yes _ _ (value-is _ (at-operand2 .operand2 .ensures) (at-y .y .given .1))
+    ∙ bind-no _ _ (no-value-is _ (at-operand3 .operand3 .ensures) (c .before .z2 .given .1)))
 
 pub plan-define-spec : {M : Type 1} → statement M
 plan-define-spec =

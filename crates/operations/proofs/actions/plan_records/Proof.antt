@@ -1,7 +1,8 @@
 -- `operations::actions::plan_records` meets its contract: 19 or 20, by the code. Assumes nothing.
 use native.Mathlib.Omega.{arith}
 use Rattle.operations.proofs.Answers.{does, stops}
-use Rattle.operations.proofs.Stacks.{save-definition-full, save-definition, restore-definition-empty, restore-definition, call-full, call}
+use Rattle.operations.proofs.Stacks.{save-definition-full, save-definition, restore-definition-empty, restore-definition}
+use Rattle.operations.proofs.Stacks.{call-full, call}
 use borrow.Author.Needs.{needs}
 use Rattle.operations.proofs.actions.plan_records.Statement.{statement}
 use Rattle.operations.proofs.actions.plan_records.Tie as tie

@@ -11,7 +11,9 @@ use Rattle.operations.proofs.actions.plan_swap.Statement.{statement}
 use Rattle.operations.proofs.actions.plan_swap.Tie as tie
 
 locate-requires : tie.Need-locate-requires
-locate-requires c κs = (c .before .before .before .before .pre .0, c .before .before .before .before .pre .1)
+locate-requires c κs =
+    let start = c .before .before .before .before in
+    (start .pre .0, start .pre .1)
 
 enum-known-found : tie.Need-enum-known-found
 enum-known-found c = search needs
@@ -24,7 +26,9 @@ unfolding swapPlan
 returns c = stops _ (bind-no _ _ (stopped-is _ _ (c .before .before .before .locate .ensures) (c .before .found2 .given .1)))
 
 locate-requires-2 : tie.Need-locate-requires-2
-locate-requires-2 c κs = (c .before .before .before .before .before .before .before .before .pre .0, c .before .before .before .before .before .before .before .before .pre .2)
+locate-requires-2 c κs =
+    let start = c .before .before .before .before .before .before .before .before in
+    (start .pre .0, start .pre .2)
 
 enum-known-other : tie.Need-enum-known-other
 enum-known-other c = search needs
@@ -34,10 +38,21 @@ enum-known-other-2 c = search needs
 
 returns-2 : tie.Need-returns-2
 unfolding swapPlan
-returns-2 c = stops _ (bind-yes _ _ (at-is _ _ (c .before .before .before .before .before .before .before .locate .ensures) (c .before .before .before .before .before .found .given .1)) ∙ bind-no _ _ (stopped-is _ _ (c .before .before .before .locate2 .ensures) (c .before .other2 .given .1)))
+returns-2 c =
+    let at-locate = c .before .before .before in
+    let at-found = at-locate .before .before in
+    let at-locate-2 = at-found .before .before in
+    stops _ (bind-yes _ _ (at-is _ _ (at-locate-2 .locate .ensures) (at-found .found .given .1))
+    ∙ bind-no _ _ (stopped-is _ _ (at-locate .locate2 .ensures) (c .before .other2 .given .1)))
 
 returns-3 : tie.Need-returns-3
-returns-3 c = does _ (swaps _ _ _ (at-is _ _ (c .before .before .before .before .before .before .before .locate .ensures) (c .before .before .before .before .before .found .given .1)) (at-is _ _ (c .before .before .before .locate2 .ensures) (c .before .other .given .1)) (holds-is _ _ (c .before .before .before .locate2 .ensures) (c .before .other .given .1)) (holds-is _ _ (c .before .before .before .before .before .before .before .locate .ensures) (c .before .before .before .before .before .found .given .1)))
+returns-3 c =
+    let at-locate = c .before .before .before in
+    let at-found = at-locate .before .before in
+    let at-locate-2 = at-found .before .before in
+    does _ (swaps _ _ _ (at-is _ _ (at-locate-2 .locate .ensures) (at-found .found .given .1))
+    (at-is _ _ (at-locate .locate2 .ensures) (c .before .other .given .1))
+    (holds-is _ _ (at-locate .locate2 .ensures) (c .before .other .given .1)) (holds-is _ _ (at-locate-2 .locate .ensures) (at-found .found .given .1)))
 
 pub plan-swap-spec : {M : Type 1} → statement M
 plan-swap-spec =

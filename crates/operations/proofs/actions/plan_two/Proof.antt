@@ -11,7 +11,9 @@ use Rattle.operations.proofs.actions.plan_two.Statement.{statement}
 use Rattle.operations.proofs.actions.plan_two.Tie as tie
 
 locate-requires : tie.Need-locate-requires
-locate-requires c κs = (c .before .before .before .before .before .before .pre .0, c .before .before .before .before .before .before .pre .3)
+locate-requires c κs =
+    let start = c .before .before .before .before .before .before in
+    (start .pre .0, start .pre .3)
 
 enum-known-found : tie.Need-enum-known-found
 enum-known-found c = search needs
@@ -24,24 +26,51 @@ unfolding twoPlan
 returns c = stops _ (bind-no _ _ (stopped-is _ _ (c .before .before .before .locate .ensures) (c .before .found2 .given .1)))
 
 operand-requires : tie.Need-operand-requires
-operand-requires c κs = (c .before .before .before .before .before .before .before .before .before .before .pre .0, c .before .before .before .before .before .before .before .before .before .before .pre .4)
+operand-requires c κs =
+    let start = c .before .before .before .before .before .before .before .before .before .before in
+    (start .pre .0, start .pre .4)
 
 enum-known-got : tie.Need-enum-known-got
 enum-known-got c = search needs
 
 act-requires : tie.Need-act-requires
-act-requires c κs = let small = operand-small _ _ (c .before .before .before .before .before .before .before .before .before .before .before .before .before .before .pre .0) _ (c .before .before .before .before .before .before .before .before .before .before .before .before .before .before .pre .4) _ (value-is _ (c .before .before .before .operand .ensures) (c .before .got .given .1)) in (c .before .before .before .before .before .before .before .before .before .before .before .before .before .before .pre .0, c .before .before .before .before .before .before .before .before .before .before .before .before .before .before .pre .1, locate-reached _ _ (c .before .before .before .before .before .before .before .before .before .before .before .before .before .before .pre .0) _ (c .before .before .before .before .before .before .before .before .before .before .before .before .before .before .pre .3) _ (at-is _ _ (c .before .before .before .before .before .before .before .locate .ensures) (c .before .before .before .before .before .found .given .1)), small .0, small .1, c .before .before .before .before .before .before .before .before .before .before .before .before .before .before .pre .2, c .before .before .before .before .before .before .before .before .before .before .before .before .before .before .pre .5, holds-is _ _ (c .before .before .before .before .before .before .before .locate .ensures) (c .before .before .before .before .before .found .given .1))
+act-requires c κs =
+    let at-operand = c .before .before .before in
+    let at-found = at-operand .before .before in
+    let at-locate = at-found .before .before in
+    let start = at-locate .before .before .before .before .before .before .before in
+    let small = operand-small _ _ (start .pre .0) _ (start .pre .4) _ (value-is _ (at-operand .operand .ensures) (c .before .got .given .1)) in (
+      start .pre .0,
+      start .pre .1,
+      locate-reached _ _ (start .pre .0) _ (start .pre .3) _
+          (at-is _ _ (at-locate .locate .ensures) (at-found .found .given .1)),
+      small .0,
+      small .1,
+      start .pre .2,
+      start .pre .5,
+      holds-is _ _ (at-locate .locate .ensures) (at-found .found .given .1),
+    )
 
 enum-known-got-2 : tie.Need-enum-known-got-2
 enum-known-got-2 c = search needs
 
 returns-2 : tie.Need-returns-2
 unfolding twoPlan
-returns-2 c = follows _ (bind-yes _ _ (at-is _ _ (c .before .before .before .before .before .before .before .before .locate .ensures) (c .before .before .before .before .before .before .found .given .1)) ∙ bind-yes _ _ (value-is _ (c .before .before .before .before .operand .ensures) (c .before .before .got .given .1))) (c .act .ensures)
+returns-2 c =
+    let at-operand = c .before .before .before .before in
+    let at-found = at-operand .before .before in
+    let at-locate = at-found .before .before in
+    follows _ (bind-yes _ _ (at-is _ _ (at-locate .locate .ensures) (at-found .found .given .1))
+    ∙ bind-yes _ _ (value-is _ (at-operand .operand .ensures) (c .before .before .got .given .1))) (c .act .ensures)
 
 returns-3 : tie.Need-returns-3
 unfolding twoPlan
-returns-3 c = stops _ (bind-yes _ _ (at-is _ _ (c .before .before .before .before .before .before .before .locate .ensures) (c .before .before .before .before .before .found .given .1)) ∙ bind-no _ _ (no-value-is _ (c .before .before .before .operand .ensures) (c .before .got2 .given .1)))
+returns-3 c =
+    let at-operand = c .before .before .before in
+    let at-found = at-operand .before .before in
+    let at-locate = at-found .before .before in
+    stops _ (bind-yes _ _ (at-is _ _ (at-locate .locate .ensures) (at-found .found .given .1))
+    ∙ bind-no _ _ (no-value-is _ (at-operand .operand .ensures) (c .before .got2 .given .1)))
 
 pub plan-two-spec : {M : Type 1} → statement M
 plan-two-spec =

@@ -13,7 +13,9 @@ line-ends-requires : tie.Need-line-ends-requires
 line-ends-requires c κs = let few = c .before .if1 .left in omega (arith, c .before .before .before .pre .0)
 
 returns-2 : tie.Need-returns-2
-returns-2 c = does _ (take-none _ _ _ _ _ (c .before .before .if1 .left) (c .before .if2 .taken) (c .before .before .before .before .pre .1) (c .line-ends .ensures))
+returns-2 c =
+    let start = c .before .before .before .before in
+    does _ (take-none _ _ _ _ _ (c .before .before .if1 .left) (c .before .if2 .taken) (start .pre .1) (c .line-ends .ensures))
 
 sub-if3 : tie.Need-sub-if3
 sub-if3 c = search needs
@@ -26,10 +28,11 @@ returns-3 c =
 
 pack-input-requires : tie.Need-pack-input-requires
 pack-input-requires c κs =
-    let room = c .before .before .before .before .pre .1 in
+    let start = c .before .before .before .before in
+    let room = start .pre .1 in
     let there = c .if3 .left in
     let few = c .before .before .if1 .left in
-    (omega (arith, c .before .before .before .before .pre .0), omega arith)
+    (omega (arith, start .pre .0), omega arith)
 
 enum-known-packed : tie.Need-enum-known-packed
 enum-known-packed c = search needs
@@ -39,15 +42,20 @@ enum-told c = search needs
 
 returns-4 : tie.Need-returns-4
 returns-4 c =
-    let room = c .before .before .before .before .before .before .before .before .pre .1 in
-    let there = c .before .before .before .before .if3 .left in
-    does _ (take-value _ _ _ _ _ (c .before .before .before .before .before .before .if1 .left) (c .before .before .before .before .before .if2 .left) (omega arith) (c .before .before .before .pack-input .ensures) (c .before .packed .given .1))
+    let at-pack-input = c .before .before .before in
+    let at-if = at-pack-input .before .before in
+    let at-if-2 = at-if .before in
+    let room = at-if-2 .before .before .pre .1 in
+    let there = at-pack-input .before .if3 .left in
+    does _ (take-value _ _ _ _ _ (at-if-2 .if1 .left) (at-if .if2 .left) (omega arith) (at-pack-input .pack-input .ensures) (c .before .packed .given .1))
 
 returns-5 : tie.Need-returns-5
 returns-5 c =
-    let room = c .before .before .before .before .before .before .before .pre .1 in
+    let at-if = c .before .before .before .before in
+    let at-if-2 = at-if .before in
+    let room = at-if-2 .before .before .pre .1 in
     let there = c .before .before .before .if3 .left in
-    stops _ (take-byte _ _ _ _ _ (c .before .before .before .before .before .if1 .left) (c .before .before .before .before .if2 .left) (omega arith) (c .before .before .pack-input .ensures) (c .enum-told .given .1))
+    stops _ (take-byte _ _ _ _ _ (at-if-2 .if1 .left) (at-if .if2 .left) (omega arith) (c .before .before .pack-input .ensures) (c .enum-told .given .1))
 
 pub take-spec : {M : Type 1} → statement M
 take-spec =

@@ -10,10 +10,17 @@ returns : tie.Need-returns
 returns c = does _ (delivers-one _ _ _ _ _ _ (c .if1 .taken))
 
 bugs-after-requires : tie.Need-bugs-after-requires
-bugs-after-requires c κs = (c .before .before .before .before .pre .0 .width, reached-bugs _ _ _ _ (c .before .before .before .before .pre .1 .reached))
+bugs-after-requires c κs =
+    let start = c .before .before .before .before in
+    (start .pre .0 .width, reached-bugs _ _ _ _ (start .pre .1 .reached))
 
 locate-through-requires : tie.Need-locate-through-requires
-locate-through-requires c κs = (stored-readable _ _ _ _ (c .before .before .before .before .before .before .pre .0) (c .before .bugs-after .ensures), stored-deliverable _ _ (c .before .bugs-after .result) _ _ _ (c .before .before .before .before .before .before .pre .1), c .before .before .before .before .before .before .pre .2 (c .before .before .if1 .left))
+locate-through-requires c κs =
+    let start = c .before .before .before .before .before .before in (
+      stored-readable _ _ _ _ (start .pre .0) (c .before .bugs-after .ensures),
+      stored-deliverable _ _ (c .before .bugs-after .result) _ _ _ (start .pre .1),
+      start .pre .2 (c .before .before .if1 .left),
+    )
 
 enum-known-found : tie.Need-enum-known-found
 enum-known-found c = search needs
@@ -22,10 +29,21 @@ enum-known-found-2 : tie.Need-enum-known-found-2
 enum-known-found-2 c = search needs
 
 returns-2 : tie.Need-returns-2
-returns-2 c = does _ (delivers-two _ _ _ _ _ _ (c .before .before .before .before .before .before .if1 .left) (c .before .before .before .before .before .bugs-after .ensures) (c .before .before .before .locate-through .ensures) (c .before .found .given .1) (c .before .before .before .before .before .before .before .before .before .before .pre .3))
+returns-2 c =
+    let at-locate-through = c .before .before .before in
+    let at-bugs-after = at-locate-through .before .before in
+    let at-if = at-bugs-after .before in
+    let start = at-if .before .before .before .before in
+    does _ (delivers-two _ _ _ _ _ _ (at-if .if1 .left) (at-bugs-after .bugs-after .ensures) (at-locate-through .locate-through .ensures)
+    (c .before .found .given .1) (start .pre .3))
 
 returns-3 : tie.Need-returns-3
-returns-3 c = stops _ (delivers-stopped _ _ _ _ _ _ (c .before .before .before .before .before .before .if1 .left) (c .before .before .before .before .before .bugs-after .ensures) (c .before .before .before .locate-through .ensures) (c .before .found2 .given .1))
+returns-3 c =
+    let at-locate-through = c .before .before .before in
+    let at-bugs-after = at-locate-through .before .before in
+    let at-if = at-bugs-after .before in
+    stops _ (delivers-stopped _ _ _ _ _ _ (at-if .if1 .left) (at-bugs-after .bugs-after .ensures) (at-locate-through .locate-through .ensures)
+    (c .before .found2 .given .1))
 
 pub deliver-spec : {M : Type 1} → statement M
 deliver-spec =

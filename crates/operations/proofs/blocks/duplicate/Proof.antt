@@ -20,7 +20,9 @@ level-of-requires : tie.Need-level-of-requires
 level-of-requires c κs = omega (arith, c .top-of .ensures, top-le (c .before .before .before .before .args .setup .d))
 
 fetch-requires : tie.Need-fetch-requires
-fetch-requires c κs = (c .before .before .before .before .before .pre .0, c .before .before .before .before .before .pre .1, level-fits _ _ (c .before .top-of .ensures) (c .level-of .ensures))
+fetch-requires c κs =
+    let start = c .before .before .before .before .before in
+    (start .pre .0, start .pre .1, level-fits _ _ (c .before .top-of .ensures) (c .level-of .ensures))
 
 enum-known-run : tie.Need-enum-known-run
 enum-known-run c = search needs
@@ -35,7 +37,8 @@ returns-2 c =
     let at-top-of = at-level-of .before in
     let at-if1 = at-top-of .before in
     let at-live-size = at-if1 .before in
-    does _ (copy-run _ _ _ _ (at-live-size .live-size .ensures) (at-if1 .if1 .left) (at-top-of .top-of .ensures) (at-level-of .level-of .ensures) (at-fetch .fetch .ensures) (c .before .run .given .1))
+    does _ (copy-run _ _ _ _ (at-live-size .live-size .ensures) (at-if1 .if1 .left) (at-top-of .top-of .ensures) (at-level-of .level-of .ensures)
+    (at-fetch .fetch .ensures) (c .before .run .given .1))
 
 returns-3 : tie.Need-returns-3
 returns-3 c =
@@ -44,7 +47,8 @@ returns-3 c =
     let at-top-of = at-level-of .before in
     let at-if1 = at-top-of .before in
     let at-live-size = at-if1 .before in
-    stops _ (copy-no-run _ _ _ _ (at-live-size .live-size .ensures) (at-if1 .if1 .left) (at-top-of .top-of .ensures) (at-level-of .level-of .ensures) (at-fetch .fetch .ensures) (c .before .run2 .given .1))
+    stops _ (copy-no-run _ _ _ _ (at-live-size .live-size .ensures) (at-if1 .if1 .left) (at-top-of .top-of .ensures) (at-level-of .level-of .ensures)
+    (at-fetch .fetch .ensures) (c .before .run2 .given .1))
 
 pub duplicate-spec : {M : Type 1} → statement M
 duplicate-spec =

@@ -14,7 +14,9 @@ enum-known-run : tie.Need-enum-known-run
 enum-known-run c = search needs
 
 size-of-requires : tie.Need-size-of-requires
-size-of-requires c κs = omega (arith, c .before .before .before .before .before .pre .2, top-le (c .before .before .before .before .before .args .setup .d))
+size-of-requires c κs =
+    let start = c .before .before .before .before .before in
+    omega (arith, start .pre .2, top-le (start .args .setup .d))
 
 enum-told : tie.Need-enum-told
 enum-told c = search needs

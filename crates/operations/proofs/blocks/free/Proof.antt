@@ -15,10 +15,14 @@ lies-in-requires : tie.Need-lies-in-requires
 lies-in-requires c κs = search needs
 
 returns-2 : tie.Need-returns-2
-returns-2 c = stops _ (free-inside _ _ _ (c .before .before .before .live-size .ensures) (c .before .before .if1 .left) (c .before .lies-in .ensures) (c .if2 .taken))
+returns-2 c =
+    let at-live-size = c .before .before .before in
+    stops _ (free-inside _ _ _ (at-live-size .live-size .ensures) (c .before .before .if1 .left) (c .before .lies-in .ensures) (c .if2 .taken))
 
 returns-3 : tie.Need-returns-3
-returns-3 c = does _ (free-done _ _ _ (c .before .before .before .live-size .ensures) (c .before .before .if1 .left) (c .before .lies-in .ensures) (c .if2 .left))
+returns-3 c =
+    let at-live-size = c .before .before .before in
+    does _ (free-done _ _ _ (at-live-size .live-size .ensures) (c .before .before .if1 .left) (c .before .lies-in .ensures) (c .if2 .left))
 
 pub free-spec : {M : Type 1} → statement M
 free-spec =

@@ -23,22 +23,48 @@ level-of-requires : tie.Need-level-of-requires
 level-of-requires c κs = omega (arith, c .top-of .ensures, top-le (c .before .before .before .before .before .before .args .setup .d))
 
 fetch-requires : tie.Need-fetch-requires
-fetch-requires c κs = (c .before .before .before .before .before .before .before .pre .0 .whole, c .before .before .before .before .before .before .before .pre .0 .kept, level-fits _ _ (c .before .top-of .ensures) (c .level-of .ensures))
+fetch-requires c κs =
+    let start = c .before .before .before .before .before .before .before in
+    (start .pre .0 .whole, start .pre .0 .kept, level-fits _ _ (c .before .top-of .ensures) (c .level-of .ensures))
 
 enum-known-run : tie.Need-enum-known-run
 enum-known-run c = search needs
 
 deliver-requires : tie.Need-deliver-requires
-deliver-requires c κs = (c .before .before .before .before .before .before .before .before .before .before .before .pre .0, run-deliverable _ _ _ (c .before .before .before .before .before .before .before .before .before .before .before .pre .0) (c .before .before .before .before .before .before .before .before .before .before .before .pre .1) _ (level-fits _ _ (c .before .before .before .before .before .top-of .ensures) (c .before .before .before .before .level-of .ensures)) (c .before .before .before .fetch .ensures) (c .before .run .given .1), c .before .before .before .before .before .before .before .before .before .before .before .pre .2, c .before .before .before .before .before .before .before .before .before .before .before .pre .3)
+deliver-requires c κs =
+    let at-fetch = c .before .before .before in
+    let at-level-of = at-fetch .before in
+    let at-top-of = at-level-of .before in
+    let start = at-top-of .before .before .before .before .before .before in (
+      start .pre .0,
+      run-deliverable _ _ _ (start .pre .0) (start .pre .1) _
+          (level-fits _ _ (at-top-of .top-of .ensures) (at-level-of .level-of .ensures)) (at-fetch .fetch .ensures) (c .before .run .given .1),
+      start .pre .2,
+      start .pre .3,
+    )
 
 enum-known-run-2 : tie.Need-enum-known-run-2
 enum-known-run-2 c = search needs
 
 returns-3 : tie.Need-returns-3
-returns-3 c = follows _ (get-run _ _ _ _ _ (c .before .before .before .before .before .before .before .before .before .if1 .left) (c .before .before .before .before .before .before .before .if2 .left) (c .before .before .before .before .before .before .top-of .ensures) (c .before .before .before .before .before .level-of .ensures) (c .before .before .before .before .fetch .ensures) (c .before .before .run .given .1)) (c .deliver .ensures)
+returns-3 c =
+    let at-fetch = c .before .before .before .before in
+    let at-level-of = at-fetch .before in
+    let at-top-of = at-level-of .before in
+    let at-if = at-top-of .before in
+    let at-if-2 = at-if .before .before in
+    follows _ (get-run _ _ _ _ _ (at-if-2 .if1 .left) (at-if .if2 .left) (at-top-of .top-of .ensures) (at-level-of .level-of .ensures)
+    (at-fetch .fetch .ensures) (c .before .before .run .given .1)) (c .deliver .ensures)
 
 returns-4 : tie.Need-returns-4
-returns-4 c = stops _ (get-no-run _ _ _ _ _ (c .before .before .before .before .before .before .before .before .if1 .left) (c .before .before .before .before .before .before .if2 .left) (c .before .before .before .before .before .top-of .ensures) (c .before .before .before .before .level-of .ensures) (c .before .before .before .fetch .ensures) (c .before .run2 .given .1))
+returns-4 c =
+    let at-fetch = c .before .before .before in
+    let at-level-of = at-fetch .before in
+    let at-top-of = at-level-of .before in
+    let at-if = at-top-of .before in
+    let at-if-2 = at-if .before .before in
+    stops _ (get-no-run _ _ _ _ _ (at-if-2 .if1 .left) (at-if .if2 .left) (at-top-of .top-of .ensures) (at-level-of .level-of .ensures)
+    (at-fetch .fetch .ensures) (c .before .run2 .given .1))
 
 pub get-spec : {M : Type 1} → statement M
 get-spec =

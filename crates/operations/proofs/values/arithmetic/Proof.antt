@@ -38,7 +38,10 @@ returns-4 c = made _ _ _ (c .before .match .keys4) (c .multiply .ensures) refl
 
 returns-5 : tie.Need-returns-5
 unfolding valueBy valueOf operationOf operations makes quotient
-returns-5 c = let last : c .before .before .args .code ≡ 11 = omega (arith, c .before .before .pre .1, c .before .before .pre .2, c .before .before .pre .3, c .before .match .rest) in answered _ _ _ last (c .divided .ensures)
+returns-5 c =
+    let start = c .before .before in
+    let last : start .args .code ≡ 11 = omega (arith, start .pre .1, start .pre .2, start .pre .3, c .before .match .rest) in
+    answered _ _ _ last (c .divided .ensures)
 
 pub arithmetic-spec : {M : Type 1} → statement M
 arithmetic-spec =

@@ -48,7 +48,9 @@ returns-5 c = made _ _ _ (c .before .match .keys5) (c .leftmost-zero .ensures) r
 
 returns-6 : tie.Need-returns-6
 unfolding valueBy valueOf operationOf operations makes
-returns-6 c = let last : c .before .before .args .code ≡ 21 = omega (arith, c .before .before .pre .0, c .before .before .pre .1, c .before .match .rest) in made _ _ _ last (c .rightmost-zero .ensures) refl
+returns-6 c =
+    let start = c .before .before in
+    let last : start .args .code ≡ 21 = omega (arith, start .pre .0, start .pre .1, c .before .match .rest) in made _ _ _ last (c .rightmost-zero .ensures) refl
 
 pub bits-spec : {M : Type 1} → statement M
 bits-spec =

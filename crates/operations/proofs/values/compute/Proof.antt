@@ -11,28 +11,35 @@ returns : tie.Need-returns
 returns c = c .arithmetic .ensures
 
 logic-requires : tie.Need-logic-requires
-logic-requires c κs = (c .before .before .pre .0, omega arith, omega arith, c .before .before .pre .2)
+logic-requires c κs =
+    let start = c .before .before in
+    (start .pre .0, omega arith, omega arith, start .pre .2)
 
 returns-2 : tie.Need-returns-2
 returns-2 c = c .logic .ensures
 
 bits-requires : tie.Need-bits-requires
-bits-requires c κs = (omega arith, omega arith, omega (arith, c .before .before .before .pre .0, c .before .before .before .pre .4))
+bits-requires c κs =
+    let start = c .before .before .before in
+    (omega arith, omega arith, omega (arith, start .pre .0, start .pre .4))
 
 returns-3 : tie.Need-returns-3
 returns-3 c = c .bits .ensures
 
 shifts-requires : tie.Need-shifts-requires
-shifts-requires c κs = (omega arith, omega arith, omega (arith, c .before .before .before .before .pre .0, c .before .before .before .before .pre .3))
+shifts-requires c κs =
+    let start = c .before .before .before .before in
+    (omega arith, omega arith, omega (arith, start .pre .0, start .pre .3))
 
 returns-4 : tie.Need-returns-4
 returns-4 c = c .shifts .ensures
 
 conversions-requires : tie.Need-conversions-requires
 conversions-requires c κs =
-    let h = c .before .before .before .before .pre .5 in
+    let start = c .before .before .before .before in
+    let h = start .pre .5 in
     let least = c .if4 .left in
-    (c .before .before .before .before .pre .0, omega (arith, h .noInput, h .noPrint, least), h .high, c .before .before .before .before .pre .2, c .before .before .before .before .pre .4)
+    (start .pre .0, omega (arith, h .noInput, h .noPrint, least), h .high, start .pre .2, start .pre .4)
 
 returns-5 : tie.Need-returns-5
 returns-5 c = c .conversions .ensures

@@ -48,7 +48,10 @@ returns-5 c = made _ _ _ (c .before .match .keys5) (c .from-binary-octal .ensure
 
 returns-6 : tie.Need-returns-6
 unfolding valueBy valueOf operationOf operations makes
-returns-6 c = let last : c .before .before .args .code ≡ 31 = omega (arith, c .before .before .pre .1, c .before .before .pre .2, c .before .match .rest) in made _ _ _ last (c .zeros-to-blanks .ensures) refl
+returns-6 c =
+    let start = c .before .before in
+    let last : start .args .code ≡ 31 = omega (arith, start .pre .1, start .pre .2, c .before .match .rest) in
+    made _ _ _ last (c .zeros-to-blanks .ensures) refl
 
 pub conversions-spec : {M : Type 1} → statement M
 conversions-spec =

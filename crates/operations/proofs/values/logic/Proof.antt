@@ -34,7 +34,9 @@ returns-3 c = made _ _ _ (c .before .match .keys3) (c .exclusive-or .ensures) re
 
 returns-4 : tie.Need-returns-4
 unfolding valueBy valueOf operationOf operations makes
-returns-4 c = let last : c .before .before .args .code ≡ 15 = omega (arith, c .before .before .pre .1, c .before .before .pre .2, c .before .match .rest) in made _ _ _ last (c .complement .ensures) refl
+returns-4 c =
+    let start = c .before .before in
+    let last : start .args .code ≡ 15 = omega (arith, start .pre .1, start .pre .2, c .before .match .rest) in made _ _ _ last (c .complement .ensures) refl
 
 pub logic-spec : {M : Type 1} → statement M
 logic-spec =

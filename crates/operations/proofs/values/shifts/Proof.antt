@@ -20,7 +20,9 @@ returns c = made _ _ _ (c .before .match .keys1) (c .left-shift .ensures) refl
 
 returns-2 : tie.Need-returns-2
 unfolding valueBy valueOf operationOf operations makes
-returns-2 c = let last : c .before .before .args .code ≡ 23 = omega (arith, c .before .before .pre .0, c .before .before .pre .1, c .before .match .rest) in made _ _ _ last (c .right-shift .ensures) refl
+returns-2 c =
+    let start = c .before .before in
+    let last : start .args .code ≡ 23 = omega (arith, start .pre .0, start .pre .1, c .before .match .rest) in made _ _ _ last (c .right-shift .ensures) refl
 
 pub shifts-spec : {M : Type 1} → statement M
 shifts-spec =

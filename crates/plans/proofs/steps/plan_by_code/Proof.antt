@@ -7,32 +7,38 @@ use Rattle.plans.proofs.steps.plan_by_code.Statement.{statement}
 use Rattle.plans.proofs.steps.plan_by_code.Tie as tie
 
 plan-stacks-requires : tie.Need-plan-stacks-requires
-plan-stacks-requires c κs = (c .before .before .before .before .pre .0 .readable, c .before .before .before .before .pre .0 .contents, c .before .before .before .before .pre .1 .stack (c .if1 .taken))
+plan-stacks-requires c κs =
+    let start = c .before .before .before .before in
+    (start .pre .0 .readable, start .pre .0 .contents, start .pre .1 .stack (c .if1 .taken))
 
 returns : tie.Need-returns
 returns c = follows _ (code-stacks _ _ _ (c .before .if1 .taken)) (c .plan-stacks .ensures)
 
 plan-define-requires : tie.Need-plan-define-requires
 plan-define-requires c κs =
-    let h = c .before .before .before .before .before .pre .1 .define (c .match .keys1) in
-    (c .before .before .before .before .before .pre .0 .readable, h .first, h .second, h .third, h .name)
+    let start = c .before .before .before .before .before in
+    let h = start .pre .1 .define (c .match .keys1) in
+    (start .pre .0 .readable, h .first, h .second, h .third, h .name)
 
 plan-swap-requires : tie.Need-plan-swap-requires
 plan-swap-requires c κs =
-    let h = c .before .before .before .before .before .pre .1 .swap (c .match .keys2) in
-    (c .before .before .before .before .before .pre .0 .readable, h .0, h .1)
+    let start = c .before .before .before .before .before in
+    let h = start .pre .1 .swap (c .match .keys2) in
+    (start .pre .0 .readable, h .0, h .1)
 
 plan-print-requires : tie.Need-plan-print-requires
 plan-print-requires c κs =
-    let h = c .before .before .before .before .before .pre .1 .print (c .match .keys3) in
-    (c .before .before .before .before .before .pre .0 .readable, c .before .before .before .before .before .pre .0 .written, h .0, h .1)
+    let start = c .before .before .before .before .before in
+    let h = start .pre .1 .print (c .match .keys3) in
+    (start .pre .0 .readable, start .pre .0 .written, h .0, h .1)
 
 plan-two-requires : tie.Need-plan-two-requires
 plan-two-requires c κs =
+    let start = c .before .before .before .before .before in
     let r = c .match .rest in
-    let is = acts (c .before .before .before .before .before .pre .1 .low) (c .before .if1 .left) (r .0 .0 .1) (r .0 .1) (r .1) in
-    let h = c .before .before .before .before .before .pre .1 .two is in
-    (c .before .before .before .before .before .pre .0 .readable, c .before .before .before .before .before .pre .0 .taken, is, h .a, h .x, h .a2)
+    let is = acts (start .pre .1 .low) (c .before .if1 .left) (r .0 .0 .1) (r .0 .1) (r .1) in
+    let h = start .pre .1 .two is in
+    (start .pre .0 .readable, start .pre .0 .taken, is, h .a, h .x, h .a2)
 
 returns-2 : tie.Need-returns-2
 returns-2 c = follows _ (code-define _ _ _ (c .before .before .if1 .left) (c .before .match .keys1)) (c .plan-define .ensures)

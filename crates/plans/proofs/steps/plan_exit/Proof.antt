@@ -22,7 +22,12 @@ row-at-requires : tie.Need-row-at-requires
 row-at-requires c κs = used 1 _ _ _ (sym (c .before .can-use .ensures) ∙ not-false _ (c .if1 .left)) .room
 
 returns-2 : tie.Need-returns-2
-returns-2 c = halts (exit-empty _ _ _ _ (sym (c .before .before .before .before .before .can-use .ensures) ∙ not-false _ (c .before .before .before .before .if1 .left)) (c .before .before .before .row-at .ensures) (c .before .if2 .taken) (c .if3 .taken))
+returns-2 c =
+    let at-row-at = c .before .before .before in
+    let at-if = at-row-at .before in
+    let at-can-use = at-if .before in
+    halts (exit-empty _ _ _ _ (sym (at-can-use .can-use .ensures) ∙ not-false _ (at-if .if1 .left)) (at-row-at .row-at .ensures)
+    (c .before .if2 .taken) (c .if3 .taken))
 
 next-line-requires : tie.Need-next-line-requires
 next-line-requires c κs = search needs
@@ -32,17 +37,24 @@ returns-3 c =
     let at-row-at = c .before .before .before .before in
     let at-if1 = at-row-at .before in
     let at-can-use = at-if1 .before in
-    goes (exit-returns _ _ _ _ (sym (at-can-use .can-use .ensures) ∙ not-false _ (at-if1 .if1 .left)) (at-row-at .row-at .ensures) (c .before .before .if2 .taken) (c .before .if3 .left) (c .next-line .ensures))
+    goes (exit-returns _ _ _ _ (sym (at-can-use .can-use .ensures) ∙ not-false _ (at-if1 .if1 .left)) (at-row-at .row-at .ensures)
+    (c .before .before .if2 .taken) (c .before .if3 .left) (c .next-line .ensures))
 
 next-line-requires-2 : tie.Need-next-line-requires-2
-next-line-requires-2 c κs = next-few _ _ _ (c .before .before .before .before .before .before .before .pre .0) (c .before .before .before .row-at .ensures) 1 (sym (c .before .before .before .before .before .can-use .ensures) ∙ not-false _ (c .before .before .before .before .if1 .left))
+next-line-requires-2 c κs =
+    let at-row-at = c .before .before .before in
+    let at-if = at-row-at .before in
+    let at-can-use = at-if .before in
+    let start = at-can-use .before .before in
+    next-few _ _ _ (start .pre .0) (at-row-at .row-at .ensures) 1 (sym (at-can-use .can-use .ensures) ∙ not-false _ (at-if .if1 .left))
 
 returns-4 : tie.Need-returns-4
 returns-4 c =
     let at-row-at = c .before .before .before .before in
     let at-if1 = at-row-at .before in
     let at-can-use = at-if1 .before in
-    goes (exit-next _ _ _ _ (sym (at-can-use .can-use .ensures) ∙ not-false _ (at-if1 .if1 .left)) (at-row-at .row-at .ensures) (c .before .before .if2 .left) (c .before .if4 .taken) (c .next-line2 .ensures))
+    goes (exit-next _ _ _ _ (sym (at-can-use .can-use .ensures) ∙ not-false _ (at-if1 .if1 .left)) (at-row-at .row-at .ensures)
+    (c .before .before .if2 .left) (c .before .if4 .taken) (c .next-line2 .ensures))
 
 tests-of-requires : tie.Need-tests-of-requires
 tests-of-requires c κs =
@@ -57,7 +69,8 @@ returns-5 c =
     let at-row-at = c .before .before .before .before in
     let at-if1 = at-row-at .before in
     let at-can-use = at-if1 .before in
-    goes (exit-goes _ _ _ _ (sym (at-can-use .can-use .ensures) ∙ not-false _ (at-if1 .if1 .left)) (at-row-at .row-at .ensures) (c .before .before .if2 .left) (c .before .if4 .left) (c .tests-of .ensures))
+    goes (exit-goes _ _ _ _ (sym (at-can-use .can-use .ensures) ∙ not-false _ (at-if1 .if1 .left)) (at-row-at .row-at .ensures)
+    (c .before .before .if2 .left) (c .before .if4 .left) (c .tests-of .ensures))
 
 pub plan-exit-spec : {M : Type 1} → statement M
 plan-exit-spec =

@@ -12,7 +12,9 @@ returns : tie.Need-returns
 returns c = follows _ (stack-records _ _ _ _ _ (c .before .if1 .taken)) (c .plan-records .ensures)
 
 plan-contents-requires : tie.Need-plan-contents-requires
-plan-contents-requires c κs = (c .before .before .before .before .pre .0, c .before .before .before .before .pre .1, c .before .before .before .before .pre .2 .contents (c .if1 .left))
+plan-contents-requires c κs =
+    let start = c .before .before .before .before in
+    (start .pre .0, start .pre .1, start .pre .2 .contents (c .if1 .left))
 
 returns-2 : tie.Need-returns-2
 returns-2 c = follows _ (stack-contents _ _ _ _ _ (c .before .if1 .left)) (c .plan-contents .ensures)

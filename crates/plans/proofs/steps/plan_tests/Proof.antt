@@ -22,7 +22,9 @@ row-at-requires : tie.Need-row-at-requires
 row-at-requires c κs = used 1 _ _ _ (sym (c .before .can-use .ensures) ∙ not-false _ (c .if1 .left)) .room
 
 satisfied-requires : tie.Need-satisfied-requires
-satisfied-requires c κs = (c .before .before .before .before .before .before .before .pre .0, c .before .before .before .before .before .before .before .pre .2, some-rows _ (c .before .before .before .before .before .before .before .pre .1))
+satisfied-requires c κs =
+    let start = c .before .before .before .before .before .before .before in
+    (start .pre .0, start .pre .2, some-rows _ (start .pre .1))
 
 enum-known-held : tie.Need-enum-known-held
 enum-known-held c = search needs
@@ -42,7 +44,8 @@ returns-2 c =
     let at-row-at = at-satisfied .before .before in
     let at-if1 = at-row-at .before in
     let at-can-use = at-if1 .before in
-    goes (tests-hold _ _ _ _ (sym (at-can-use .can-use .ensures) ∙ not-false _ (at-if1 .if1 .left)) (at-row-at .row-at .ensures) (holds-is _ (at-satisfied .satisfied .ensures) (at-held .held .given .1)) (c .before .if2 .taken) (c .operation-or-exit .ensures))
+    goes (tests-hold _ _ _ _ (sym (at-can-use .can-use .ensures) ∙ not-false _ (at-if1 .if1 .left)) (at-row-at .row-at .ensures)
+    (holds-is _ (at-satisfied .satisfied .ensures) (at-held .held .given .1)) (c .before .if2 .taken) (c .operation-or-exit .ensures))
 
 next-line-requires : tie.Need-next-line-requires
 next-line-requires c κs =
@@ -62,7 +65,8 @@ returns-3 c =
     let at-row-at = at-satisfied .before .before in
     let at-if1 = at-row-at .before in
     let at-can-use = at-if1 .before in
-    goes (tests-fail _ _ _ _ (sym (at-can-use .can-use .ensures) ∙ not-false _ (at-if1 .if1 .left)) (at-row-at .row-at .ensures) (holds-is _ (at-satisfied .satisfied .ensures) (at-held .held .given .1)) (c .before .if2 .left) (c .next-line .ensures))
+    goes (tests-fail _ _ _ _ (sym (at-can-use .can-use .ensures) ∙ not-false _ (at-if1 .if1 .left)) (at-row-at .row-at .ensures)
+    (holds-is _ (at-satisfied .satisfied .ensures) (at-held .held .given .1)) (c .before .if2 .left) (c .next-line .ensures))
 
 returns-4 : tie.Need-returns-4
 returns-4 c =
@@ -70,7 +74,8 @@ returns-4 c =
     let at-row-at = at-satisfied .before .before in
     let at-if1 = at-row-at .before in
     let at-can-use = at-if1 .before in
-    halts (tests-stopped _ _ _ _ (sym (at-can-use .can-use .ensures) ∙ not-false _ (at-if1 .if1 .left)) (at-row-at .row-at .ensures) (not-settled-is _ (at-satisfied .satisfied .ensures) (c .before .held2 .given .1)))
+    halts (tests-stopped _ _ _ _ (sym (at-can-use .can-use .ensures) ∙ not-false _ (at-if1 .if1 .left)) (at-row-at .row-at .ensures)
+    (not-settled-is _ (at-satisfied .satisfied .ensures) (c .before .held2 .given .1)))
 
 pub plan-tests-spec : {M : Type 1} → statement M
 plan-tests-spec =

@@ -23,7 +23,11 @@ row-at-requires : tie.Need-row-at-requires
 row-at-requires c κs = search needs
 
 returns-4 : tie.Need-returns-4
-returns-4 c = kind-tells _ _ _ _ (c .before .before .before .before .before .before .pre (not-false _ (c .before .before .before .before .if1 .left))) (c .before .before .before .if2 .left) (c .before .before .if3 .left) (c .before .row-at .ensures)
+returns-4 c =
+    let at-if = c .before .before .before in
+    let at-if-2 = at-if .before in
+    let start = at-if-2 .before .before in
+    kind-tells _ _ _ _ (start .pre (not-false _ (at-if-2 .if1 .left))) (at-if .if2 .left) (c .before .before .if3 .left) (c .before .row-at .ensures)
 
 pub can-use-spec : {M : Type 1} → statement M
 can-use-spec =

@@ -40,7 +40,10 @@ returns-6 c = compared-at _ _ _ (c .before .match .keys6) (ap (λ n. eqb n (c .b
 
 returns-7 : tie.Need-returns-7
 unfolding compared comparisons
-returns-7 c = let last : c .before .before .args .code ≡ 7 = omega (arith, c .before .before .pre .1, c .before .before .pre .2, c .before .match .rest) in compared-at _ _ _ last (ap (λ n. eqb n 0) (c .and2 .ensures))
+returns-7 c =
+    let start = c .before .before in
+    let last : start .args .code ≡ 7 = omega (arith, start .pre .1, start .pre .2, c .before .match .rest) in
+    compared-at _ _ _ last (ap (λ n. eqb n 0) (c .and2 .ensures))
 
 pub compared-spec : {M : Type 1} → statement M
 compared-spec =

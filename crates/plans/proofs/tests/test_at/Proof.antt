@@ -25,7 +25,11 @@ row-at-requires c κs =
     u .room
 
 operand-requires : tie.Need-operand-requires
-operand-requires c κs = (c .before .before .before .before .before .before .before .before .pre .0, test-row-is _ _ _ (c .before .before .row-at .ensures) (sym (c .before .before .before .before .can-use .ensures) ∙ not-false _ (c .before .before .before .if1 .left)) .c)
+operand-requires c κs =
+    let at-if = c .before .before .before in
+    let at-can-use = at-if .before in
+    let start = at-can-use .before .before .before .before in
+    (start .pre .0, test-row-is _ _ _ (c .before .before .row-at .ensures) (sym (at-can-use .can-use .ensures) ∙ not-false _ (at-if .if1 .left)) .c)
 
 enum-known-x : tie.Need-enum-known-x
 enum-known-x c = search needs
@@ -39,7 +43,8 @@ returns-2 c =
     let at-row-at = at-operand .before .before .before in
     let at-if1 = at-row-at .before in
     let at-can-use = at-if1 .before in
-    test-stops (test-first _ _ _ _ (sym (at-can-use .can-use .ensures) ∙ not-false _ (at-if1 .if1 .left)) (at-row-at .row-at .ensures) (no-value-is _ (at-operand .operand .ensures) (c .before .x2 .given .1)))
+    test-stops (test-first _ _ _ _ (sym (at-can-use .can-use .ensures) ∙ not-false _ (at-if1 .if1 .left)) (at-row-at .row-at .ensures)
+    (no-value-is _ (at-operand .operand .ensures) (c .before .x2 .given .1)))
 
 operand-requires-2 : tie.Need-operand-requires-2
 operand-requires-2 c κs =
@@ -72,7 +77,9 @@ returns-3 c =
     let at-row-at = at-operand .before .before .before in
     let at-if1 = at-row-at .before in
     let at-can-use = at-if1 .before in
-    tests-to (test-made _ _ _ _ (sym (at-can-use .can-use .ensures) ∙ not-false _ (at-if1 .if1 .left)) (at-row-at .row-at .ensures) (value-is _ (at-operand .operand .ensures) (at-x .x .given .1)) (value-is _ (at-operand2 .operand2 .ensures) (c .before .before .y .given .1)) (c .compared .ensures))
+    tests-to (test-made _ _ _ _ (sym (at-can-use .can-use .ensures) ∙ not-false _ (at-if1 .if1 .left)) (at-row-at .row-at .ensures)
+    (value-is _ (at-operand .operand .ensures) (at-x .x .given .1)) (value-is _ (at-operand2 .operand2 .ensures) (c .before .before .y .given .1))
+    (c .compared .ensures))
 
 returns-4 : tie.Need-returns-4
 returns-4 c =
@@ -82,7 +89,8 @@ returns-4 c =
     let at-row-at = at-operand .before .before .before in
     let at-if1 = at-row-at .before in
     let at-can-use = at-if1 .before in
-    test-stops (test-second _ _ _ _ (sym (at-can-use .can-use .ensures) ∙ not-false _ (at-if1 .if1 .left)) (at-row-at .row-at .ensures) (value-is _ (at-operand .operand .ensures) (at-x .x .given .1)) (no-value-is _ (at-operand2 .operand2 .ensures) (c .before .y2 .given .1)))
+    test-stops (test-second _ _ _ _ (sym (at-can-use .can-use .ensures) ∙ not-false _ (at-if1 .if1 .left)) (at-row-at .row-at .ensures)
+    (value-is _ (at-operand .operand .ensures) (at-x .x .given .1)) (no-value-is _ (at-operand2 .operand2 .ensures) (c .before .y2 .given .1)))
 
 pub test-at-spec : {M : Type 1} → statement M
 test-at-spec =

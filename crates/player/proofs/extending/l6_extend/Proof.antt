@@ -5,7 +5,9 @@ use Rattle.player.proofs.extending.l6_extend.Statement.{statement}
 use Rattle.player.proofs.extending.l6_extend.Tie as tie
 
 returns : tie.Need-returns
-returns c = (extend-short (c .before .before .before .args .last) (c .before .before .before .args .storage .now) (c .before .before .before .args .state .now) (c .if1 .taken), λ h. absurd (c .if1 .taken h))
+returns c =
+    let start = c .before .before .before in
+    (extend-short (start .args .last) (start .args .storage .now) (start .args .state .now) (c .if1 .taken), λ h. absurd (c .if1 .taken h))
 
 read-state-requires : tie.Need-read-state-requires
 read-state-requires c κs = search needs
@@ -23,7 +25,16 @@ same-length-2 : tie.Need-same-length-2
 same-length-2 c = search needs
 
 returns-2 : tie.Need-returns-2
-returns-2 c = (extend-refused (c .before .before .before .before .before .before .before .before .before .before .before .before .args .last) (c .before .before .before .before .before .before .before .before .before .before .before .before .args .storage .now) (c .before .before .before .before .before .before .before .before .before .before .before .before .args .state .now) (c .before .before .before .before .before .before .before .before .before .if1 .left) (c .before .before .before .before .before .before .read-state .ensures) (c .before .before .before .before .before .extend .ensures .0) (c .before .number-of .ensures) (c .if2 .taken), λ h. extend-kept (c .before .before .before .before .before .before .before .before .before .before .before .before .args .last) (c .before .before .before .before .before .before .before .before .before .before .before .before .args .storage .now) (c .before .before .before .before .before .before .before .before .before .before .before .before .args .state .now) (c .before .before .before .before .before .before .before .before .before .if1 .left) (c .before .before .before .before .before .before .read-state .ensures) (c .before .before .before .before .before .extend .ensures .0) (c .before .number-of .ensures) (c .if2 .taken))
+returns-2 c =
+    let at-extend = c .before .before .before .before .before in
+    let at-read-state = at-extend .before in
+    let at-if = at-read-state .before .before .before in
+    let start = at-if .before .before .before in (
+      extend-refused (start .args .last) (start .args .storage .now) (start .args .state .now) (at-if .if1 .left) (at-read-state .read-state .ensures)
+          (at-extend .extend .ensures .0) (c .before .number-of .ensures) (c .if2 .taken),
+      λ h. extend-kept (start .args .last) (start .args .storage .now) (start .args .state .now) (at-if .if1 .left)
+          (at-read-state .read-state .ensures) (at-extend .extend .ensures .0) (c .before .number-of .ensures) (c .if2 .taken),
+    )
 
 write-state-requires : tie.Need-write-state-requires
 write-state-requires c κs = search needs
@@ -35,7 +46,20 @@ same-length-4 : tie.Need-same-length-4
 same-length-4 c = search needs
 
 returns-3 : tie.Need-returns-3
-returns-3 c = (extend-done (c .before .before .before .before .before .before .before .before .before .before .before .before .before .before .before .before .args .last) (c .before .before .before .before .before .before .before .before .before .before .before .before .before .before .before .before .args .storage .now) (c .before .before .before .before .before .before .before .before .before .before .before .before .before .before .before .before .args .state .now) (c .before .before .before .before .before .before .before .before .before .before .before .before .before .if1 .left) (c .before .before .before .before .before .before .before .before .before .before .read-state .ensures) (c .before .before .before .before .before .before .before .before .before .extend .ensures .0) (c .before .before .before .before .before .number-of .ensures) (c .before .before .before .before .if2 .left) (c .before .before .write-state .ensures .0), λ h. extend-told (c .before .before .before .before .before .before .before .before .before .before .before .before .before .before .before .before .args .last) (c .before .before .before .before .before .before .before .before .before .before .before .before .before .before .before .before .args .storage .now) (c .before .before .before .before .before .before .before .before .before .before .before .before .before .before .before .before .args .state .now) (c .before .before .before .before .before .before .before .before .before .before .before .before .before .if1 .left) (c .before .before .before .before .before .before .before .before .before .before .read-state .ensures) (c .before .before .before .before .before .before .before .before .before .extend .ensures .0) (c .before .before .before .before .before .number-of .ensures) (c .before .before .before .before .if2 .left) (c .before .before .write-state .ensures .0) (c .before .before .write-state .ensures .1))
+returns-3 c =
+    let at-write-state = c .before .before in
+    let at-if = at-write-state .before .before in
+    let at-number-of = at-if .before in
+    let at-extend = at-number-of .before .before .before .before in
+    let at-read-state = at-extend .before in
+    let at-if-2 = at-read-state .before .before .before in
+    let start = at-if-2 .before .before .before in (
+      extend-done (start .args .last) (start .args .storage .now) (start .args .state .now) (at-if-2 .if1 .left) (at-read-state .read-state .ensures)
+          (at-extend .extend .ensures .0) (at-number-of .number-of .ensures) (at-if .if2 .left) (at-write-state .write-state .ensures .0),
+      λ h. extend-told (start .args .last) (start .args .storage .now) (start .args .state .now) (at-if-2 .if1 .left)
+          (at-read-state .read-state .ensures) (at-extend .extend .ensures .0) (at-number-of .number-of .ensures) (at-if .if2 .left)
+          (at-write-state .write-state .ensures .0) (at-write-state .write-state .ensures .1),
+    )
 
 pub l6-extend-spec : {M : Type 1} → statement M
 l6-extend-spec =

@@ -20,7 +20,10 @@ same-length c = search needs
 
 returns : tie.Need-returns
 unfolding afterSave saveLeft
-returns c = rw (c .number-of .ensures, c .before .count-of .ensures) (ap (λ (l : Left). afterSave (c .before .before .before .before .before .before .before .before .before .args .count .now) l) (c .before .before .before .before .before .save .ensures .0))
+returns c =
+    let at-save = c .before .before .before .before .before in
+    let start = at-save .before .before .before .before in
+    rw (c .number-of .ensures, c .before .count-of .ensures) (ap (λ (l : Left). afterSave (start .args .count .now) l) (at-save .save .ensures .0))
 
 pub l6-save-spec : {M : Type 1} → statement M
 l6-save-spec =

@@ -5,7 +5,9 @@ use Rattle.table.proofs.check.has_tests.Statement.{statement}
 use Rattle.table.proofs.check.has_tests.Tie as tie
 
 returns : tie.Need-returns
-returns c = same-tests (eqb (c .before .before .args .row .code) 0) (eqb (c .before .before .args .row .first .form) 0)
+returns c =
+    let start = c .before .before in
+    same-tests (eqb (start .args .row .code) 0) (eqb (start .args .row .first .form) 0)
 
 pub has-tests-spec : {M : Type 1} → statement M
 has-tests-spec = tie.close (tie.spec returns)

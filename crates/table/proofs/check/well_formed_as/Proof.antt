@@ -24,8 +24,9 @@ has-kind-requires c κs = search needs
 
 returns-3 : tie.Need-returns-3
 returns-3 c =
-    let right : c .before .before .is-chained .result ≡ true = not-false _ (c .before .if2 .left) in
-    formed-from _ _ _ _ _ (omega arith) (sym (c .before .before .is-chained .ensures) ∙ right) (c .has-kind .ensures)
+    let at-is-chained = c .before .before in
+    let right : at-is-chained .is-chained .result ≡ true = not-false _ (c .before .if2 .left) in
+    formed-from _ _ _ _ _ (omega arith) (sym (at-is-chained .is-chained .ensures) ∙ right) (c .has-kind .ensures)
 
 pub well-formed-as-spec : {M : Type 1} → statement M
 well-formed-as-spec =

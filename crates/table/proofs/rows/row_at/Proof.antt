@@ -30,8 +30,9 @@ as-row-requires c κs = search needs
 returns : tie.Need-returns
 unfolding rowAt
 returns c =
-    let table = denote.Ref.now (c .before .before .before .args .table) in
-    let at = 10 * c .before .before .before .args .r in
+    let start = c .before .before .before in
+    let table = denote.Ref.now (start .args .table) in
+    let at = 10 * start .args .r in
     c .as-row .ensures ∙ ap asRow (take-all (length table - at) (drop at table) (simp length-drop (omega arith)))
 
 pub row-at-spec : {M : Type 1} → statement M

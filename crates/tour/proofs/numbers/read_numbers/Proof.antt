@@ -19,7 +19,9 @@ abbrev μ-loop : tie.MeasureT-loop
 μ-loop bytes n table₀ left₀ table left = left
 
 loop-holds : tie.Need-loop-holds Inv-loop μ-loop
-loop-holds c = (omega arith, rw (from-none (c .before .before .args .bytes .now) (c .before .before .args .n)) (start (c .before .before .args .n) (c .before .before .args .table .now) (c .before .before .pre .1)))
+loop-holds c =
+    let start-2 = c .before .before in
+    (omega arith, rw (from-none (start-2 .args .bytes .now) (start-2 .args .n)) (start (start-2 .args .n) (start-2 .args .table .now) (start-2 .pre .1)))
 
 sub-left : tie.Need-sub-left Inv-loop μ-loop
 sub-left c = search needs
@@ -45,8 +47,12 @@ loop-again c =
     let at-loop = at-before .before in
     let entry = at-loop .before .before .before in
     let p = at-loop .loop .inv .1 in
-    let one = put-one (at-loop .loop .left) (c .number-at .result) (at-loop .loop .table) (at-before .loop-test .taken) (omega (arith, kept p)) in
-    (omega arith, rw (from-next (entry .args .bytes .now) (entry .args .n) (at-loop .loop .left) (at-before .loop-test .taken) (at-loop .loop .inv .0)) (more p (_ ∷ []) (omega arith) (one ∙ ap (λ (v : ℕ). putBefore (at-loop .loop .left) (v ∷ []) (at-loop .loop .table)) (c .number-at .ensures))))
+    let one = put-one (at-loop .loop .left) (c .number-at .result) (at-loop .loop .table) (at-before .loop-test .taken) (omega (arith, kept p)) in (
+      omega arith,
+      rw (from-next (entry .args .bytes .now) (entry .args .n) (at-loop .loop .left) (at-before .loop-test .taken)
+          (at-loop .loop .inv .0)) (more p (_ ∷ []) (omega arith) (one ∙ ap (λ (v : ℕ). putBefore (at-loop .loop .left) (v ∷ []) (at-loop .loop .table))
+          (c .number-at .ensures))),
+    )
 
 same-length : tie.Need-same-length Inv-loop μ-loop
 same-length c = kept (c .before .loop .inv .1)

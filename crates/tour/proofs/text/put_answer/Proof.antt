@@ -40,23 +40,41 @@ same-length c = search needs
 
 returns : tie.Need-returns
 unfolding answerText
-returns c = (rw (c .before .before .before .before .before .enum-told .given .1) (c .before .before .put-word .ensures .0), (rw (c .before .before .before .before .before .enum-told .given .1) (c .before .before .put-word .ensures .1), omega (arith, c .before .before .put-word .ensures .0)))
+returns c =
+    let at-put-word = c .before .before in
+    let at-enum-told = at-put-word .before .before .before in (
+      rw (at-enum-told .enum-told .given .1) (at-put-word .put-word .ensures .0),
+      (rw (at-enum-told .enum-told .given .1) (at-put-word .put-word .ensures .1), omega (arith, at-put-word .put-word .ensures .0)),
+    )
 
 same-length-2 : tie.Need-same-length-2
 same-length-2 c = search needs
 
 returns-2 : tie.Need-returns-2
 unfolding answerText
-returns-2 c = (rw (c .before .before .before .before .before .enum-told2 .given .1) (c .before .before .put-word2 .ensures .0), (rw (c .before .before .before .before .before .enum-told2 .given .1) (c .before .before .put-word2 .ensures .1), omega (arith, c .before .before .put-word2 .ensures .0)))
+returns-2 c =
+    let at-put-word = c .before .before in
+    let at-enum-told = at-put-word .before .before .before in (
+      rw (at-enum-told .enum-told2 .given .1) (at-put-word .put-word2 .ensures .0),
+      (rw (at-enum-told .enum-told2 .given .1) (at-put-word .put-word2 .ensures .1), omega (arith, at-put-word .put-word2 .ensures .0)),
+    )
 
 same-length-3 : tie.Need-same-length-3
 same-length-3 c = search needs
 
 returns-3 : tie.Need-returns-3
 unfolding answerText
-returns-3 c = let few = decimal-few 19 (c .before .before .before .refusal-number .result) (omega (arith, c .before .before .before .refusal-number .ok)) in
-    let is = c .before .before .before .before .before .before .answer .given .1 in
-    (rw is (rw (c .before .before .before .refusal-number .ensures) at (c .before .before .put-decimal .ensures .0)), (rw is (rw (c .before .before .before .refusal-number .ensures) at (c .before .before .put-decimal .ensures .1)), omega (arith, c .before .before .put-decimal .ensures .0)))
+returns-3 c =
+    let at-put-decimal = c .before .before in
+    let at-refusal-number = at-put-decimal .before in
+    let few = decimal-few 19 (at-refusal-number .refusal-number .result) (omega (arith, at-refusal-number .refusal-number .ok)) in
+    let is = at-refusal-number .before .before .before .answer .given .1 in (
+      rw is (rw (at-refusal-number .refusal-number .ensures) at (at-put-decimal .put-decimal .ensures .0)),
+      (
+        rw is (rw (at-refusal-number .refusal-number .ensures) at (at-put-decimal .put-decimal .ensures .1)),
+        omega (arith, at-put-decimal .put-decimal .ensures .0),
+      ),
+    )
 
 pub put-answer-spec : {M : Type 1} → statement M
 put-answer-spec =

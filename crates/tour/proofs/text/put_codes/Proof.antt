@@ -14,14 +14,20 @@ use Rattle.tour.proofs.text.put_codes.Statement.{statement}
 use Rattle.tour.proofs.text.put_codes.Tie as tie
 
 abbrev Inv-loop : tie.InvT-loop
-Inv-loop text₀ at codes place₀ after₀ left₀ text place after left = (left ≤ length codes) × (after ≡ afterCode (drop left codes)) × Put at (octals (drop left codes)) text₀ text place
+Inv-loop text₀ at codes place₀ after₀ left₀ text place after left = (left ≤ length codes) × (after ≡ afterCode (drop left codes))
+    × Put at (octals (drop left codes)) text₀ text place
 
 abbrev μ-loop : tie.MeasureT-loop
 μ-loop text₀ at codes place₀ after₀ left₀ text place after left = left
 
 loop-holds : tie.Need-loop-holds Inv-loop μ-loop
 unfolding octals afterCode
-loop-holds c = (omega arith, rw (drop-length (c .before .before .args .codes .now)), rw (drop-length (c .before .before .args .codes .now)) (start (c .before .before .args .at) (c .before .before .args .text .now) (c .before .before .pre .1)))
+loop-holds c =
+    let start-2 = c .before .before in (
+      omega arith,
+      rw (drop-length (start-2 .args .codes .now)),
+      rw (drop-length (start-2 .args .codes .now)) (start (start-2 .args .at) (start-2 .args .text .now) (start-2 .pre .1)),
+    )
 
 sub-left : tie.Need-sub-left Inv-loop μ-loop
 sub-left c = search needs
@@ -31,9 +37,11 @@ shared-slice-read-put-code c = search needs
 
 put-code-requires : tie.Need-put-code-requires Inv-loop μ-loop
 put-code-requires c κs =
-    let p = c .before .before .before .loop .inv .2 in
-    let long = length-drop (c .before .before .before .loop .left) (c .before .before .before .before .before .before .args .codes .now) in
-    let three = length-octals (drop (c .before .before .before .loop .left) (c .before .before .before .before .before .before .args .codes .now)) in
+    let at-loop = c .before .before .before in
+    let start = at-loop .before .before .before in
+    let p = at-loop .loop .inv .2 in
+    let long = length-drop (at-loop .loop .left) (start .args .codes .now) in
+    let three = length-octals (drop (at-loop .loop .left) (start .args .codes .now)) in
     (omega (arith, p .starts, p .inside), omega (arith, p .starts, p .inside, kept p))
 
 loop-less : tie.Need-loop-less Inv-loop μ-loop
@@ -41,11 +49,19 @@ loop-less c = search needs
 
 loop-again : tie.Need-loop-again Inv-loop μ-loop
 unfolding octals afterCode
-loop-again c = let p = c .before .before .before .before .before .before .loop .inv .2 in
-    let long = length-drop (c .before .before .before .before .before .before .loop .left) (c .before .before .before .before .before .before .before .before .before .args .codes .now) in
-    let three = length-octals (drop (c .before .before .before .before .before .before .loop .left) (c .before .before .before .before .before .before .before .before .before .args .codes .now)) in
-    let next = one-before (c .before .before .before .before .before .before .before .before .before .args .codes .now) (c .before .before .before .before .before .before .loop .left) (omega arith) (c .before .before .before .before .before .before .loop .inv .0) in
-    (omega arith, rw next, rw next (more p (_ ∷ _ ∷ _ ∷ []) (c .before .before .put-code .ensures .0) (rw (c .before .before .before .before .before .before .loop .inv .1) at (c .before .before .put-code .ensures .1))))
+loop-again c =
+    let at-put-code = c .before .before in
+    let at-loop = at-put-code .before .before .before .before in
+    let start = at-loop .before .before .before in
+    let p = at-loop .loop .inv .2 in
+    let long = length-drop (at-loop .loop .left) (start .args .codes .now) in
+    let three = length-octals (drop (at-loop .loop .left) (start .args .codes .now)) in
+    let next = one-before (start .args .codes .now) (at-loop .loop .left) (omega arith) (at-loop .loop .inv .0) in (
+      omega arith,
+      rw next,
+      rw next (more p (_ ∷ _ ∷ _ ∷ []) (at-put-code .put-code .ensures .0)
+          (rw (at-loop .loop .inv .1) at (at-put-code .put-code .ensures .1))),
+    )
 
 same-length : tie.Need-same-length Inv-loop μ-loop
 same-length c = kept (c .before .loop .inv .2)

@@ -12,7 +12,11 @@ same-length : tie.Need-same-length
 same-length c = search needs
 
 returns : tie.Need-returns
-returns c = let one = line-none (c .before .before .before .before .before .before .before .args .codes .now) (c .before .before .before .before .if1 .taken) in (rw one (c .before .before .put .ensures .0), rw one (c .before .before .put .ensures .1))
+returns c =
+    let at-put = c .before .before in
+    let at-if = at-put .before .before in
+    let start = at-if .before .before .before in
+    let one = line-none (start .args .codes .now) (at-if .if1 .taken) in (rw one (at-put .put .ensures .0), rw one (at-put .put .ensures .1))
 
 put-codes-requires : tie.Need-put-codes-requires
 put-codes-requires c κs = search needs
@@ -21,7 +25,12 @@ same-length-2 : tie.Need-same-length-2
 same-length-2 c = search needs
 
 returns-2 : tie.Need-returns-2
-returns-2 c = let some = line-some (c .before .before .before .before .before .before .before .args .codes .now) (c .before .before .before .before .if1 .left) in (rw some (c .before .before .put-codes .ensures .0), rw some (c .before .before .put-codes .ensures .1))
+returns-2 c =
+    let at-put-codes = c .before .before in
+    let at-if = at-put-codes .before .before in
+    let start = at-if .before .before .before in
+    let some = line-some (start .args .codes .now) (at-if .if1 .left) in
+    (rw some (at-put-codes .put-codes .ensures .0), rw some (at-put-codes .put-codes .ensures .1))
 
 pub put-codes-line-spec : {M : Type 1} → statement M
 put-codes-line-spec =

@@ -9,23 +9,37 @@ use Rattle.tour.proofs.text.put_decimal.Tie as tie
 
 put-requires : tie.Need-put-requires
 put-requires c κs =
-    let one = decimal-none (c .before .before .before .args .n) (c .before .if1 .taken) in
-    (rw one at (c .before .before .before .pre .0), c .before .before .before .pre .1)
+    let start = c .before .before .before in
+    let one = decimal-none (start .args .n) (c .before .if1 .taken) in
+    (rw one at (start .pre .0), start .pre .1)
 
 same-length : tie.Need-same-length
 same-length c = search needs
 
 returns : tie.Need-returns
-returns c = let one = decimal-none (c .before .before .before .before .before .before .args .n) (c .before .before .before .before .if1 .taken) in (rw one (c .before .before .put .ensures .0), rw one (c .before .before .put .ensures .1))
+returns c =
+    let at-put = c .before .before in
+    let at-if = at-put .before .before in
+    let start = at-if .before .before in
+    let one = decimal-none (start .args .n) (at-if .if1 .taken) in (rw one (at-put .put .ensures .0), rw one (at-put .put .ensures .1))
 
 put-digits-requires : tie.Need-put-digits-requires
-put-digits-requires c κs = (rw (decimal-some (c .before .before .before .args .n) (c .before .if1 .left)) at (c .before .before .before .pre .0), c .before .before .before .pre .1)
+put-digits-requires c κs =
+    let start = c .before .before .before in
+    (rw (decimal-some (start .args .n) (c .before .if1 .left)) at (start .pre .0), start .pre .1)
 
 same-length-2 : tie.Need-same-length-2
 same-length-2 c = search needs
 
 returns-2 : tie.Need-returns-2
-returns-2 c = let some = decimal-some (c .before .before .before .before .before .before .args .n) (c .before .before .before .before .if1 .left) in (rw some (c .before .before .put-digits .ensures .0), rw some (c .before .before .put-digits .ensures .1))
+returns-2 c =
+    let at-put-digits = c .before .before in
+    let at-if = at-put-digits .before .before in
+    let start = at-if .before .before in
+    let some = decimal-some (start .args .n) (at-if .if1 .left) in (
+      rw some (at-put-digits .put-digits .ensures .0),
+      rw some (at-put-digits .put-digits .ensures .1),
+    )
 
 pub put-decimal-spec : {M : Type 1} → statement M
 put-decimal-spec =

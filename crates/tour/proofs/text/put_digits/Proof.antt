@@ -28,18 +28,22 @@ add-put c = search needs
 
 put-requires : tie.Need-put-requires Inv-loop μ-loop
 put-requires c κs =
-    let (xs, ends, p) = c .before .before .loop .inv .1 in
+    let at-loop = c .before .before in
+    let (xs, ends, p) = at-loop .loop .inv .1 in
     let room = ends-room ends (c .before .loop-test .taken) in
-    (omega (arith, p .starts, c .before .before .loop .inv .0), omega (arith, p .starts, p .inside, kept p))
+    (omega (arith, p .starts, at-loop .loop .inv .0), omega (arith, p .starts, p .inside, kept p))
 
 loop-less : tie.Need-loop-less Inv-loop μ-loop
 loop-less c = search needs
 
 loop-again : tie.Need-loop-again Inv-loop μ-loop
 loop-again c =
-    let (xs, ends, p) = c .before .before .before .before .before .loop .inv .1 in
-    let room = ends-room ends (c .before .before .before .before .loop-test .taken) in
-    (c .before .before .before .before .before .loop .inv .0, (_ ∷ xs, ends-next ends (c .before .before .before .before .loop-test .taken), more p (_ ∷ []) (c .before .before .put .ensures .0) (c .before .before .put .ensures .1)))
+    let at-put = c .before .before in
+    let at-loop-test = at-put .before .before in
+    let at-loop = at-loop-test .before in
+    let (xs, ends, p) = at-loop .loop .inv .1 in
+    let room = ends-room ends (at-loop-test .loop-test .taken) in
+    (at-loop .loop .inv .0, (_ ∷ xs, ends-next ends (at-loop-test .loop-test .taken), more p (_ ∷ []) (at-put .put .ensures .0) (at-put .put .ensures .1)))
 
 same-length : tie.Need-same-length Inv-loop μ-loop
 same-length c = let (xs, ends, p) = c .before .loop .inv .1 in kept p

@@ -23,8 +23,10 @@ returns c =
     let at-put-codes-line = c .before .before in
     let at-put-last-line = at-put-codes-line .before .before .before .before in
     let entry = at-put-last-line .before .before .before .before in
-    let last : Put (length (entry .args .text .now)) _ _ _ _ = record { starts = at-put-last-line .put-last-line .ensures .0; buffer = at-put-last-line .put-last-line .ensures .1 .0; inside = omega arith } in
-    let both = more last (codesLine (entry .args .codes .now)) (at-put-codes-line .put-codes-line .ensures .0) (at-put-codes-line .put-codes-line .ensures .1) in
+    let last : Put (length (entry .args .text .now)) _ _ _ _ =
+    record { starts = at-put-last-line .put-last-line .ensures .0; buffer = at-put-last-line .put-last-line .ensures .1 .0; inside = omega arith } in
+    let both = more last (codesLine (entry .args .codes .now)) (at-put-codes-line .put-codes-line .ensures .0)
+    (at-put-codes-line .put-codes-line .ensures .1) in
     (both .starts, both .buffer)
 
 pub put-lines-spec : {M : Type 1} → statement M

@@ -16,7 +16,9 @@ abbrev μ-loop : tie.MeasureT-loop
 μ-loop text₀ at word place₀ left₀ text place left = left
 
 loop-holds : tie.Need-loop-holds Inv-loop μ-loop
-loop-holds c = (omega arith, rw (drop-length (c .before .before .args .word .now)) (start (c .before .before .args .at) (c .before .before .args .text .now) (c .before .before .pre .1)))
+loop-holds c =
+    let start-2 = c .before .before in
+    (omega arith, rw (drop-length (start-2 .args .word .now)) (start (start-2 .args .at) (start-2 .args .text .now) (start-2 .pre .1)))
 
 sub-left : tie.Need-sub-left Inv-loop μ-loop
 sub-left c = search needs
@@ -26,8 +28,10 @@ shared-slice-read-put c = search needs
 
 put-requires : tie.Need-put-requires Inv-loop μ-loop
 put-requires c κs =
-    let p = c .before .before .before .loop .inv .1 in
-    let long = length-drop (c .before .before .before .loop .left) (c .before .before .before .before .before .before .args .word .now) in
+    let at-loop = c .before .before .before in
+    let start = at-loop .before .before .before in
+    let p = at-loop .loop .inv .1 in
+    let long = length-drop (at-loop .loop .left) (start .args .word .now) in
     (omega (arith, p .starts, p .inside), omega (arith, p .starts, p .inside, kept p))
 
 loop-less : tie.Need-loop-less Inv-loop μ-loop
@@ -39,8 +43,11 @@ loop-again c =
     let at-loop = at-put .before .before .before .before in
     let entry = at-loop .before .before .before in
     let p = at-loop .loop .inv .1 in
-    let long = length-drop (at-loop .loop .left) (entry .args .word .now) in
-    (omega arith, rw (one-before (entry .args .word .now) (at-loop .loop .left) (omega arith) (at-loop .loop .inv .0)) (more p (_ ∷ []) (at-put .put .ensures .0) (at-put .put .ensures .1)))
+    let long = length-drop (at-loop .loop .left) (entry .args .word .now) in (
+      omega arith,
+      rw (one-before (entry .args .word .now) (at-loop .loop .left) (omega arith) (at-loop .loop .inv .0))
+          (more p (_ ∷ []) (at-put .put .ensures .0) (at-put .put .ensures .1)),
+    )
 
 same-length : tie.Need-same-length Inv-loop μ-loop
 same-length c = kept (c .before .loop .inv .1)

@@ -10,7 +10,8 @@ use Rattle.lines.specs.Forms.{noForm}
 use Rattle.lines.specs.Walking.{formsOf, kindNumber, kindOf}
 use Rattle.lines.proofs.Parts.{part-inside, part-slice}
 use Rattle.lines.proofs.Coding.{kindNumbers, length-padded, kind-at}
-use Rattle.lines.proofs.Picking.{Naming, naming-none, naming-all, naming-end, naming-short, naming-found, naming-more, gives-name, name-numbers}
+use Rattle.lines.proofs.Picking.{Naming, naming-none, naming-all, naming-end, naming-short, naming-found, naming-more, gives-name}
+use Rattle.lines.proofs.Picking.{name-numbers}
 use borrow.Author.Needs.{needs}
 use Rattle.typed.proofs.pairs.name_in.Statement.{statement}
 use Rattle.typed.proofs.pairs.name_in.Tie as tie
@@ -69,6 +70,7 @@ last-name-requires c κs = search needs
 
 returns-3 : tie.Need-returns-3 Inv-loop μ-loop
 returns-3 c =
+    let at-if = c .before .before .before .before .before in
     let at-if3 = c .before .before in
     let at-comma-end = at-if3 .before in
     let at-if2 = at-comma-end .before in
@@ -81,7 +83,7 @@ returns-3 c =
     let gives = ap (λ (n : ℕ). givesName (kindOf n)) (sym number) ∙ sym (gives-name (at-form-number .form-number .result)) ∙ at-if3 .if3 .taken in
     c .last-name .ensures
     ∙ ap (λ (w : List ℕ). nameNumber (lastByte w)) (part-slice (at-loop .loop .at) (at-comma-end .comma-end .result) (entry .args .s .now))
-    ∙ naming-found _ _ _ (at-loop .loop .inv) (at-loop-test .loop-test .taken) (λ z. c .before .before .before .before .before .if1 .left (number ∙ z)) _
+    ∙ naming-found _ _ _ (at-loop .loop .inv) (at-loop-test .loop-test .taken) (λ z. at-if .if1 .left (number ∙ z)) _
     (at-if2 .if2 .left) (at-comma-end .comma-end .ensures) gives ∙ name-numbers _ _ _ (entry .pre .0)
 
 add-at : tie.Need-add-at Inv-loop μ-loop
@@ -95,6 +97,7 @@ loop-less c = search needs
 
 loop-again : tie.Need-loop-again Inv-loop μ-loop
 loop-again c =
+    let at-if = c .before .before .before in
     let at-comma-end = c .before in
     let at-if2 = at-comma-end .before in
     let at-form-number = at-if2 .before .before in
@@ -104,7 +107,7 @@ loop-again c =
     let number = at-form-number .form-number .ensures
     ∙ kind-at (formsOf (entry .args .tests)) (entry .args .form) (at-loop .loop .i) (entry .pre .0) (at-loop-test .loop-test .taken) in
     let gives = ap (λ (n : ℕ). givesName (kindOf n)) (sym number) ∙ sym (gives-name (at-form-number .form-number .result)) ∙ c .if3 .left in
-    naming-more _ _ _ (at-loop .loop .inv) (at-loop-test .loop-test .taken) (λ z. c .before .before .before .if1 .left (number ∙ z)) _ (at-if2 .if2 .left)
+    naming-more _ _ _ (at-loop .loop .inv) (at-loop-test .loop-test .taken) (λ z. at-if .if1 .left (number ∙ z)) _ (at-if2 .if2 .left)
     (at-comma-end .comma-end .ensures) gives
 
 returns-4 : tie.Need-returns-4 Inv-loop μ-loop

@@ -20,7 +20,9 @@ add-form-number : tie.Need-add-form-number
 add-form-number c = search needs
 
 form-number-requires : tie.Need-form-number-requires
-form-number-requires c κs = (c .before .before .before .before .pre .1 .1 .0, omega (arith, c .before .before .before .before .pre .1 .1 .1 .0))
+form-number-requires c κs =
+    let start = c .before .before .before .before in
+    (start .pre .1 .1 .0, omega (arith, start .pre .1 .1 .1 .0))
 
 returns : tie.Need-returns
 returns c =

@@ -14,7 +14,9 @@ use Rattle.typed.proofs.pairs.row_in.Statement.{statement}
 use Rattle.typed.proofs.pairs.row_in.Tie as tie
 
 form-at-requires : tie.Need-form-at-requires
-form-at-requires c κs = (c .before .before .before .before .pre .0 .width, c .before .before .before .before .pre .1 .0)
+form-at-requires c κs =
+    let start = c .before .before .before .before in
+    (start .pre .0 .width, start .pre .1 .0)
 
 form-number-requires : tie.Need-form-number-requires
 form-number-requires c κs =

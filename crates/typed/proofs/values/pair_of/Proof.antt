@@ -8,7 +8,8 @@ use Rattle.lines.specs.Words.{Kind, isKind, isField, fieldPair, literalPair, pa
 use Rattle.lines.specs.Walking.{kindOf}
 use Rattle.faults.specs.Names.{labelRow}
 use Rattle.lines.proofs.Coding.{of-kind, kind-word}
-use Rattle.typed.proofs.Valuing.{pair-is, of-pair, field-small, decimal-below, octal-below, hollerith-below, either-decimal, either-octal, field-value, decimal-value, octal-value, hollerith-value}
+use Rattle.typed.proofs.Valuing.{pair-is, of-pair, field-small, decimal-below, octal-below, hollerith-below, either-decimal}
+use Rattle.typed.proofs.Valuing.{either-octal, field-value, decimal-value, octal-value, hollerith-value}
 use borrow.Author.Needs.{needs}
 use Rattle.typed.proofs.values.pair_of.Statement.{statement}
 use Rattle.typed.proofs.values.pair_of.Tie as tie

@@ -56,12 +56,13 @@ loop-less c = search needs
 
 loop-again : tie.Need-loop-again Inv-loop μ-loop
 loop-again c =
+    let at-loop-2 = c .before .before .before in
     let at-loop-test = c .before .before in
     let at-loop = at-loop-test .before in
     let at-base-of = at-loop .before in
     let entry = at-base-of .before .before in
     let is : at-loop .loop .v * at-base-of .base-of .result + c .digit-as .result ≡ at-loop .loop .v * baseOf (entry .args .kind) + digitAs
-    (entry .args .kind) (getD (entry .args .w .now) (at-loop .loop .i) 0) = ap₂ (λ (n m : ℕ). c .before .before .before .loop .v * n + m)
+    (entry .args .kind) (getD (entry .args .w .now) (at-loop .loop .i) 0) = ap₂ (λ (n m : ℕ). at-loop-2 .loop .v * n + m)
     (at-base-of .base-of .ensures) (c .digit-as .ensures) in
     rw is (valuing-more _ _ _ (at-loop .loop .inv) (at-loop-test .loop-test .taken))
 

@@ -79,13 +79,14 @@ same-length c = search needs
 
 returns-2 : tie.Need-returns-2
 returns-2 c =
+    let start = c .before .before .before .before .before .before .before .before .before .before .before .before .before .before .before .before in
     let at-put-scanned = c .before .before in
     let at-following = at-put-scanned .before .before in
     let at-scanned = at-following .before .before .before .before in
     let at-scan = at-scanned .before .before in
     let entry = at-scan .before .before .before .before .before .before in
     let size = size-line (entry .args .b) (entry .args .s .now) (at-scanned .scanned .given .1) (at-scan .scan .ensures .0) (at-scan .scan .ensures .1) in (
-      ap (λ (n : ℕ). c .before .before .before .before .before .before .before .before .before .before .before .before .before .before .before .before .args .row
+      ap (λ (n : ℕ). start .args .row
           + n) size,
       at-put-scanned .put-scanned .ensures ∙ ap (λ (rs : List Row). putRows (entry .args .row) rs (entry .args .table .now))
           (read-good (entry .args .b) (entry .args .s .now) (labelRow (entry .args .b) (entry .args .text .now)) (entry .args .row) (entry .args .last) _

@@ -43,7 +43,9 @@ same-length c = simp length-set
 
 returns : tie.Need-returns
 unfolding numbersOf
-returns c = ten-put (c .before .before .before .args .ten .now) (numbersOf (c .before .before .before .args .made)) (c .before .before .before .pre) refl
+returns c =
+    let start = c .before .before .before in
+    ten-put (start .args .ten .now) (numbersOf (start .args .made)) (start .pre) refl
 
 pub put-numbers-spec : {M : Type 1} → statement M
 put-numbers-spec =

@@ -27,10 +27,12 @@ module _ (c : tie.After-low-bits4) where
 
   -- the two cross terms
   first : c .before .before .low-bits2 .result * c .before .low-bits3 .result < 2 ^ 62
-  first = halves-lt (half start) (half-le start) (below (half start) _ (c .before .before .low-bits2 .ensures)) (below (half start) _ (c .before .low-bits3 .ensures))
+  first = halves-lt (half start) (half-le start) (below (half start) _ (c .before .before .low-bits2 .ensures))
+      (below (half start) _ (c .before .low-bits3 .ensures))
 
   second : c .before .before .before .low-bits .result * c .low-bits4 .result < 2 ^ 62
-  second = halves-lt (half start) (half-le start) (below (half start) _ (c .before .before .before .low-bits .ensures)) (below (half start) _ (c .low-bits4 .ensures))
+  second = halves-lt (half start) (half-le start) (below (half start) _ (c .before .before .before .low-bits .ensures))
+      (below (half start) _ (c .low-bits4 .ensures))
 
 module _ (c : tie.After-power) where
   abbrev entry : tie.Start
@@ -41,7 +43,8 @@ module _ (c : tie.After-power) where
   high = rw (c .power .ensures) (shifted-lt (half entry) (half-le entry) (below (half entry) _ (c .before .low-bits5 .ensures)))
 
   low : c .before .before .before .before .before .low-bits .result * c .before .before .before .low-bits3 .result < 2 ^ 62
-  low = halves-lt (half entry) (half-le entry) (below (half entry) _ (c .before .before .before .before .before .low-bits .ensures)) (below (half entry) _ (c .before .before .before .low-bits3 .ensures))
+  low = halves-lt (half entry) (half-le entry) (below (half entry) _ (c .before .before .before .before .before .low-bits .ensures))
+      (below (half entry) _ (c .before .before .before .low-bits3 .ensures))
 
 add-h : tie.Need-add-h
 add-h c = search needs

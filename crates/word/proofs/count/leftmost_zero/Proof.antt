@@ -11,7 +11,9 @@ leftmost-one-requires : tie.Need-leftmost-one-requires
 leftmost-one-requires c κs = search needs
 
 returns : tie.Need-returns
-returns c = rw (c .leftmost-one .ensures, c .before .other-bits .ensures) (leftmost-flip (c .before .before .args .w) (c .before .before .args .v))
+returns c =
+    let start = c .before .before in
+    rw (c .leftmost-one .ensures, c .before .other-bits .ensures) (leftmost-flip (start .args .w) (start .args .v))
 
 pub leftmost-zero-spec : {M : Type 1} → statement M
 leftmost-zero-spec = tie.close (tie.spec other-bits-requires leftmost-one-requires returns)

@@ -13,12 +13,14 @@ low-bits-requires : tie.Need-low-bits-requires
 low-bits-requires c κs = search needs
 
 -- where there is a one, its place
-place : (c : tie.Else1) → rightmost 1 (c .before .before .args .w) (c .before .before .args .v) + suc (trailingZeros 64 (c .before .low-bits .result)) ≡ c .before .before .args .w
+place : (c : tie.Else1) → rightmost 1 (c .before .before .args .w) (c .before .before .args .v) + suc (trailingZeros 64 (c .before .low-bits .result))
+    ≡ c .before .before .args .w
 place c =
-    let w = c .before .before .args .w in
-    let v = c .before .before .args .v in
+    let start = c .before .before in
+    let w = start .args .w in
+    let v = start .args .v in
     let e = c .before .low-bits .ensures in
-    rw e (rightmost-one w v (c .before .before .pre) (omega (arith, e)))
+    rw e (rightmost-one w v (start .pre) (omega (arith, e)))
 
 sub-result : tie.Need-sub-result
 sub-result c = omega (arith, place c)
@@ -30,7 +32,9 @@ sub-result-2 : tie.Need-sub-result-2
 sub-result-2 c = omega (arith, place c)
 
 returns : tie.Need-returns
-returns c = sym (rightmost-none (c .before .before .args .w) (c .before .before .args .v) (sym (c .before .low-bits .ensures) ∙ c .if1 .taken))
+returns c =
+    let start = c .before .before in
+    sym (rightmost-none (start .args .w) (start .args .v) (sym (c .before .low-bits .ensures) ∙ c .if1 .taken))
 
 returns-2 : tie.Need-returns-2
 returns-2 c = omega (arith, place c)

@@ -11,7 +11,9 @@ rightmost-one-requires : tie.Need-rightmost-one-requires
 rightmost-one-requires c κs = search needs
 
 returns : tie.Need-returns
-returns c = rw (c .rightmost-one .ensures, c .before .other-bits .ensures) (rightmost-flip (c .before .before .args .w) (c .before .before .args .v))
+returns c =
+    let start = c .before .before in
+    rw (c .rightmost-one .ensures, c .before .other-bits .ensures) (rightmost-flip (start .args .w) (start .args .v))
 
 pub rightmost-zero-spec : {M : Type 1} → statement M
 rightmost-zero-spec = tie.close (tie.spec other-bits-requires rightmost-one-requires returns)

@@ -56,7 +56,11 @@ add-result-2 c =
     let s = c .before .before .before .before .before .before in
     let a = s .args in
     record {
-      fits = subst⁻¹ (λ (n : ℕ). n < 2 ^ 64) (returns c) (stored-word (a .b) (a .left) (a .right) (a .w) (a .v) .small 64 (omega (arith, s .pre .0, width-shift-le (a .b) (a .left) (a .right) (s .pre .1))) (s .fits .w .fits));
+      fits = subst⁻¹ (λ (n : ℕ). n < 2 ^ 64) (returns c) (stored-word (a .b) (a .left) (a .right) (a .w) (a .v) .small 64 (omega (
+        arith,
+        s .pre .0,
+        width-shift-le (a .b) (a .left) (a .right) (s .pre .1),
+      )) (s .fits .w .fits));
     }
 
 add-result : tie.Need-add-result

@@ -16,7 +16,9 @@ low-bits-requires c κs = search needs
 
 returns : tie.Need-returns
 unfolding leftShift
-returns c = rw (c .low-bits .ensures, lt-leb (c .before .before .args .w) (c .before .before .args .n) (omega arith)) (mod-mod-le _ {m = 64} (le-of-lt (c .before .before .pre)))
+returns c =
+    let start = c .before .before in
+    rw (c .low-bits .ensures, lt-leb (start .args .w) (start .args .n) (omega arith)) (mod-mod-le _ {m = 64} (le-of-lt (start .pre)))
 
 returns-2 : tie.Need-returns-2
 unfolding leftShift
