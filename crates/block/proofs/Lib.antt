@@ -6,5 +6,7 @@ pub mod Each
 pub mod Tiling
 pub mod Runs
 pub mod Within
+pub mod Local
+pub mod Delivered
 pub mod Extension
 pub mod Laws

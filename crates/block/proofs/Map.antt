@@ -1,7 +1,7 @@
 -- Laws of the block map: what is written is told again, how long a map is, and that a map of canonical trees keeps the section "Blocks".
 -- Assumes nothing.
 use mathlib.Core.Path.{_≡_, refl, sym, ap, ap₂, _∙_}
-use mathlib.Core.Bool.{true, not, _&&_, cond}
+use mathlib.Core.Bool.{true, not, _&&_, cond, false≢true}
 use mathlib.Core.List.{List, [], _∷_, _++_, append-assoc}
 use Prim.Native.Nat.{ℕ, zero, suc, _+_, _-_, _*_, _/_, _%_, _≤_, _<_}
 use native.Mathlib.Nat.{zero-div, sub-zero, div-eq-of-eq-mul-left, div-add-mod'}
@@ -34,6 +34,11 @@ canonical-halves k l r h =
     let (both, apart) = and-true (canonical k l && canonical k r) _ h in
     let (left, right) = and-true (canonical k l) _ both in
     (left, right, apart)
+
+-- two halves of a canonical tree are not both free
+pub both-free : {l r : Tree} → l ≡ Free → r ≡ Free → not (isFree l && isFree r) ≡ true → ⊥
+unfolding isFree
+both-free p q h = false≢true (rw (p, q) at h)
 
 -- the first byte of two trees is that of the first
 pub first-append : (k : ℕ) (t : Tree) (m : List ℕ) → getD (written k t ++ m) 0 0 ≡ getD (written k t) 0 0

@@ -2,7 +2,7 @@
 use mathlib.Core.Path.{_≡_, refl, sym, ap, _∙_}
 use mathlib.Core.Bool.{true, cond}
 use Prim.Native.Nat.{ℕ, zero, suc, _+_, _-_, _*_, _%_, _^_, _≤_, _<_}
-use native.Mathlib.Nat.{le-antisymm, le-refl, sub-add-cancel, zero-mod, mul-mod-left, dvd-of-mod-eq-zero, mod-mod-of-dvd}
+use native.Mathlib.Nat.{le-antisymm, le-refl, sub-add-cancel, zero-add, zero-mod, mul-mod-left, dvd-of-mod-eq-zero, mod-mod-of-dvd, mod-add-mod, mod-eq-of-lt}
 use native.Mathlib.Omega.{arith}
 use lib.Dec.{eqb, leb, ltb}
 use lib.Pow.{pow-pos, pow-mono, pow-add}
@@ -57,6 +57,10 @@ aligned-smaller {j} {k} h a e =
     let (q, same) = size-divides h in
     let divides = dvd-of-mod-eq-zero (size j) (ap (λ (n : ℕ). n % size j) same ∙ mul-mod-left q (size j)) in
     sym (mod-mod-of-dvd (size j) a divides) ∙ rw e (zero-mod (size j))
+
+-- what lies less than n words past a multiple of n
+pub offset-mod : (n c d : ℕ) → c % n ≡ 0 → d < n → (c + d) % n ≡ d
+offset-mod n c d h l = sym (mod-add-mod c n d) ∙ rw (h, zero-add) (mod-eq-of-lt l)
 
 -- a size that is no larger stands no later
 pub size-le : (j k : ℕ) → size j ≤ size k → j ≤ k

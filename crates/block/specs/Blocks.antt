@@ -1,5 +1,5 @@
 -- Blocks as trees: a block of the k-th size is free, live, or halved, and each half so again. So blocks tile and are aligned.
--- Document 01: "Blocks". Assumes nothing.
+-- Then blocks in lists. Document 01: "Blocks", and "The book" for its lists. Assumes nothing.
 use Prim.Native.Nat.{ℕ, zero, suc, _+_}
 use mathlib.Core.Bool.{Bool, true, _&&_, _||_, cond}
 use mathlib.Core.List.{List, [], _∷_, _++_}
@@ -80,6 +80,15 @@ changed f a k at (t ∷ ts) = cond (ltb a (at + size k)) (f at t ∷ ts) (t ∷ 
 unfoldable pub sizeAt : ℕ → List Block → ℕ
 sizeAt a [] = 0
 sizeAt a (x ∷ xs) = cond (eqb (x .address) a) (x .size) (sizeAt a xs)
+
+-- the address by which blocks are in order: "The book", its lists
+unfoldable pub start : Block → ℕ
+start x = x .address
+
+-- one more in a list, at its place in that order: "The book", freed and delivered
+unfoldable pub inserted : {A : Type 0} → (A → ℕ) → A → List A → List A
+inserted key x [] = x ∷ []
+inserted key x (y ∷ ys) = cond (leb (key x) (key y)) (x ∷ y ∷ ys) (y ∷ inserted key x ys)
 
 -- the words from a to before a + n lie outside these blocks
 unfoldable pub outside : ℕ → ℕ → List Block → Bool

@@ -14,7 +14,7 @@ use lib.ListN.{length}
 use Rattle.word.specs.Word.{isWidth}
 use Rattle.word.proofs.Tests.{and-true as and-parts, by-test}
 use Rattle.block.specs.declared.SetUp.{SetUp}
-use Rattle.block.specs.Blocks.{Block, size}
+use Rattle.block.specs.Blocks.{Block, size, start, inserted}
 use Rattle.block.specs.SetUp.{fitting, absent, runs}
 use Rattle.block.specs.Map.{live, free}
 use Rattle.block.proofs.Size.{size-pos, fitting-facts, absent-facts}
@@ -38,7 +38,7 @@ use Rattle.machine.proofs.Facts.{Facts}
 use Rattle.machine.proofs.Moves.{Moves, still, frees, delivers}
 use Rattle.machine.proofs.Plan.{Planned, settingUp, moving, planned}
 use Rattle.machine.proofs.Steps.{Stepping, refusing, staying, forward, stepping-at, step-is, step-width}
-use Rattle.book.specs.Book.{start, inserted, without}
+use Rattle.book.specs.Book.{without}
 use Rattle.book.specs.Steps.{Event, stepped, isRefused}
 use Rattle.book.specs.Alike.{Alike, Ordinary, Further, begin, after, Request, freeOf, getOf, Asked, freed, delivered, noRun}
 use Rattle.book.specs.Alike.{request, askedBy, wantedBy, refusedGet, askedOf, askedIn, EitherOrder}

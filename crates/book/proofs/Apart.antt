@@ -1,20 +1,20 @@
 -- The free blocks of canonical trees: no two are the halves of one block, and those of a fresh set-up are the ones that the book enters.
 -- Words are covered as the claim counts them. Assumes nothing.
 use mathlib.Core.Path.{_≡_, refl, sym, ap, _∙_}
-use mathlib.Core.Bool.{Bool, true, false, not, _&&_, false≢true}
+use mathlib.Core.Bool.{Bool, true, false}
 use mathlib.Core.List.{List, [], _∷_, _++_, List·Memᴰ, List·Memᴰ·not-nil, List·Memᴰ·append-cases, List·Memᴰ·eq-of-singleton}
 use mathlib.Core.Logic.{⊎-elim}
-use Prim.Native.Nat.{ℕ, zero, suc, _+_, _%_, _≤_, _<_}
-use native.Mathlib.Nat.{mod-add-mod, zero-add, mod-eq-of-lt, add-mod-right, le-suc}
+use Prim.Native.Nat.{ℕ, zero, suc, _+_, _%_, _≤_}
+use native.Mathlib.Nat.{add-mod-right, le-suc}
 use native.Mathlib.Omega.{arith}
 use lib.Dec.{eqb, leb}
 use lib.ListN.{replicate}
 use borrow.Author.Tests.{eqb-true, eq-eqb, leb-true, le-leb}
 use Rattle.block.specs.Blocks.{size, Block, Tree, Free, Live, Halves, liveIn, freeIn, gathered}
-use Rattle.block.specs.Map.{isFree, canonical, allCanonical}
+use Rattle.block.specs.Map.{canonical, allCanonical}
 use Rattle.word.proofs.Tests.{and-true, by-test, by-leb}
-use Rattle.block.proofs.Size.{size-pos, size-suc, size-mono, aligned-smaller}
-use Rattle.block.proofs.Map.{canonical-halves}
+use Rattle.block.proofs.Size.{size-pos, size-suc, size-mono, aligned-smaller, offset-mod}
+use Rattle.block.proofs.Map.{canonical-halves, both-free}
 use Rattle.block.proofs.Each.{each-mem}
 use Rattle.block.proofs.Tiling.{Lies, lies-pos, InOrder, order-each, tree-order, forest-order}
 use Rattle.book.specs.Book.{blocksFrom, halves, around}
@@ -39,10 +39,6 @@ fresh-blocks k at zero = (refl, refl)
 fresh-blocks k at (suc n) =
     let (free, live) = fresh-blocks k (at + size k) n in
     (ap (λ (xs : List Block). record { address = at; size = size k } ∷ xs) free, live)
-
--- what lies less than n words past a multiple of n
-pub offset-mod : (n c d : ℕ) → c % n ≡ 0 → d < n → (c + d) % n ≡ d
-offset-mod n c d h l = sym (mod-add-mod c n d) ∙ rw (h, zero-add) (mod-eq-of-lt l)
 
 -- what the test of two halves says
 pub record AreHalves (d : ℕ) (x y : Block) : Type 0 where
@@ -130,11 +126,6 @@ halves-meet d k at l r x y aligned m n h =
     let high = each-mem (order-each (tree-order k (at + size k) r next .1)) n in
     let whole = meet-size d y next low (high .first) h in
     (whole-free k at l aligned m whole, whole-free k (at + size k) r next n (sym (halves-facts d x y h .equal) ∙ whole))
-
--- two halves of a canonical tree are not both free
-pub both-free : {l r : Tree} → l ≡ Free → r ≡ Free → not (isFree l && isFree r) ≡ true → ⊥
-unfolding isFree
-both-free p q h = false≢true (rw (p, q) at h)
 
 -- no two free blocks of a canonical tree are halves of one block
 pub tree-separate : (d k at : ℕ) (t : Tree) → at % size k ≡ 0 → canonical k t ≡ true → Separate d (freeIn k at t) (freeIn k at t)

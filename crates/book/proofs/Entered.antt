@@ -10,7 +10,7 @@ use borrow.Author.Tests.{eq-eqb}
 use lib.Dec.{eqb}
 use lib.ListN.{length}
 use Rattle.block.specs.declared.SetUp.{SetUp}
-use Rattle.block.specs.Blocks.{Block, size, sizeAt}
+use Rattle.block.specs.Blocks.{Block, size, sizeAt, start}
 use Rattle.block.specs.SetUp.{fitting}
 use Rattle.block.specs.Map.{live, freedMap, deliveredMap}
 use Rattle.block.proofs.Size.{size-pos}
@@ -29,7 +29,7 @@ use Rattle.machine.proofs.Live.{live-fits}
 use Rattle.machine.proofs.Placed.{length-store}
 use Rattle.machine.proofs.Moves.{Still, Frees, Delivers, Moves, still, frees, delivers}
 use Rattle.machine.proofs.Keeps.{stores-only, not-zeroed, delivery-fits, delivered-long, copied-long, delivery-storage}
-use Rattle.book.specs.Book.{Book, start, enterSetUp, enterFreed, enterDelivered, enterCopied, enterStore, enter}
+use Rattle.book.specs.Book.{Book, enterSetUp, enterFreed, enterDelivered, enterCopied, enterStore, enter}
 use Rattle.book.proofs.Lists.{inserted-new, inserted-old, inserted-cases, without-other}
 use Rattle.book.proofs.Moved.{isLive, freed-fits, freed-some, gone-live, new-live}
 use Rattle.book.proofs.Matches.{Matches, matches-store, matches-freed, matches-delivered, matches-copied}

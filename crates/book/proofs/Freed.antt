@@ -10,7 +10,7 @@ use native.Mathlib.Omega.{arith}
 use lib.Dec.{ltb}
 use lib.ListN.{length}
 use borrow.Author.Tests.{eq-eqb}
-use Rattle.block.specs.Blocks.{size, Block, Tree, Free, Live, Halves, joined, liveIn, freeIn, freed, gathered, changed, sizeAt}
+use Rattle.block.specs.Blocks.{size, Block, Tree, Free, Live, Halves, joined, liveIn, freeIn, freed, gathered, changed, sizeAt, start, inserted}
 use Rattle.block.specs.Map.{canonical, allCanonical}
 use Rattle.word.proofs.Tests.{and-true}
 use Rattle.block.proofs.Size.{size-suc, aligned-smaller}
@@ -18,11 +18,11 @@ use Rattle.block.proofs.Map.{canonical-halves}
 use Rattle.block.proofs.Change.{freed-canonical, changed-canonical}
 use Rattle.block.proofs.Each.{each-mem}
 use Rattle.block.proofs.Tiling.{lies-pos, order-each, forest-order, sizeAt-mem}
-use Rattle.book.specs.Book.{start, inserted, without, times, halves, joinedOnce}
+use Rattle.block.proofs.Local.{Local, local-inserted, narrows-member, Reads, live-reads, free-reads, Here, tree-local, forest-local}
+use Rattle.book.specs.Book.{without, times, halves, joinedOnce}
 use Rattle.book.proofs.Apart.{Separate, facts-halves, refuted, separate-after, halves-meet, tree-separate, later-separate}
 use Rattle.book.proofs.Apart.{forest-separate}
-use Rattle.book.proofs.Local.{Local, times-fixed, local-without, local-inserted, narrows-member, Reads, live-reads}
-use Rattle.book.proofs.Local.{free-reads, Here, tree-local, forest-local}
+use Rattle.book.proofs.Local.{times-fixed, local-without}
 
 -- the live block around address a becomes free, and nothing is rejoined
 emptied : ℕ → ℕ → ℕ → Tree → Tree

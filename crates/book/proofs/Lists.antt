@@ -7,11 +7,11 @@ use mathlib.Core.List.{List, [], _∷_, map, List·Memᴰ, List·Memᴰ·head, L
 use mathlib.Core.Logic.{_⊎_, inl, inr, ⊎-elim}
 use mathlib.Core.Path.{_≡_, refl, ap, sym, _∙_}
 use lib.Dec.{eqb, leb}
-use Rattle.block.specs.Blocks.{Block}
+use Rattle.block.specs.Blocks.{Block, start, inserted}
 use Rattle.word.proofs.Tests.{by-eqb}
 use Rattle.block.proofs.Each.{Each, each-nil, each-cons, each-mem, mem-each}
 use Rattle.block.proofs.Tiling.{InOrder, order-nil, order-cons, order-each, lies-pos}
-use Rattle.book.specs.Book.{LiveBlock, start, liveStart, inserted, without, blocks}
+use Rattle.book.specs.Book.{LiveBlock, liveStart, without, blocks}
 
 module _ {A : Type 0} (key : A → ℕ) where
   -- a fact of each, with one more and with one less

@@ -7,21 +7,21 @@ use mathlib.Core.List.{List, [], _++_, append-nil, List·Memᴰ}
 use mathlib.Core.Path.{_≡_, ap, subst, _∙_}
 use lib.ListN.{length, replicate}
 use Rattle.block.specs.declared.SetUp.{SetUp}
-use Rattle.block.specs.Blocks.{Block, Free, size, liveIn, freeIn, gathered, sizeAt, outside}
+use Rattle.block.specs.Blocks.{Block, Free, size, liveIn, freeIn, gathered, sizeAt, start, inserted}
 use Rattle.block.specs.SetUp.{top, words, fitting, runs}
 use Rattle.block.specs.Map.{allCanonical, trees, keeps, live, free, freshMap, freedMap, deliveredMap}
 use Rattle.block.specs.Extension.{extendedTo, extending, extendedMap}
-use Rattle.block.proofs.Size.{size-pos, size-mono, fitting-facts, aligned-smaller}
+use Rattle.block.proofs.Size.{size-mono, fitting-facts}
 use Rattle.block.proofs.Map.{keeps-parts, trees-fill}
 use Rattle.block.proofs.Change.{words-whole, fresh-tells, keeps-freed, keeps-delivered}
 use Rattle.block.proofs.Extension.{gathered-append, first-added, extended-tells}
 use Rattle.block.proofs.Each.{each-mem}
 use Rattle.block.proofs.Tiling.{map-each, map-tiles, tiles-once}
-use Rattle.block.proofs.Runs.{runs-sound, runs-aligned}
-use Rattle.book.specs.Book.{start, inserted, without, times, blocksFrom, halves, joinedOnce, halvedOnce}
+use Rattle.block.proofs.Delivered.{map-room}
+use Rattle.book.specs.Book.{without, times, blocksFrom, halves, joinedOnce, halvedOnce}
 use Rattle.book.specs.Claim.{Tiled}
 use Rattle.book.proofs.Apart.{apart, fresh-blocks, covering-same}
-use Rattle.book.proofs.Delivered.{delivered-live, delivered-free}
+use Rattle.book.proofs.Delivered.{delivered-free}
 use Rattle.book.proofs.Freed.{freed-live, freed-free}
 
 module _ (lent : ℕ) (u : SetUp) (fits : fitting lent u ≡ true) where
@@ -67,27 +67,14 @@ module _ (lent : ℕ) (u : SetUp) (fits : fitting lent u ≡ true) where
           rw (keeps-freed lent u fits m kept a .tells)
           (freed-free a k (u .s1) (trees u m) first-aligned canonical-trees isLive ∙ ap (λ d. times (length more) (joinedOnce d) more) largest)
 
-    -- after a delivery
-    module _ (j a : ℕ) (fitsIn : j ≤ k) (run : List·Memᴰ a (runs (size j) u (live u m))) where
-      run-facts : (u .s1 ≤ a) × (a + size j ≤ u .s1 + length (trees u m) * size k) × (outside a (size j) (live u m) ≡ true) × (a % size j ≡ 0)
-      run-facts =
-          let (first, last, out, _) = runs-sound (size j) u (live u m) (size-pos j) run in
-          (first, rw fill last, out, runs-aligned (size j) u (live u m) (size-pos j) (aligned-smaller fitsIn (u .s1) first-aligned) run)
-
-      pub delivered-live-map : live u (deliveredMap j a u m) ≡ inserted start (record { address = a; size = size j }) (live u m)
-      unfolding live
-      delivered-live-map =
-          let (first, last, out, aligned) = run-facts in
-          rw (keeps-delivered lent u fits m kept j a .tells)
-          (delivered-live j a k (u .s1) (trees u m) first-aligned canonical-trees fitsIn aligned first last out)
-
-      pub delivered-free-map : free u (deliveredMap j a u m) ≡ without start a (times (u .d) (halvedOnce a (size j)) (free u m))
-      unfolding live free
-      delivered-free-map =
-          let (first, last, out, aligned) = run-facts in
-          rw (keeps-delivered lent u fits m kept j a .tells)
-          (delivered-free j a k (u .s1) (trees u m) first-aligned canonical-trees fitsIn aligned first last out
-          ∙ ap (λ d. without start a (times d (halvedOnce a (size j)) (gathered (freeIn k) k (u .s1) (trees u m)))) largest)
+    -- after a delivery; the live ones are so by block/proofs/Delivered
+    pub delivered-free-map : (j a : ℕ) → j ≤ k → List·Memᴰ a (runs (size j) u (live u m))
+        → free u (deliveredMap j a u m) ≡ without start a (times (u .d) (halvedOnce a (size j)) (free u m))
+    unfolding free
+    delivered-free-map j a small run =
+        rw (keeps-delivered lent u fits m kept j a .tells)
+        (delivered-free j a k (u .s1) (trees u m) (map-room lent u fits m kept j a small run)
+        ∙ ap (λ d. without start a (times d (halvedOnce a (size j)) (gathered (freeIn k) k (u .s1) (trees u m)))) largest)
 
     -- after an extension
     module _ (last : ℕ) (taken : extending lent last u ≡ true) where

@@ -11,7 +11,7 @@ use lib.Dec.{eqb}
 use lib.ListN.{length, set, take, drop, replicate, length-replicate, length-take, length-drop}
 use Rattle.word.specs.Field.{stored}
 use Rattle.block.specs.declared.SetUp.{SetUp}
-use Rattle.block.specs.Blocks.{Block, size, sizeAt}
+use Rattle.block.specs.Blocks.{Block, size, sizeAt, start, inserted}
 use Rattle.block.specs.SetUp.{top, words, fitting, runs}
 use Rattle.block.specs.Map.{live, free, keeps, freshMap, freedMap, deliveredMap}
 use Rattle.block.specs.Extension.{extendedTo, extending, extendedMap}
@@ -21,15 +21,16 @@ use Rattle.block.proofs.Extension.{extending-facts, extended-words}
 use Rattle.block.proofs.Each.{Each, each-nil, each-map, each-mem, mem-each}
 use Rattle.block.proofs.Tiling.{Lies, map-order, order-each, order-sizeAt}
 use Rattle.block.proofs.Runs.{runs-sound, outside-each}
+use Rattle.block.proofs.Delivered.{delivered-live-map}
 use Rattle.machine.specs.declared.Store.{Store}
 use Rattle.machine.specs.declared.Report.{Report}
 use Rattle.machine.specs.Storage.{wordAt, placed, withStore, withDelivery, withCopy}
 use Rattle.machine.proofs.Located.{StoreFacts, nowhere, inBlock}
-use Rattle.book.specs.Book.{Book, LiveBlock, start, liveStart, inserted, without, times, joinedOnce, halvedOnce, blocks}
+use Rattle.book.specs.Book.{Book, LiveBlock, liveStart, without, times, joinedOnce, halvedOnce, blocks}
 use Rattle.book.specs.Book.{noBits, bitsAt, storedBits, enterSetUp, enterExtension, enterFreed, enterDelivered, enterCopied}
 use Rattle.book.specs.Book.{enterStore}
 use Rattle.book.proofs.Maps.{fresh-live, fresh-free, extended-live-map, extended-free-map, freed-live-map, freed-free-map}
-use Rattle.book.proofs.Maps.{delivered-live-map, delivered-free-map}
+use Rattle.book.proofs.Maps.{delivered-free-map}
 use Rattle.book.proofs.Lists.{each-inserted, each-without, each-blocks, each-both, each-changed, blocks-inserted}
 use Rattle.book.proofs.Lists.{blocks-without}
 use Rattle.book.proofs.Bits.{BlockBits, store-bits, placed-other, zero-bits, copy-bits}

@@ -7,11 +7,12 @@ use mathlib.Core.List.{List, List·Memᴰ}
 use mathlib.Core.Path.{_≡_, ap, sym, _∙_}
 use lib.ListN.{length}
 use Rattle.block.specs.declared.SetUp.{SetUp}
-use Rattle.block.specs.Blocks.{sizeAt}
+use Rattle.block.specs.Blocks.{sizeAt, start, inserted}
 use Rattle.block.specs.SetUp.{fitting}
 use Rattle.block.specs.Map.{live, freedMap, deliveredMap}
 use Rattle.block.proofs.Size.{fitting-facts}
 use Rattle.block.proofs.Tiling.{sizeAt-mem}
+use Rattle.block.proofs.Delivered.{delivered-live-map}
 use Rattle.machine.specs.declared.Report.{Report}
 use Rattle.machine.specs.Sound.{Engine}
 use Rattle.machine.specs.Effects.{Effects}
@@ -20,8 +21,8 @@ use Rattle.machine.proofs.Facts.{Facts}
 use Rattle.machine.proofs.Live.{live-fits, live-lies}
 use Rattle.machine.proofs.Moves.{Frees, Delivers}
 use Rattle.machine.proofs.Keeps.{delivery-fits}
-use Rattle.book.specs.Book.{start, inserted, without}
-use Rattle.book.proofs.Maps.{freed-live-map, delivered-live-map}
+use Rattle.book.specs.Book.{without}
+use Rattle.book.proofs.Maps.{freed-live-map}
 
 module _ (b : ℕ) (e : Engine) (h : Facts b e) (x : Effects) where
   abbrev u : SetUp

@@ -5,9 +5,9 @@ use native.Mathlib.Omega.{arith}
 use mathlib.Core.List.{List, [], _∷_, List·Memᴰ, Memᴰ·cast}
 use mathlib.Core.Logic.{_⊎_, inl, inr, _↔_, ⊎-elim}
 use mathlib.Core.Path.{_≡_, ap, sym, _∙_}
-use Rattle.block.specs.Blocks.{Block}
+use Rattle.block.specs.Blocks.{Block, start, inserted}
 use Rattle.block.proofs.Tiling.{InOrder}
-use Rattle.book.specs.Book.{start, inserted, without}
+use Rattle.book.specs.Book.{without}
 use Rattle.book.specs.Steps.{Event, reportOf, LiveBy, delivered, still}
 use Rattle.book.proofs.Lists.{inserted-new, inserted-old, inserted-cases, without-other, without-old, without-gone}
 

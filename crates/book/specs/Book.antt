@@ -8,7 +8,7 @@ use mathlib.Core.List.{List, [], _∷_, _++_, map}
 use lib.Dec.{eqb, leb, ltb}
 use lib.ListN.{length}
 use Rattle.block.specs.declared.SetUp.{SetUp}
-use Rattle.block.specs.Blocks.{Block, sizeAt}
+use Rattle.block.specs.Blocks.{Block, sizeAt, start, inserted}
 use Rattle.block.specs.SetUp.{words}
 use Rattle.block.specs.Extension.{extendedTo}
 use Rattle.machine.specs.declared.Store.{Store}
@@ -29,17 +29,9 @@ pub record Book : Type 0 where
 unfoldable pub emptyBook : Book
 emptyBook = record { setup = noSetUp; live = []; free = [] }
 
--- the addresses by which blocks, and live blocks, are in order
-unfoldable pub start : Block → ℕ
-start x = x .address
-
+-- the address by which live blocks are in order
 unfoldable pub liveStart : LiveBlock → ℕ
 liveStart x = x .block .address
-
--- one more, at its place in the order
-unfoldable pub inserted : {A : Type 0} → (A → ℕ) → A → List A → List A
-inserted key x [] = x ∷ []
-inserted key x (y ∷ ys) = cond (leb (key x) (key y)) (x ∷ y ∷ ys) (y ∷ inserted key x ys)
 
 -- less the one at address a
 unfoldable pub without : {A : Type 0} → (A → ℕ) → ℕ → List A → List A

@@ -1,25 +1,21 @@
 -- Reading through a delivery that is still to be carried out gives what stands there after it. Assumes nothing.
-use Prim.Native.Nat.{ℕ, _+_, _-_, _%_, _^_, _≤_, _<_}
+use Prim.Native.Nat.{ℕ, _+_, _-_, _≤_, _<_}
 use native.Mathlib.Omega.{arith}
-use mathlib.Core.Bool.{true, cond}
-use mathlib.Core.List.{List, [], _∷_}
+use mathlib.Core.Bool.{cond}
+use mathlib.Core.List.{List}
 use mathlib.Core.Logic.{_⊎_, inl, inr}
 use mathlib.Core.Path.{_≡_, refl, sym, ap, subst, _∙_}
-use lib.Dec.{eqb, leb, ltb}
-use lib.ListN.{length, getD, set, replicate, length-replicate, getD-replicate}
+use lib.Dec.{eqb}
+use lib.ListN.{length, getD, replicate, length-replicate, getD-replicate}
 use lib.Seq.{getD-set-same, getD-set-other}
-use borrow.Author.Tests.{eq-eqb, ne-eqb}
-use Rattle.word.proofs.Tests.{by-leb, by-eqb}
 use Rattle.word.specs.Field.{stored}
-use Rattle.block.specs.declared.SetUp.{SetUp}
-use Rattle.block.specs.Blocks.{Block, size, level, sizeAt}
-use Rattle.block.specs.SetUp.{top, words}
+use Rattle.block.specs.Blocks.{size, level, sizeAt}
+use Rattle.block.specs.SetUp.{top}
 use Rattle.block.specs.Map.{live, deliveredMap}
 use Rattle.block.proofs.Size.{level-size, size-pos, fitting-facts}
 use Rattle.block.proofs.Runs.{runs-sound}
 use Rattle.block.proofs.Change.{keeps-delivered}
-use Rattle.book.specs.Book.{start, inserted}
-use Rattle.book.proofs.Maps.{delivered-live-map}
+use Rattle.block.proofs.Delivered.{delivered-size}
 use Rattle.table.specs.declared.BugLetter.{BugLetter}
 use Rattle.table.specs.declared.FieldName.{FieldName}
 use Rattle.machine.specs.declared.Definition.{Definition}
@@ -83,20 +79,6 @@ module _ (b s1 v : ℕ) (ws : List ℕ) {at : Location} (address word : ℕ) (is
     word-other other low above =
         rw (e, is) (sym (getD-set-other ws (there - s1) (address - s1) _ 0 (λ z. other (omega arith))))
 
--- the size of a block in a list with one block more
-size-inserted : (a n p : ℕ) (xs : List Block) → sizeAt p (inserted start (record { address = a; size = n }) xs) ≡ cond (eqb a p) n (sizeAt p xs)
-unfolding sizeAt inserted start
-size-inserted a n p [] = refl
-size-inserted a n p (y ∷ ys) =
-    by-leb (λ t. sizeAt p (cond t (record { address = a; size = n } ∷ y ∷ ys) (y ∷ inserted start (record { address = a; size = n }) ys))
-    ≡ cond (eqb a p) n (cond (eqb (y .address) p) (y .size) (sizeAt p ys))) a (y .address)
-    (λ low. refl)
-    (λ high. by-eqb (λ t. cond t (y .size) (sizeAt p (inserted start (record { address = a; size = n }) ys))
-    ≡ cond (eqb a p) n (cond t (y .size) (sizeAt p ys)))
-    (y .address) p
-    (λ here. rw (ne-eqb a p (λ z. absurd (omega arith))))
-    (λ other. size-inserted a n p ys))
-
 -- what a delivery that can be carried out gives
 module _ (b : ℕ) (w : World) (h : Readable b w) (address n : ℕ) (at : Location) (d : Deliverable b w address n at) where
   level-is : level (top (w .setup .d)) n ≡ d .place
@@ -114,13 +96,8 @@ module _ (b : ℕ) (w : World) (h : Readable b w) (address n : ℕ) (at : Locati
   pub size-delivered : (p : ℕ) → sizeAt p (live (w .setup) (deliveredMap (level (top (w .setup .d)) n) address (w .setup) (w .map)))
       ≡ cond (eqb address p) n (sizeAt p (live (w .setup) (w .map)))
   size-delivered p =
-      rw (
-        level-is,
-        delivered-live-map (length (w .storage)) (w .setup) (d .fits) (w .map) (h .kept) (d .place) address (d .low)
-            (rw (d .isSize) at (d .isRun)),
-        ← (d .isSize),
-      )
-      (size-inserted address n p (live (w .setup) (w .map)))
+      rw (level-is, d .isSize)
+      (delivered-size (length (w .storage)) (w .setup) (d .fits) (w .map) (h .kept) (d .place) address (d .low) (rw (d .isSize) at (d .isRun)) p)
 
   length-after : length (wordsStored b (w .setup .s1) at address (placed (address - w .setup .s1) (replicate n 0) (w .storage))) ≡ length (w .storage)
   length-after = length-words b _ at address _ ∙ length-delivered _ address n (w .storage) delivery-low delivery-lies 0
