@@ -1,17 +1,16 @@
 -- The live and the free blocks of canonical trees tile their words: each block lies in them, aligned and of a size up to the largest,
 -- each word lies in just one, and blocks stand in the order of their addresses. Assumes nothing.
 use mathlib.Core.Path.{_≡_, refl, sym, _∙_}
-use mathlib.Core.Bool.{Bool, true, false, _&&_, cond, false≢true}
+use mathlib.Core.Bool.{true, false, cond, false≢true}
 use mathlib.Core.List.{List, [], _∷_, _++_, List·Memᴰ, List·Memᴰ·head, List·Memᴰ·tail}
 use mathlib.Core.Logic.{_⊎_, inl, inr}
 use Prim.Native.Nat.{ℕ, zero, suc, _+_, _*_, _%_, _≤_, _<_}
 use native.Mathlib.Nat.{le-refl, le-trans, le-add-right, le-suc, add-mod-right}
 use native.Mathlib.Omega.{arith}
-use lib.Dec.{leb, ltb}
 use lib.ListN.{length}
 use borrow.Author.Tests.{lt-ltb, le-ltb, le-leb, lt-leb, eq-eqb, ne-eqb}
 use Rattle.block.specs.declared.SetUp.{SetUp}
-use Rattle.block.specs.Blocks.{size, Block, Tree, Free, Live, Halves, liveIn, freeIn, gathered, sizeAt}
+use Rattle.block.specs.Blocks.{size, Block, Tree, Free, Live, Halves, liveIn, freeIn, gathered, sizeAt, around, covering}
 use Rattle.block.specs.SetUp.{top, words, fitting}
 use Rattle.block.specs.Map.{canonical, allCanonical, trees, keeps, live, free}
 use Rattle.word.proofs.Tests.{and-true, by-leb, by-eqb}
@@ -113,15 +112,6 @@ tree-each k at t h = orders-each (tree-order k at t h)
 pub forest-each : (k at : ℕ) (ts : List Tree) → at % size k ≡ 0
     → Each (Lies k at (at + length ts * size k)) (gathered (liveIn k) k at ts ++ gathered (freeIn k) k at ts)
 forest-each k at ts h = orders-each (forest-order k at ts h)
-
--- the address lies in the block
-unfoldable pub around : ℕ → Block → Bool
-around a x = leb (x .address) a && ltb a (x .address + x .size)
-
--- how many of these blocks a word lies in
-unfoldable pub covering : ℕ → List Block → ℕ
-covering w [] = 0
-covering w (x ∷ xs) = cond (around w x) (suc (covering w xs)) (covering w xs)
 
 module _ (w : ℕ) where
   -- in those of two lists together

@@ -90,6 +90,15 @@ unfoldable pub inserted : {A : Type 0} → (A → ℕ) → A → List A → List
 inserted key x [] = x ∷ []
 inserted key x (y ∷ ys) = cond (leb (key x) (key y)) (x ∷ y ∷ ys) (y ∷ inserted key x ys)
 
+-- the address lies in the block: "The book", the free block around the new one
+unfoldable pub around : ℕ → Block → Bool
+around a x = leb (x .address) a && ltb a (x .address + x .size)
+
+-- how many of these blocks a word lies in: "Blocks", that they tile
+unfoldable pub covering : ℕ → List Block → ℕ
+covering w [] = 0
+covering w (x ∷ xs) = cond (around w x) (suc (covering w xs)) (covering w xs)
+
 -- the words from a to before a + n lie outside these blocks
 unfoldable pub outside : ℕ → ℕ → List Block → Bool
 outside a n [] = true

@@ -1,5 +1,5 @@
 -- The free blocks of canonical trees: no two are the halves of one block, and those of a fresh set-up are the ones that the book enters.
--- Words are covered as the claim counts them. Assumes nothing.
+-- Assumes nothing.
 use mathlib.Core.Path.{_≡_, refl, sym, ap, _∙_}
 use mathlib.Core.Bool.{Bool, true, false}
 use mathlib.Core.List.{List, [], _∷_, _++_, List·Memᴰ, List·Memᴰ·not-nil, List·Memᴰ·append-cases, List·Memᴰ·eq-of-singleton}
@@ -17,19 +17,7 @@ use Rattle.block.proofs.Size.{size-pos, size-suc, size-mono, aligned-smaller, o
 use Rattle.block.proofs.Map.{canonical-halves, both-free}
 use Rattle.block.proofs.Each.{each-mem}
 use Rattle.block.proofs.Tiling.{Lies, lies-pos, InOrder, order-each, tree-order, forest-order}
-use Rattle.book.specs.Book.{blocksFrom, halves, around}
-use Rattle.book.specs.Claim.{covering}
-
--- an address lies in a block for the book as for the laws of trees
-pub around-same : (a : ℕ) (x : Block) → around a x ≡ Rattle.block.proofs.Tiling.around a x
-unfolding around Rattle.block.proofs.Tiling.around
-around-same a x = refl
-
--- the claim counts the blocks that a word lies in as the laws of trees do
-pub covering-same : (w : ℕ) (xs : List Block) → covering w xs ≡ Rattle.block.proofs.Tiling.covering w xs
-unfolding covering Rattle.block.proofs.Tiling.covering
-covering-same w [] = refl
-covering-same w (x ∷ xs) = rw (around-same w x, covering-same w xs)
+use Rattle.book.specs.Book.{blocksFrom, halves}
 
 -- a fresh set-up's free blocks are those that the book enters, and none is live
 pub fresh-blocks : (k at n : ℕ) → (gathered (freeIn k) k at (replicate n Free) ≡ blocksFrom (size k) at n)

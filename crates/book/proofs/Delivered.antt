@@ -5,12 +5,12 @@ use Prim.Native.Nat.{ℕ, zero, suc, _+_, _/_, _≤_, _<_}
 use native.Mathlib.Nat.{le-refl}
 use native.Mathlib.Omega.{arith}
 use borrow.Author.Tests.{lt-ltb, le-ltb, le-leb, eq-eqb}
-use Rattle.block.specs.Blocks.{size, Block, Tree, Free, Live, Halves, freeIn, delivered, gathered, changed, start}
+use Rattle.block.specs.Blocks.{size, Block, Tree, Free, Live, Halves, freeIn, delivered, gathered, changed, start, around}
 use Rattle.word.proofs.Tests.{either-way}
 use Rattle.block.proofs.Size.{size-suc, size-pos, size-mono}
 use Rattle.block.proofs.Local.{free-reads}
 use Rattle.block.proofs.Delivered.{Room, forest-delivered}
-use Rattle.book.specs.Book.{without, times, around, lower, upper, halvedOnce}
+use Rattle.book.specs.Book.{without, times, lower, upper, halvedOnce}
 use Rattle.book.proofs.Local.{local-after, local-times, times-fixed, local-without, local-halved}
 
 -- a block no larger than wanted is not halved

@@ -7,9 +7,9 @@ use native.Mathlib.Omega.{arith}
 use lib.Dec.{eqb, leb, ltb}
 use borrow.Author.Tests.{lt-leb, le-ltb, ne-eqb}
 use Rattle.word.proofs.Tests.{and-false}
-use Rattle.block.specs.Blocks.{Block, start}
+use Rattle.block.specs.Blocks.{Block, start, around}
 use Rattle.block.proofs.Local.{Local, local-search}
-use Rattle.book.specs.Book.{without, times, around, lower, upper, halvedOnce}
+use Rattle.book.specs.Book.{without, times, lower, upper, halvedOnce}
 
 -- one after the other
 pub local-after : {a : ℕ} {f g : List Block → List Block} → Local a f → Local a g → Local a (λ xs. f (g xs))

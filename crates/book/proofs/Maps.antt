@@ -20,7 +20,7 @@ use Rattle.block.proofs.Tiling.{map-each, map-tiles, tiles-once}
 use Rattle.block.proofs.Delivered.{map-room}
 use Rattle.book.specs.Book.{without, times, blocksFrom, halves, joinedOnce, halvedOnce}
 use Rattle.book.specs.Claim.{Tiled}
-use Rattle.book.proofs.Apart.{apart, fresh-blocks, covering-same}
+use Rattle.book.proofs.Apart.{apart, fresh-blocks}
 use Rattle.book.proofs.Delivered.{delivered-free}
 use Rattle.book.proofs.Freed.{freed-live, freed-free}
 
@@ -110,7 +110,7 @@ module _ (lent : ℕ) (u : SetUp) (fits : fitting lent u ≡ true) where
     tiled =
         let lies = map-each lent u fits m in
         record {
-          once = λ w low high. covering-same w _ ∙ tiles-once (map-tiles lent u fits m kept) w low high;
+          once = λ w low high. tiles-once (map-tiles lent u fits m kept) w low high;
           inside = λ x n. let l = each-mem lies n in (l .first, l .last);
           aligned = λ x n. each-mem lies n .aligned;
           sizes = λ x n. let (j, low, same) = each-mem lies n .place in ((j, same), rw same (subst (λ d. size j ≤ d) largest (size-mono low)));

@@ -8,7 +8,7 @@ use mathlib.Core.List.{List, [], _∷_, _++_, map}
 use lib.Dec.{eqb, leb, ltb}
 use lib.ListN.{length}
 use Rattle.block.specs.declared.SetUp.{SetUp}
-use Rattle.block.specs.Blocks.{Block, sizeAt, start, inserted}
+use Rattle.block.specs.Blocks.{Block, sizeAt, start, inserted, around}
 use Rattle.block.specs.SetUp.{words}
 use Rattle.block.specs.Extension.{extendedTo}
 use Rattle.machine.specs.declared.Store.{Store}
@@ -33,7 +33,7 @@ emptyBook = record { setup = noSetUp; live = []; free = [] }
 unfoldable pub liveStart : LiveBlock → ℕ
 liveStart x = x .block .address
 
--- less the one at address a
+-- a list less the one at address a
 unfoldable pub without : {A : Type 0} → (A → ℕ) → ℕ → List A → List A
 without key a [] = []
 without key a (y ∷ ys) = cond (eqb (key y) a) ys (y ∷ without key a ys)
@@ -62,10 +62,6 @@ joinedOnce d [] = []
 joinedOnce d (x ∷ []) = x ∷ []
 joinedOnce d (x ∷ y ∷ ys) =
     cond (halves d x y) (record { address = x .address; size = x .size + x .size } ∷ ys) (x ∷ joinedOnce d (y ∷ ys))
-
--- the address lies in the block
-unfoldable pub around : ℕ → Block → Bool
-around a x = leb (x .address) a && ltb a (x .address + x .size)
 
 -- the lower and the upper half of a block
 unfoldable pub lower : Block → Block

@@ -1,14 +1,14 @@
 -- The claim of demand 3 about a whole list of events, part by part.
 -- The set-up words are the book's: those of the set-up and of all extensions so far, and 17 is judged against those of its moment.
 -- Document 01: demand 3, "Blocks" and "The book"; document 02, ticket 11. Assumes nothing.
-use Prim.Native.Nat.{ℕ, suc, _+_, _%_, _≤_, _<_}
-use mathlib.Core.Bool.{true, false, cond}
+use Prim.Native.Nat.{ℕ, _+_, _%_, _≤_, _<_}
+use mathlib.Core.Bool.{true, false}
 use mathlib.Core.List.{List, [], _∷_, _++_, List·Memᴰ}
 use mathlib.Core.Path.{_≡_}
 use mathlib.Core.Logic.{_↔_, _⊎_}
 use Rattle.word.specs.Word.{bit}
 use Rattle.block.specs.declared.SetUp.{SetUp}
-use Rattle.block.specs.Blocks.{size, Block}
+use Rattle.block.specs.Blocks.{size, Block, covering}
 use Rattle.block.specs.SetUp.{words}
 use Rattle.block.specs.Map.{free}
 use Rattle.table.specs.Row.{lengthFits, rowAt}
@@ -22,17 +22,12 @@ use Rattle.machine.specs.Sound.{Lent, Engine, sound}
 use Rattle.machine.specs.Locate.{liveBlocks}
 use Rattle.machine.specs.Operations.{Wanted, getWants, duplicateWants}
 use Rattle.machine.specs.Step.{given}
-use Rattle.book.specs.Book.{LiveBlock, blocks, halves, around}
+use Rattle.book.specs.Book.{LiveBlock, blocks, halves}
 use Rattle.book.specs.Steps.{Event, stepped, extended, Leads, LiveBy, bookAfter}
 
 infix 30 _∈_
 abbrev pub _∈_ : {A : Type 0} → A → List A → Type 0
 x ∈ xs = List·Memᴰ x xs
-
--- how many of these blocks a word lies in
-unfoldable pub covering : ℕ → List Block → ℕ
-covering w [] = 0
-covering w (x ∷ xs) = cond (around w x) (suc (covering w xs)) (covering w xs)
 
 -- live and free blocks tile the set-up words
 pub record Tiled (u : SetUp) (live free : List Block) : Type 0 where
