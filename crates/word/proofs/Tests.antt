@@ -1,9 +1,10 @@
--- How a proof uses a test: by cases, with the fact that each case says, and a conjunction that holds by its parts. Assumes nothing.
-use mathlib.Core.Path.{_≡_, refl}
-use mathlib.Core.Bool.{Bool, true, false, _&&_, cond}
+-- How a proof uses a test: by cases, with the fact that each case says, a conjunction that holds by its parts, and a call's answer by its
+-- contract and the branch taken. Assumes nothing.
+use mathlib.Core.Path.{_≡_, refl, sym, _∙_}
+use mathlib.Core.Bool.{Bool, true, false, not, _&&_, cond}
 use Prim.Native.Nat.{ℕ, _≤_, _<_}
 use lib.Dec.{eqb, leb}
-use borrow.Author.Tests.{leb-true, leb-false, eqb-true, eqb-false}
+use borrow.Author.Tests.{not-true, not-false, leb-true, leb-false, eqb-true, eqb-false}
 
 -- both tests of a conjunction that holds
 pub and-true : (s t : Bool) → (s && t) ≡ true → (s ≡ true) × (t ≡ true)
@@ -19,6 +20,14 @@ and-false false = refl
 pub either-way : {A : Type 0} (P : A → Type 0) (t : Bool) {x y : A} → P x → P y → P (cond t x y)
 either-way P true h l = h
 either-way P false h l = l
+
+-- a call answers t, which its contract says is the test s; the branch past `if !t` tells that s holds, the branch into it that s fails
+module _ {t s : Bool} (is : t ≡ s) where
+  pub known-true : not t ≡ false → s ≡ true
+  known-true left = sym is ∙ not-false t left
+
+  pub known-false : not t ≡ true → s ≡ false
+  known-false taken = sym is ∙ not-true t taken
 
 module _ (P : Bool → Type 0) where
   -- the cases of a test, each with the equation

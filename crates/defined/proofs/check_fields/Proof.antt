@@ -1,6 +1,6 @@
 -- `defined::check_fields` meets its contract: check by check. Assumes nothing.
 use mathlib.Core.Path.{sym, _∙_}
-use borrow.Author.Tests.{not-true, not-false}
+use Rattle.word.proofs.Tests.{known-true, known-false}
 use Rattle.defined.proofs.Answering.{no-width, bad-length, ill-formed, wrong-kind, accepted, answers-no, answers-yes}
 use Rattle.defined.proofs.Answering.{promised}
 use borrow.Author.Needs.{needs}
@@ -11,7 +11,7 @@ is-width-requires : tie.Need-is-width-requires
 is-width-requires c κs = search needs
 
 returns : tie.Need-returns
-returns c = promised _ _ (no-width _ _ (sym (c .before .is-width .ensures) ∙ not-true _ (c .if1 .taken)))
+returns c = promised _ _ (no-width _ _ (known-false (c .before .is-width .ensures) (c .if1 .taken)))
 
 has-length-requires : tie.Need-has-length-requires
 has-length-requires c κs = search needs
@@ -19,8 +19,8 @@ has-length-requires c κs = search needs
 returns-2 : tie.Need-returns-2
 returns-2 c =
     let at-if1 = c .before .before in
-    let wide = sym (at-if1 .before .is-width .ensures) ∙ not-false _ (at-if1 .if1 .left) in
-    promised _ _ (bad-length _ _ wide (sym (c .before .has-length .ensures) ∙ not-true _ (c .if2 .taken)))
+    let wide = known-true (at-if1 .before .is-width .ensures) (at-if1 .if1 .left) in
+    promised _ _ (bad-length _ _ wide (known-false (c .before .has-length .ensures) (c .if2 .taken)))
 
 lowest-ill-formed-requires : tie.Need-lowest-ill-formed-requires
 lowest-ill-formed-requires c κs = search needs
@@ -29,20 +29,20 @@ returns-3 : tie.Need-returns-3
 returns-3 c =
     let at-if2 = c .before .before in
     let at-if1 = at-if2 .before .before in
-    let wide = sym (at-if1 .before .is-width .ensures) ∙ not-false _ (at-if1 .if1 .left) in
-    let long = sym (at-if2 .before .has-length .ensures) ∙ not-false _ (at-if2 .if2 .left) in
+    let wide = known-true (at-if1 .before .is-width .ensures) (at-if1 .if1 .left) in
+    let long = known-true (at-if2 .before .has-length .ensures) (at-if2 .if2 .left) in
     promised _ _ (ill-formed _ _ wide long (c .before .lowest-ill-formed .ensures) (c .if3 .taken))
 
 wrong-row-requires : tie.Need-wrong-row-requires
-wrong-row-requires c κs = let at-if2 = c .before .before in sym (at-if2 .before .has-length .ensures) ∙ not-false _ (at-if2 .if2 .left)
+wrong-row-requires c κs = let at-if2 = c .before .before in known-true (at-if2 .before .has-length .ensures) (at-if2 .if2 .left)
 
 returns-4 : tie.Need-returns-4
 returns-4 c =
     let at-if3 = c .before .before in
     let at-if2 = at-if3 .before .before in
     let at-if1 = at-if2 .before .before in
-    let wide = sym (at-if1 .before .is-width .ensures) ∙ not-false _ (at-if1 .if1 .left) in
-    let long = sym (at-if2 .before .has-length .ensures) ∙ not-false _ (at-if2 .if2 .left) in
+    let wide = known-true (at-if1 .before .is-width .ensures) (at-if1 .if1 .left) in
+    let long = known-true (at-if2 .before .has-length .ensures) (at-if2 .if2 .left) in
     promised _ _ (wrong-kind _ _ wide long (at-if3 .before .lowest-ill-formed .ensures) (at-if3 .if3 .left) (c .before .wrong-row .ensures) (c .if4 .taken))
 
 first-use-requires : tie.Need-first-use-requires
@@ -50,8 +50,8 @@ first-use-requires c κs =
     let at-if3 = c .before .before in
     let at-if2 = at-if3 .before .before in
     let at-if1 = at-if2 .before .before in
-    let wide = sym (at-if1 .before .is-width .ensures) ∙ not-false _ (at-if1 .if1 .left) in
-    let long = sym (at-if2 .before .has-length .ensures) ∙ not-false _ (at-if2 .if2 .left) in
+    let wide = known-true (at-if1 .before .is-width .ensures) (at-if1 .if1 .left) in
+    let long = known-true (at-if2 .before .has-length .ensures) (at-if2 .if2 .left) in
     accepted _ _ wide long (at-if3 .before .lowest-ill-formed .ensures) (at-if3 .if3 .left) (sym (c .before .wrong-row .ensures) ∙ c .if4 .left)
 
 enum-known-first : tie.Need-enum-known-first
@@ -67,8 +67,8 @@ returns-5 c =
     let at-if3 = at-if4 .before .before in
     let at-if2 = at-if3 .before .before in
     let at-if1 = at-if2 .before .before in
-    let wide = sym (at-if1 .before .is-width .ensures) ∙ not-false _ (at-if1 .if1 .left) in
-    let long = sym (at-if2 .before .has-length .ensures) ∙ not-false _ (at-if2 .if2 .left) in
+    let wide = known-true (at-if1 .before .is-width .ensures) (at-if1 .if1 .left) in
+    let long = known-true (at-if2 .before .has-length .ensures) (at-if2 .if2 .left) in
     promised _ _ (answers-yes _ _ wide long (at-if3 .before .lowest-ill-formed .ensures) (at-if3 .if3 .left)
     (sym (at-if4 .before .wrong-row .ensures) ∙ at-if4 .if4 .left) (rw (c .enum-told .given .1) at (at-first-use .first-use .ensures)))
 
@@ -80,8 +80,8 @@ returns-6 c =
     let at-if3 = at-if4 .before .before in
     let at-if2 = at-if3 .before .before in
     let at-if1 = at-if2 .before .before in
-    let wide = sym (at-if1 .before .is-width .ensures) ∙ not-false _ (at-if1 .if1 .left) in
-    let long = sym (at-if2 .before .has-length .ensures) ∙ not-false _ (at-if2 .if2 .left) in
+    let wide = known-true (at-if1 .before .is-width .ensures) (at-if1 .if1 .left) in
+    let long = known-true (at-if2 .before .has-length .ensures) (at-if2 .if2 .left) in
     promised _ _ (answers-no _ _ wide long (at-if3 .before .lowest-ill-formed .ensures) (at-if3 .if3 .left)
     (sym (at-if4 .before .wrong-row .ensures) ∙ at-if4 .if4 .left) _ _
     (rw (at-first .first .given .1) at (at-first-use .first-use .ensures)))

@@ -1,7 +1,6 @@
 -- `hours::all_keep` meets its contract. The loop's invariant: whether all entries keep the rules is whether those that are left do. Assumes nothing.
-use mathlib.Core.Path.{sym, _∙_}
 use native.Mathlib.Omega.{arith}
-use borrow.Author.Tests.{not-true, not-false}
+use Rattle.word.proofs.Tests.{known-true, known-false}
 use Rattle.hours.specs.Hours.{allKeep}
 use Rattle.hours.proofs.Walk.{Walk, walk-start, walk-done, walk-inside, walk-next, walk-found}
 use Rattle.hours.proofs.Tests.{all-keep}
@@ -32,7 +31,7 @@ returns c =
     let at-loop-test = c .before .before .before in
     let at-loop = at-loop-test .before in
     walk-found (at-loop .loop .inv) (at-loop-test .loop-test .taken) _ (c .before .before .entry-at .ensures) _
-    (all-keep _ _ _ (sym (c .before .keeps-rules .ensures) ∙ not-true _ (c .if1 .taken)))
+    (all-keep _ _ _ (known-false (c .before .keeps-rules .ensures) (c .if1 .taken)))
 
 add-at : tie.Need-add-at Inv-loop μ-loop
 add-at c =
@@ -51,7 +50,7 @@ loop-again c =
     let at-loop-test = c .before .before .before in
     let at-loop = at-loop-test .before in
     walk-next (at-loop .loop .inv) (at-loop-test .loop-test .taken) _ (c .before .before .entry-at .ensures)
-    (all-keep _ _ _ (sym (c .before .keeps-rules .ensures) ∙ not-false _ (c .if1 .left)))
+    (all-keep _ _ _ (known-true (c .before .keeps-rules .ensures) (c .if1 .left)))
 
 returns-2 : tie.Need-returns-2 Inv-loop μ-loop
 unfolding allKeep

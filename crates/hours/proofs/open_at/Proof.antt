@@ -1,7 +1,7 @@
 -- `hours::open_at` meets its contract: each return by the tests that lead there. Assumes nothing.
 use Prim.Native.Nat.{ℕ}
 use mathlib.Core.Path.{sym, ap, _∙_}
-use borrow.Author.Tests.{not-true, not-false}
+use Rattle.word.proofs.Tests.{known-true, known-false}
 use Rattle.hours.specs.Hours.{window, entries, naming, firstHolding}
 use Rattle.hours.proofs.Answering.{windows-broken, exceptions-broken, minute-late, by-exceptions, by-windows}
 use borrow.Author.Needs.{needs}
@@ -12,7 +12,7 @@ list-keeps-requires : tie.Need-list-keeps-requires
 list-keeps-requires c κs = search needs
 
 returns : tie.Need-returns
-returns c = windows-broken _ _ _ _ (sym (c .before .list-keeps .ensures) ∙ not-true _ (c .if1 .taken))
+returns c = windows-broken _ _ _ _ (known-false (c .before .list-keeps .ensures) (c .if1 .taken))
 
 list-keeps-requires-2 : tie.Need-list-keeps-requires-2
 list-keeps-requires-2 c κs = search needs
@@ -20,15 +20,15 @@ list-keeps-requires-2 c κs = search needs
 returns-2 : tie.Need-returns-2
 returns-2 c =
     let first = c .before .before in
-    exceptions-broken _ _ _ _ (sym (first .before .list-keeps .ensures) ∙ not-false _ (first .if1 .left)) (sym (c .before .list-keeps2 .ensures)
-    ∙ not-true _ (c .if2 .taken))
+    exceptions-broken _ _ _ _ (known-true (first .before .list-keeps .ensures) (first .if1 .left))
+    (known-false (c .before .list-keeps2 .ensures) (c .if2 .taken))
 
 returns-3 : tie.Need-returns-3
 returns-3 c =
     let second = c .before in
     let first = second .before .before in
-    minute-late _ _ _ _ (sym (first .before .list-keeps .ensures) ∙ not-false _ (first .if1 .left)) (sym (second .before .list-keeps2 .ensures)
-    ∙ not-false _ (second .if2 .left))
+    minute-late _ _ _ _ (known-true (first .before .list-keeps .ensures) (first .if1 .left))
+    (known-true (second .before .list-keeps2 .ensures) (second .if2 .left))
     (c .if3 .taken)
 
 any-names-requires : tie.Need-any-names-requires
@@ -42,8 +42,8 @@ returns-4 c =
     let at-if = c .before .before .before in
     let second = at-if .before in
     let first = second .before .before in
-    by-exceptions _ _ _ _ (sym (first .before .list-keeps .ensures) ∙ not-false _ (first .if1 .left)) (sym (second .before .list-keeps2 .ensures)
-    ∙ not-false _ (second .if2 .left))
+    by-exceptions _ _ _ _ (known-true (first .before .list-keeps .ensures) (first .if1 .left))
+    (known-true (second .before .list-keeps2 .ensures) (second .if2 .left))
     (at-if .if3 .left) (sym (c .before .before .any-names .ensures) ∙ c .before .if4 .taken) _ (c .first-holding .ensures .0)
 
 weekday-of-requires : tie.Need-weekday-of-requires
@@ -58,8 +58,8 @@ returns-5 c =
     let second = at-names .before .before in
     let first = second .before .before in
     let args = first .before .before .before .before .args in
-    by-windows _ _ _ _ (sym (first .before .list-keeps .ensures) ∙ not-false _ (first .if1 .left)) (sym (second .before .list-keeps2 .ensures)
-    ∙ not-false _ (second .if2 .left))
+    by-windows _ _ _ _ (known-true (first .before .list-keeps .ensures) (first .if1 .left))
+    (known-true (second .before .list-keeps2 .ensures) (second .if2 .left))
     (at-names .before .if3 .left) (sym (at-names .any-names .ensures) ∙ c .before .before .if4 .left) _
     (c .first-holding2 .ensures .0
     ∙ ap (λ (k : ℕ). firstHolding (args .minute) (naming k (entries window (args .windows .now)))) (c .before .weekday-of .ensures))

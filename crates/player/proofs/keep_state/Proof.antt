@@ -1,6 +1,5 @@
 -- `player::keep_state` meets its contract. Assumes nothing.
-use mathlib.Core.Path.{sym, _∙_}
-use borrow.Author.Tests.{not-true, not-false}
+use Rattle.word.proofs.Tests.{known-true, known-false}
 use Rattle.player.proofs.Moving.{not-written, written}
 use borrow.Author.Needs.{needs}
 use Rattle.player.proofs.keep_state.Statement.{statement}
@@ -10,7 +9,7 @@ has-moved-requires : tie.Need-has-moved-requires
 has-moved-requires c κs = search needs
 
 returns : tie.Need-returns
-returns c = not-written _ _ _ (sym (c .before .has-moved .ensures) ∙ not-true _ (c .if1 .taken))
+returns c = not-written _ _ _ (known-false (c .before .has-moved .ensures) (c .if1 .taken))
 
 write-state-requires : tie.Need-write-state-requires
 write-state-requires c κs = search needs
@@ -23,7 +22,7 @@ returns-2 c =
     let at-write-state = c .before .before in
     let at-if1 = at-write-state .before .before in
     let at-has-moved = at-if1 .before in
-    written _ _ _ (sym (at-has-moved .has-moved .ensures) ∙ not-false _ (at-if1 .if1 .left)) (at-write-state .write-state .ensures .0)
+    written _ _ _ (known-true (at-has-moved .has-moved .ensures) (at-if1 .if1 .left)) (at-write-state .write-state .ensures .0)
     (at-write-state .write-state .ensures .1)
 
 pub keep-state-spec : {M : Type 1} → statement M

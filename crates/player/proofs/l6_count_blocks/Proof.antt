@@ -1,7 +1,7 @@
 -- `player::l6_count_blocks` meets its contract. Assumes nothing.
 use native.Mathlib.Omega.{arith}
 use mathlib.Core.Path.{sym, _∙_}
-use borrow.Author.Tests.{not-true, not-false}
+use Rattle.word.proofs.Tests.{known-true, known-false}
 use lib.ListN.{length-set}
 use Rattle.player.proofs.Blocks.{can-list, fault-length, counts-faulty, counts-unlisted, counts-unsound, counts-leave}
 use borrow.Author.Needs.{needs}
@@ -40,13 +40,13 @@ returns-3 c =
     let at-if1 = at-if2 .before in
     let entry = at-if1 .before .before .before .before in
     counts-unsound (entry .args .state .now) (entry .args .counts .now) (sym (at-if1 .before .state-fault .ensures)
-    ∙ at-if1 .if1 .left) (at-setup-at .setup-at .ensures) (at-if2 .if2 .left) (sym (at-are-blocks .are-blocks .ensures) ∙ not-true _ (c .if3 .taken))
+    ∙ at-if1 .if1 .left) (at-setup-at .setup-at .ensures) (at-if2 .if2 .left) (known-false (at-are-blocks .are-blocks .ensures) (c .if3 .taken))
 
 count-blocks-requires : tie.Need-count-blocks-requires
-count-blocks-requires c κs = can-list _ _ (sym (c .before .are-blocks .ensures) ∙ not-false _ (c .if3 .left))
+count-blocks-requires c κs = can-list _ _ (known-true (c .before .are-blocks .ensures) (c .if3 .left))
 
 count-blocks-requires-2 : tie.Need-count-blocks-requires-2
-count-blocks-requires-2 c κs = can-list _ _ (sym (c .before .before .are-blocks .ensures) ∙ not-false _ (c .before .if3 .left))
+count-blocks-requires-2 c κs = can-list _ _ (known-true (c .before .before .are-blocks .ensures) (c .before .if3 .left))
 
 slice-write-counts : tie.Need-slice-write-counts
 slice-write-counts c = search needs
@@ -67,7 +67,7 @@ returns-4 c =
     let at-if1 = at-if2 .before in
     let entry = at-if1 .before .before .before .before in
     counts-leave (entry .args .state .now) (entry .args .counts .now) (sym (at-if1 .before .state-fault .ensures)
-    ∙ at-if1 .if1 .left) (at-setup-at .setup-at .ensures) (at-if2 .if2 .left) (sym (at-are-blocks .are-blocks .ensures) ∙ not-false _ (at-if3 .if3 .left))
+    ∙ at-if1 .if1 .left) (at-setup-at .setup-at .ensures) (at-if2 .if2 .left) (known-true (at-are-blocks .are-blocks .ensures) (at-if3 .if3 .left))
     (at-count-blocks .count-blocks .ensures .0) (c .count-blocks2 .ensures .0)
 
 pub l6-count-blocks-spec : {M : Type 1} → statement M

@@ -1,6 +1,6 @@
 -- `player::l6_fresh` meets its contract. Assumes nothing.
 use mathlib.Core.Path.{sym, _∙_, ap}
-use borrow.Author.Tests.{not-true, not-false}
+use Rattle.word.proofs.Tests.{known-true, known-false}
 use Rattle.layout.specs.Layout.{stateOf}
 use Rattle.machine.proofs.Checks.{clash}
 use Rattle.player.proofs.Leaving.{fresh-no-width, fresh-short, fresh-made, fresh-leaves}
@@ -13,12 +13,12 @@ is-width-requires c κs = search needs
 
 returns : tie.Need-returns
 returns c =
-    let none = sym (c .before .is-width .ensures) ∙ not-true _ (c .if1 .taken) in
+    let none = known-false (c .before .is-width .ensures) (c .if1 .taken) in
     (fresh-no-width _ _ none, λ w h. clash (sym none ∙ w))
 
 returns-2 : tie.Need-returns-2
 returns-2 c =
-    let wide = sym (c .before .before .is-width .ensures) ∙ not-false _ (c .before .if1 .left) in
+    let wide = known-true (c .before .before .is-width .ensures) (c .before .if1 .left) in
     (fresh-short _ _ wide (c .if2 .taken), λ w h. absurd (c .if2 .taken h))
 
 fresh-requires : tie.Need-fresh-requires
@@ -36,7 +36,7 @@ returns-3 c =
     let at-fresh = at-write-state .before .before in
     let at-if2 = at-fresh .before in
     let at-if1 = at-if2 .before in
-    let wide = sym (at-if1 .before .is-width .ensures) ∙ not-false _ (at-if1 .if1 .left) in
+    let wide = known-true (at-if1 .before .is-width .ensures) (at-if1 .if1 .left) in
     let entry = at-if1 .before .before .before in
     let made = fresh-made _ (entry .args .state .now) wide (at-fresh .fresh .ensures .0) in (
       fresh-leaves _ _ wide (at-if2 .if2 .left) made (at-write-state .write-state .ensures .0),

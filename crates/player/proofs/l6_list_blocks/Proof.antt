@@ -1,7 +1,7 @@
 -- `player::l6_list_blocks` meets its contract. Assumes nothing.
 use native.Mathlib.Omega.{arith}
 use mathlib.Core.Path.{sym, _∙_, refl}
-use borrow.Author.Tests.{not-true, not-false}
+use Rattle.word.proofs.Tests.{known-true, known-false}
 use Rattle.player.proofs.Blocks.{can-list, fault-length, room-for, blocks-faulty, blocks-unsound, blocks-unlisted}
 use Rattle.player.proofs.Blocks.{blocks-leave}
 use borrow.Author.Needs.{needs}
@@ -36,10 +36,10 @@ returns-2 c =
     let at-if1 = at-setup-at .before in
     let entry = at-if1 .before .before .before .before in
     blocks-unsound (entry .args .state .now) (entry .args .list .now) (sym (at-if1 .before .state-fault .ensures)
-    ∙ at-if1 .if1 .left) (at-setup-at .setup-at .ensures) (entry .args .live) (sym (at-are-blocks .are-blocks .ensures) ∙ not-true _ (c .if2 .taken))
+    ∙ at-if1 .if1 .left) (at-setup-at .setup-at .ensures) (entry .args .live) (known-false (at-are-blocks .are-blocks .ensures) (c .if2 .taken))
 
 count-blocks-requires : tie.Need-count-blocks-requires
-count-blocks-requires c κs = can-list _ _ (sym (c .before .are-blocks .ensures) ∙ not-false _ (c .if2 .left))
+count-blocks-requires c κs = can-list _ _ (known-true (c .before .are-blocks .ensures) (c .if2 .left))
 
 mul-if3 : tie.Need-mul-if3
 mul-if3 c = record { fits = omega (arith, c .count-blocks .ensures .1) }
@@ -54,7 +54,7 @@ returns-3 c =
     let entry = at-if1 .before .before .before .before in
     blocks-unlisted (entry .args .state .now) (entry .args .list .now) (sym (at-if1 .before .state-fault .ensures)
     ∙ at-if1 .if1 .left) (at-setup-at .setup-at .ensures) (entry .args .live) refl (at-count-blocks .count-blocks .ensures .0)
-    (sym (at-are-blocks .are-blocks .ensures) ∙ not-false _ (at-if2 .if2 .left)) (c .if3 .taken)
+    (known-true (at-are-blocks .are-blocks .ensures) (at-if2 .if2 .left)) (c .if3 .taken)
 
 list-blocks-requires : tie.Need-list-blocks-requires
 list-blocks-requires c κs =
@@ -62,7 +62,7 @@ list-blocks-requires c κs =
     let at-count-blocks = at-if3 .before in
     let at-if2 = at-count-blocks .before in
     let at-are-blocks = at-if2 .before in
-    let (whole, kept) = can-list _ _ (sym (at-are-blocks .are-blocks .ensures) ∙ not-false _ (at-if2 .if2 .left)) in
+    let (whole, kept) = can-list _ _ (known-true (at-are-blocks .are-blocks .ensures) (at-if2 .if2 .left)) in
     (whole, kept, room-for _ (at-if3 .if3 .left) (at-count-blocks .count-blocks .ensures .0))
 
 same-length : tie.Need-same-length
@@ -80,7 +80,7 @@ returns-4 c =
     let entry = at-if1 .before .before .before .before in
     blocks-leave (entry .args .state .now) (entry .args .list .now) (sym (at-if1 .before .state-fault .ensures)
     ∙ at-if1 .if1 .left) (at-setup-at .setup-at .ensures) (entry .args .live) refl (at-count-blocks .count-blocks .ensures .0)
-    (sym (at-are-blocks .are-blocks .ensures) ∙ not-false _ (at-if2 .if2 .left)) (at-if3 .if3 .left) (at-list-blocks .list-blocks .ensures)
+    (known-true (at-are-blocks .are-blocks .ensures) (at-if2 .if2 .left)) (at-if3 .if3 .left) (at-list-blocks .list-blocks .ensures)
 
 pub l6-list-blocks-spec : {M : Type 1} → statement M
 l6-list-blocks-spec =

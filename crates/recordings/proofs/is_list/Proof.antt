@@ -1,8 +1,8 @@
 -- `recordings::is_list` meets its contract, check by check. Assumes nothing.
-use mathlib.Core.Path.{sym, _∙_}
+use mathlib.Core.Path.{_∙_}
 use native.Mathlib.Omega.{arith}
 use native.Mathlib.Nat.{div-add-mod'}
-use borrow.Author.Tests.{not-true, not-false}
+use Rattle.word.proofs.Tests.{known-true, known-false}
 use lib.ListN.{length}
 use Rattle.recordings.proofs.Loops.{no-rows, uneven, not-zeros, by-nexts}
 use borrow.Author.Needs.{needs}
@@ -21,7 +21,7 @@ zeros-after-requires c κs = omega (arith, div-add-mod' (length (c .before .befo
 returns-3 : tie.Need-returns-3
 returns-3 c =
     let at-if = c .before .before .before in
-    not-zeros _ (at-if .if1 .left) (c .before .before .if2 .left) (sym (c .before .zeros-after .ensures) ∙ not-true _ (c .if3 .taken))
+    not-zeros _ (at-if .if1 .left) (c .before .before .if2 .left) (known-false (c .before .zeros-after .ensures) (c .if3 .taken))
 
 nexts-inside-requires : tie.Need-nexts-inside-requires
 nexts-inside-requires c κs = search needs
@@ -32,7 +32,7 @@ returns-4 c =
     let at-zeros-after = at-if3 .before in
     let at-if2 = at-zeros-after .before in
     let at-if1 = at-if2 .before in
-    c .nexts-inside .ensures ∙ by-nexts _ (at-if1 .if1 .left) (at-if2 .if2 .left) (sym (at-zeros-after .zeros-after .ensures) ∙ not-false _ (at-if3 .if3 .left))
+    c .nexts-inside .ensures ∙ by-nexts _ (at-if1 .if1 .left) (at-if2 .if2 .left) (known-true (at-zeros-after .zeros-after .ensures) (at-if3 .if3 .left))
 
 pub is-list-spec : {M : Type 1} → statement M
 is-list-spec =

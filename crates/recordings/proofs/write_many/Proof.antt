@@ -1,9 +1,9 @@
 -- `recordings::write_many` meets its contract, check by check. Assumes nothing.
 use Prim.Native.Nat.{ℕ}
 use mathlib.Core.List.{List, _++_}
-use mathlib.Core.Path.{sym, ap, _∙_}
+use mathlib.Core.Path.{ap, _∙_}
 use native.Mathlib.Omega.{arith}
-use borrow.Author.Tests.{not-true, not-false}
+use Rattle.word.proofs.Tests.{known-true, known-false}
 use Rattle.recordings.specs.Walking.{allWritten}
 use Rattle.recordings.proofs.Chain.{chain-most}
 use Rattle.recordings.proofs.Calls.{row-twice, output-short, pairs-fit, all-written}
@@ -38,7 +38,7 @@ returns-2 c =
     let at-if1 = at-has-room .before in
     let at-chain-length = at-if1 .before in
     let entry = at-chain-length .before .before .before in
-    let short = sym (at-has-room .has-room .ensures) ∙ not-true _ (c .if2 .taken) in
+    let short = known-false (at-has-room .has-room .ensures) (c .if2 .taken) in
     output-short _ _ (entry .pre .0) (at-chain-length .chain-length .ensures) (at-if1 .if1 .left) short
 
 note-requires : tie.Need-note-requires
@@ -49,7 +49,7 @@ note-requires c κs =
     let at-chain-length = at-if1 .before in
     let entry = at-chain-length .before .before .before in
     let all = at-chain-length .chain-length .ensures in
-    let fits = sym (at-has-room .has-room .ensures) ∙ not-false _ (at-if2 .if2 .left) in
+    let fits = known-true (at-has-room .has-room .ensures) (at-if2 .if2 .left) in
     (record { is-list = entry .pre .0; all-steps = all }, pairs-fit _ (entry .args .output .now) (entry .pre .0) all (at-if1 .if1 .left) fits)
 
 put-recordings-requires : tie.Need-put-recordings-requires
@@ -71,7 +71,7 @@ returns-3 c =
     let at-chain-length = at-if1 .before in
     let entry = at-chain-length .before .before .before in
     let noted = at-note .note .ensures in
-    let fits = sym (at-has-room .has-room .ensures) ∙ not-false _ (at-if2 .if2 .left) in
+    let fits = known-true (at-has-room .has-room .ensures) (at-if2 .if2 .left) in
     all-written _ _ (entry .pre .0) (at-chain-length .chain-length .ensures) (at-if1 .if1 .left) fits (noted-count noted)
     (at-put-recordings .put-recordings .ensures ∙ ap (λ (l : List ℕ). allWritten (entry .args .list .now) ++ l) (noted .past))
 

@@ -1,6 +1,6 @@
 -- `recordings::write_standing` meets its contract, check by check. Assumes nothing.
-use mathlib.Core.Path.{sym, _∙_}
-use borrow.Author.Tests.{not-true, not-false}
+use mathlib.Core.Path.{sym}
+use Rattle.word.proofs.Tests.{known-true, known-false}
 use Rattle.recordings.specs.Walking.{FewWritten}
 use Rattle.recordings.proofs.Calls.{bad-list}
 use borrow.Author.Needs.{needs}
@@ -13,13 +13,13 @@ is-list-requires c κs = search needs
 returns : tie.Need-returns
 returns c =
     let at-is-list = c .before in
-    bad-list _ _ (sym (at-is-list .is-list .ensures) ∙ not-true _ (c .if1 .taken))
+    bad-list _ _ (known-false (at-is-list .is-list .ensures) (c .if1 .taken))
 
 write-few-requires : tie.Need-write-few-requires
 write-few-requires c κs =
     let at-if1 = c .before in
     let at-is-list = at-if1 .before in
-    sym (at-is-list .is-list .ensures) ∙ not-false _ (at-if1 .if1 .left)
+    known-true (at-is-list .is-list .ensures) (at-if1 .if1 .left)
 
 enum-known-few : tie.Need-enum-known-few
 enum-known-few c = search needs
@@ -34,7 +34,7 @@ write-many-requires c κs =
     let at-write-few = at-enum-told .before .before .before .before in
     let at-if1 = at-write-few .before .before in
     let at-is-list = at-if1 .before in
-    (sym (at-is-list .is-list .ensures) ∙ not-false _ (at-if1 .if1 .left), (rw (at-enum-told .enum-told .given .1) at (at-write-few .write-few .ensures)) .1)
+    (known-true (at-is-list .is-list .ensures) (at-if1 .if1 .left), (rw (at-enum-told .enum-told .given .1) at (at-write-few .write-few .ensures)) .1)
 
 same-length : tie.Need-same-length
 same-length c = search needs

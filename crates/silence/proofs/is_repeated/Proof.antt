@@ -3,7 +3,7 @@ use Prim.Native.Nat.{_+_}
 use native.Mathlib.Omega.{arith}
 use mathlib.Core.Bool.{not}
 use mathlib.Core.Path.{sym, ap, _∙_}
-use borrow.Author.Tests.{not-true, not-false}
+use Rattle.word.proofs.Tests.{known-true, known-false}
 use lib.ListN.{getD}
 use lib.Seq.{length-take-le}
 use Rattle.recordings.specs.Recordings.{member}
@@ -44,7 +44,7 @@ returns c =
     let entry = at-stands .before .before .before .before in
     let stops = entry .args .stops .now in
     let rest = part-rest (entry .args .i + 1) stops in
-    let later = ap (member (getD stops (entry .args .i) 0)) (sym rest) ∙ sym (at-stands .stands .ensures) ∙ not-true _ (c .if1 .taken) in
+    let later = ap (member (getD stops (entry .args .i) 0)) (sym rest) ∙ known-false (at-stands .stands .ensures) (c .if1 .taken) in
     rw later
 
 slice-aggregate-stands : tie.Need-slice-aggregate-stands
@@ -67,7 +67,7 @@ returns-2 c =
     let entry = at-stands .before .before .before .before in
     let stops = entry .args .stops .now in
     let rest = part-rest (entry .args .i + 1) stops in
-    let later = ap (member (getD stops (entry .args .i) 0)) (sym rest) ∙ sym (at-stands .stands .ensures) ∙ not-false _ (at-if1 .if1 .left) in
+    let later = ap (member (getD stops (entry .args .i) 0)) (sym rest) ∙ known-true (at-stands .stands .ensures) (at-if1 .if1 .left) in
     rw later (ap not (c .stands2 .ensures))
 
 pub is-repeated-spec : {M : Type 1} → statement M

@@ -2,9 +2,9 @@
 -- is left. Assumes nothing.
 use Prim.Native.Nat.{_-_}
 use native.Mathlib.Omega.{arith}
-use mathlib.Core.Path.{_≡_, refl, sym, _∙_}
+use mathlib.Core.Path.{_≡_, refl}
 use borrow.Author.Needs.{needs}
-use borrow.Author.Tests.{not-true, not-false}
+use Rattle.word.proofs.Tests.{known-true, known-false}
 use lib.ListN.{length, take, drop}
 use Rattle.machine.specs.Sound.{every, isPlace}
 use Rattle.machine.specs.declared.Place.{Place}
@@ -43,7 +43,7 @@ returns-2 c =
     let start = e .before .before .before in
     let long : length (start .args .t1) ≡ 128 = search needs in
     stack-used _ _ _ _ (omega arith) (taken-off _ (start .args .count) (start .args .t1) _ nowhere (omega arith) (e .before .loop .inv) (omega arith)
-    (sym (c .before .is-place .ensures) ∙ not-true _ (c .if2 .taken)))
+    (known-false (c .before .is-place .ensures) (c .if2 .taken)))
 
 add-i : tie.Need-add-i Inv-loop μ-loop
 add-i c = search needs
@@ -56,8 +56,8 @@ loop-again c =
     let e = c .before .before .before in
     let start = e .before .before .before in
     let long : length (start .args .t1) ≡ 128 = search needs in
-    taken-on _ (start .args .count) (start .args .t1) _ nowhere (omega arith) (e .before .loop .inv) (omega arith) (sym (c .before .is-place .ensures)
-    ∙ not-false _ (c .if2 .left))
+    taken-on _ (start .args .count) (start .args .t1) _ nowhere (omega arith) (e .before .loop .inv) (omega arith)
+    (known-true (c .before .is-place .ensures) (c .if2 .left))
 
 returns-3 : tie.Need-returns-3 Inv-loop μ-loop
 returns-3 c =

@@ -2,9 +2,9 @@
 -- is left. Assumes nothing.
 use Prim.Native.Nat.{_-_}
 use native.Mathlib.Omega.{arith}
-use mathlib.Core.Path.{_≡_, refl, sym, _∙_}
+use mathlib.Core.Path.{_≡_, refl}
 use borrow.Author.Needs.{needs}
-use borrow.Author.Tests.{not-true, not-false}
+use Rattle.word.proofs.Tests.{known-true, known-false}
 use lib.ListN.{length, take, drop}
 use Rattle.machine.specs.Sound.{every, isDefinition}
 use Rattle.machine.specs.State.{undefined}
@@ -40,7 +40,7 @@ returns-2 c =
     let start = e .before .before .before in
     let long : length (start .args .t2) ≡ 128 = search needs in
     stack-used _ _ _ _ (omega arith) (taken-off _ (start .args .count) (start .args .t2) _ undefined (omega arith) (e .before .loop .inv)
-    (omega arith) (sym (c .before .is-definition .ensures) ∙ not-true _ (c .if2 .taken)))
+    (omega arith) (known-false (c .before .is-definition .ensures) (c .if2 .taken)))
 
 add-i : tie.Need-add-i Inv-loop μ-loop
 add-i c = search needs
@@ -55,7 +55,7 @@ loop-again c =
     let start = e .before .before .before in
     let long : length (start .args .t2) ≡ 128 = search needs in
     taken-on _ (start .args .count) (start .args .t2) _ undefined (omega arith) (e .before .loop .inv) (omega arith)
-    (sym (c .before .is-definition .ensures) ∙ not-false _ (c .if2 .left))
+    (known-true (c .before .is-definition .ensures) (c .if2 .left))
 
 returns-3 : tie.Need-returns-3 Inv-loop μ-loop
 returns-3 c =

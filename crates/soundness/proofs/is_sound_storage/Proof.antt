@@ -1,8 +1,9 @@
 -- `soundness::is_sound_storage` meets its contract: each return by the set-up's numbers. Assumes nothing.
 use mathlib.Core.Bool.{_||_}
-use mathlib.Core.Path.{sym, ap₂, _∙_}
+use mathlib.Core.Path.{ap₂}
 use borrow.Author.Needs.{needs}
 use borrow.Author.Tests.{not-true, not-false}
+use Rattle.word.proofs.Tests.{known-true}
 use Rattle.operands.proofs.Readable.{numbers-room}
 use Rattle.soundness.proofs.Stored.{not-known, is-known}
 use Rattle.soundness.proofs.is_sound_storage.Statement.{statement}
@@ -34,7 +35,7 @@ keeps-section-requires c κs = search needs
 are-set-up-words-requires : tie.Need-are-set-up-words-requires
 are-set-up-words-requires c κs =
     let e = c .before .before in
-    (search needs, numbers-room _ _ (sym (ap₂ _||_ (e .before .fits2 .ensures) (e .is-absent .ensures)) ∙ not-false _ (c .before .if1 .left)))
+    (search needs, numbers-room _ _ (known-true (ap₂ _||_ (e .before .fits2 .ensures) (e .is-absent .ensures)) (c .before .if1 .left)))
 
 returns-2 : tie.Need-returns-2
 returns-2 c =

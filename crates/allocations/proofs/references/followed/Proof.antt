@@ -1,6 +1,5 @@
 -- `allocations::references::followed` meets its contract. What references rely on: the tests just made. Assumes nothing.
-use mathlib.Core.Path.{sym, _∙_}
-use borrow.Author.Tests.{not-false}
+use Rattle.word.proofs.Tests.{known-true}
 use Rattle.allocations.proofs.Readable.{tested-readable}
 use borrow.Author.Needs.{needs}
 use Rattle.allocations.proofs.references.followed.Statement.{statement}
@@ -47,9 +46,10 @@ locate-requires c κs =
     let at-if-2 = at-keeps-section .before in
     let at-fits = at-if-2 .before in
     let start = at-fits .before .before .before .before .before .before in (
-      tested-readable _ _ _ _ _ (sym (at-fits .fits2 .ensures) ∙ not-false _ (at-if-2 .if1 .left)) (sym (at-keeps-section .keeps-section .ensures)
-          ∙ not-false _ (at-if .if2 .left)) (start .pre) (sym (at-are-words .are-words .ensures) ∙ not-false _ (c .before .before .if3 .left)),
-      sym (c .before .is-reference .ensures) ∙ not-false _ (c .if4 .left),
+      tested-readable _ _ _ _ _ (known-true (at-fits .fits2 .ensures) (at-if-2 .if1 .left))
+          (known-true (at-keeps-section .keeps-section .ensures) (at-if .if2 .left)) (start .pre)
+          (known-true (at-are-words .are-words .ensures) (c .before .before .if3 .left)),
+      known-true (c .before .is-reference .ensures) (c .if4 .left),
     )
 
 enum-known-why : tie.Need-enum-known-why

@@ -1,10 +1,11 @@
 -- `whole_here` passes no tree, one, or those of a part of 128 bytes. Assumes nothing.
-use mathlib.Core.Path.{_≡_, sym, _∙_}
+use mathlib.Core.Path.{_≡_}
 use Prim.Native.Nat.{_+_}
 use native.Mathlib.Nat.{div-le-self}
 use native.Mathlib.Omega.{arith}
 use borrow.Author.Needs.{needs}
 use borrow.Author.Tests.{not-false}
+use Rattle.word.proofs.Tests.{known-true}
 use Rattle.block.proofs.Size.{size-pos}
 use Rattle.buddy.specs.Marks.{WholeTrees}
 use Rattle.buddy.proofs.Halves.{part-length}
@@ -18,7 +19,7 @@ here : (c : tie.Else1) → let entry = c .before .before .before .before in
 here c =
     let entry = c .before .before .before .before in
     whole-one (entry .args .k) (entry .args .map .now) (entry .args .end) (entry .args .i) (omega arith)
-    (sym (c .before .is-tag .ensures) ∙ not-false _ (c .if1 .left))
+    (known-true (c .before .is-tag .ensures) (c .if1 .left))
 
 shared-slice-read-is-tag : tie.Need-shared-slice-read-is-tag
 shared-slice-read-is-tag c = omega arith

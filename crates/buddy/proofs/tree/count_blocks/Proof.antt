@@ -2,8 +2,8 @@
 -- passed added one at most. The measure is what is left of the tree. Assumes nothing.
 -- the block that starts here
 use Prim.Native.Nat.{_≤_, _-_}
-use borrow.Author.Tests.{not-true, not-false}
-use mathlib.Core.Path.{sym, _∙_}
+use Rattle.word.proofs.Tests.{known-true, known-false}
+use mathlib.Core.Path.{sym}
 use native.Mathlib.Omega.{arith}
 use lib.ListN.{length}
 use Rattle.buddy.specs.Marks.{tagLevel, counted}
@@ -22,7 +22,7 @@ abbrev μ-loop : tie.MeasureT-loop
 
 tag : (c : tie.Else1 Inv-loop μ-loop) → let e = c .before .before .before .before .before in
     Tagged (e .args .k) (c .before .before .before .loop .i) (e .args .bytes .now)
-tag c = tagged _ _ _ (omega arith) (sym (c .before .starts-block .ensures) ∙ not-false _ (c .if1 .left))
+tag c = tagged _ _ _ (omega arith) (known-true (c .before .starts-block .ensures) (c .if1 .left))
 
 loop-holds : tie.Need-loop-holds Inv-loop μ-loop
 loop-holds c = (omega arith, omega arith, adds-all (c .before .args .k) (c .before .args .bytes .now) (c .before .pre .1))
@@ -32,7 +32,7 @@ starts-block-requires c κs = (omega arith, omega arith)
 
 returns : tie.Need-returns Inv-loop μ-loop
 returns c =
-    let stop = sym (c .before .starts-block .ensures) ∙ not-true _ (c .if1 .taken) in
+    let stop = known-false (c .before .starts-block .ensures) (c .if1 .taken) in
     let l = c .before .before .before in
     sym (adds-stop (l .before .before .args .k) (l .before .before .args .bytes .now) (omega arith) stop (l .loop .inv .2))
 

@@ -6,7 +6,7 @@ use Prim.Native.Nat.{_-_, _/_, _≤_}
 use lib.ListN.{length}
 use Rattle.table.specs.Row.{rows}
 use native.Mathlib.Numerals.{add-one}
-use borrow.Author.Tests.{not-true, not-false}
+use Rattle.word.proofs.Tests.{known-true, known-false}
 use Rattle.defined.specs.Kinds.{rowNames, lowestWrong}
 use borrow.Author.Needs.{needs}
 use Rattle.defined.proofs.kinds.wrong_row.Statement.{statement}
@@ -45,8 +45,8 @@ returns-2 c =
     let at-if2 = c .if2 in
     let table = at-args .table .now in
     wrong-rest table (sym (at-kind-at .ensures) ∙ at-if1 .left)
-    (wrong-here table (at-loop .r) (omega arith) (ap (rowNames table) (sym (at-row-at .ensures)) ∙ sym (at-row-names .ensures) ∙ not-true _
-    (at-if2 .taken)) ∙ sym (at-loop .inv .1))
+    (wrong-here table (at-loop .r) (omega arith) (ap (rowNames table) (sym (at-row-at .ensures))
+    ∙ known-false (at-row-names .ensures) (at-if2 .taken)) ∙ sym (at-loop .inv .1))
 
 add-r : tie.Need-add-r Inv-loop μ-loop
 add-r c = omega arith
@@ -64,7 +64,7 @@ loop-again c =
     let table = at-args .table .now in (
       omega arith,
       rw add-one (at-loop .inv .1 ∙ wrong-later table (at-loop .r) (omega arith)
-          (ap (rowNames table) (sym (at-row-at .ensures)) ∙ sym (at-row-names .ensures) ∙ not-false _ (at-if2 .left))),
+          (ap (rowNames table) (sym (at-row-at .ensures)) ∙ known-true (at-row-names .ensures) (at-if2 .left))),
     )
 
 returns-3 : tie.Need-returns-3 Inv-loop μ-loop

@@ -3,7 +3,7 @@ use mathlib.Core.Path.{sym, ap, _∙_}
 use mathlib.Core.List.{List}
 use mathlib.Core.Bool.{cond}
 use Prim.Native.Nat.{ℕ}
-use borrow.Author.Tests.{not-true, not-false}
+use Rattle.word.proofs.Tests.{known-true, known-false}
 use Rattle.lines.specs.Words.{isLabel}
 use Rattle.faults.specs.Checking.{wordWalk, modeWalk}
 use Rattle.lines.proofs.Parts.{part-slice}
@@ -32,8 +32,8 @@ returns c =
     let at-if1 = c .before in
     let at-is-label = at-if1 .before in
     let entry = at-is-label .before .before .before in
-    let label = ap isLabel (sym (part-slice (entry .args .at) (entry .args .end) (entry .args .s .now))) ∙ sym (at-is-label .is-label .ensures)
-    ∙ not-true _ (at-if1 .if1 .taken) in
+    let label = ap isLabel (sym (part-slice (entry .args .at) (entry .args .end) (entry .args .s .now)))
+    ∙ known-false (at-is-label .is-label .ensures) (at-if1 .if1 .taken) in
     c .mode-step .ensures ∙ rw label
 
 mode-step-requires-2 : tie.Need-mode-step-requires-2
@@ -45,8 +45,8 @@ returns-2 c =
     let at-if1 = c .before in
     let at-is-label = at-if1 .before in
     let entry = at-is-label .before .before .before in
-    let label = ap isLabel (sym (part-slice (entry .args .at) (entry .args .end) (entry .args .s .now))) ∙ sym (at-is-label .is-label .ensures)
-    ∙ not-false _ (at-if1 .if1 .left) in
+    let label = ap isLabel (sym (part-slice (entry .args .at) (entry .args .end) (entry .args .s .now)))
+    ∙ known-true (at-is-label .is-label .ensures) (at-if1 .if1 .left) in
     c .mode-step2 .ensures ∙ rw label
 
 pub first-step-spec : {M : Type 1} → statement M

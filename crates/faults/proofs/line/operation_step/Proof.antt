@@ -4,7 +4,7 @@ use native.Mathlib.Omega.{arith}
 use mathlib.Core.Path.{sym, ap, _∙_}
 use mathlib.Core.List.{List}
 use Prim.Native.Nat.{ℕ}
-use borrow.Author.Tests.{not-true, not-false}
+use Rattle.word.proofs.Tests.{known-true, known-false}
 use lib.Seq.{length-slice}
 use Rattle.lines.specs.Forms.{isOperation}
 use Rattle.lines.specs.Reading.{split}
@@ -37,7 +37,7 @@ returns c =
     let at-is-operation = c .before in
     let entry = at-is-operation .before .before .before in
     let is = ap (λ (w : List ℕ). isOperation (entry .args .b) (split w)) (sym (part-slice (entry .args .at + 1) (entry .args .close) (entry .args .s .now)))
-    ∙ sym (at-is-operation .is-operation .ensures) ∙ not-true _ (c .if1 .taken) in
+    ∙ known-false (at-is-operation .is-operation .ensures) (c .if1 .taken) in
     rw is
 
 add-d : tie.Need-add-d
@@ -50,7 +50,7 @@ returns-2 c =
     let at-is-operation = at-if1 .before in
     let entry = at-is-operation .before .before .before in
     let is = ap (λ (w : List ℕ). isOperation (entry .args .b) (split w)) (sym (part-slice (entry .args .at + 1) (entry .args .close) (entry .args .s .now)))
-    ∙ sym (at-is-operation .is-operation .ensures) ∙ not-false _ (at-if1 .if1 .left) in
+    ∙ known-true (at-is-operation .is-operation .ensures) (at-if1 .if1 .left) in
     rw is
 
 pub operation-step-spec : {M : Type 1} → statement M

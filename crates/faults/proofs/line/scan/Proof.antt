@@ -2,7 +2,7 @@
 use Prim.Native.Nat.{_-_, _+_}
 use native.Mathlib.Omega.{arith}
 use mathlib.Core.Path.{_≡_, sym, ap, ap₂, subst, _∙_}
-use borrow.Author.Tests.{not-true, not-false}
+use Rattle.word.proofs.Tests.{known-true, known-false}
 use lib.ListN.{length}
 use Prim.Native.Nat.{ℕ}
 use Rattle.faults.specs.declared.Walk.{Walk}
@@ -44,7 +44,7 @@ returns c =
     let entry = at-loop .before .before in (
       walked-none-left _ _
           (walked-bad (entry .args .b) (entry .args .s .now) (at-loop .loop .inv) (at-blanks-end .blanks-end .result) (at-blanks-end .blanks-end .ensures)
-          (sym (at-at-end .at-end .ensures) ∙ not-true _ (at-if1 .if1 .taken)) _ (sym (at-is-nothing .is-nothing .ensures) ∙ c .if2 .taken)
+          (known-false (at-at-end .at-end .ensures) (at-if1 .if1 .taken)) _ (sym (at-is-nothing .is-nothing .ensures) ∙ c .if2 .taken)
           (at-token-at .token-at .ensures .0)),
       tt,
     )
@@ -77,10 +77,10 @@ loop-less c =
     let at-loop = at-at-end .before in
     let entry = at-loop .before .before in
     let more = walked-more (entry .args .b) (entry .args .s .now) (at-loop .loop .inv) (at-blanks-end .blanks-end .result)
-    (at-blanks-end .blanks-end .ensures) (sym (at-at-end .at-end .ensures) ∙ not-true _ (at-if1 .if1 .taken)) _
+    (at-blanks-end .blanks-end .ensures) (known-false (at-at-end .at-end .ensures) (at-if1 .if1 .taken)) _
     (sym (at-is-nothing .is-nothing .ensures) ∙ at-if2 .if2 .left) (at-token-at .token-at .ensures .0) (at-token-at .token-at .ensures .1) in
     let later = place-later (entry .args .b) (entry .args .s .now) (at-loop .loop .inv) (at-blanks-end .blanks-end .result)
-    (at-blanks-end .blanks-end .ensures) (sym (at-at-end .at-end .ensures) ∙ not-true _ (at-if1 .if1 .taken)) _
+    (at-blanks-end .blanks-end .ensures) (known-false (at-at-end .at-end .ensures) (at-if1 .if1 .taken)) _
     (sym (at-is-nothing .is-nothing .ensures) ∙ at-if2 .if2 .left) (at-token-at .token-at .ensures .1) in
     omega (arith, more .inside, c .place-after .ensures)
 
@@ -96,7 +96,7 @@ loop-again c =
     let at-loop = at-at-end .before in
     let entry = at-loop .before .before in
     let more = walked-more (entry .args .b) (entry .args .s .now) (at-loop .loop .inv) (at-blanks-end .blanks-end .result)
-    (at-blanks-end .blanks-end .ensures) (sym (at-at-end .at-end .ensures) ∙ not-true _ (at-if1 .if1 .taken)) _
+    (at-blanks-end .blanks-end .ensures) (known-false (at-at-end .at-end .ensures) (at-if1 .if1 .taken)) _
     (sym (at-is-nothing .is-nothing .ensures) ∙ at-if2 .if2 .left) (at-token-at .token-at .ensures .0) (at-token-at .token-at .ensures .1) in
     rw (c .place-after .ensures, at-spot-step .spot-step .ensures) more
 
@@ -110,7 +110,7 @@ returns-2 c =
     let at-loop = at-at-end .before in
     let entry = at-loop .before .before in
     rw (c .finish .ensures)
-    (walked-all (entry .args .b) (entry .args .s .now) (at-loop .loop .inv) (sym (at-at-end .at-end .ensures) ∙ not-false _ (at-if1 .if1 .left)))
+    (walked-all (entry .args .b) (entry .args .s .now) (at-loop .loop .inv) (known-true (at-at-end .at-end .ensures) (at-if1 .if1 .left)))
 
 pub scan-spec : {M : Type 1} → statement M
 scan-spec =

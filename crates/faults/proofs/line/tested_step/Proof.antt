@@ -4,7 +4,7 @@ use native.Mathlib.Omega.{arith}
 use mathlib.Core.Path.{sym, ap, _∙_}
 use mathlib.Core.List.{List}
 use Prim.Native.Nat.{ℕ}
-use borrow.Author.Tests.{not-true, not-false}
+use Rattle.word.proofs.Tests.{known-true, known-false}
 use Rattle.lines.specs.Forms.{isTest}
 use Rattle.lines.specs.Reading.{split}
 use Rattle.faults.specs.Checking.{parenWalk}
@@ -36,7 +36,7 @@ returns c =
     let at-is-test = c .before in
     let entry = at-is-test .before .before .before in
     let is = ap (λ (w : List ℕ). isTest (entry .args .b) (split w)) (sym (part-slice (entry .args .at + 1) (entry .args .close) (entry .args .s .now)))
-    ∙ sym (at-is-test .is-test .ensures) ∙ not-true _ (c .if1 .taken) in
+    ∙ known-false (at-is-test .is-test .ensures) (c .if1 .taken) in
     rw is
 
 add-d : tie.Need-add-d
@@ -49,7 +49,7 @@ returns-2 c =
     let at-is-test = at-if1 .before in
     let entry = at-is-test .before .before .before in
     let is = ap (λ (w : List ℕ). isTest (entry .args .b) (split w)) (sym (part-slice (entry .args .at + 1) (entry .args .close) (entry .args .s .now)))
-    ∙ sym (at-is-test .is-test .ensures) ∙ not-false _ (at-if1 .if1 .left) in
+    ∙ known-true (at-is-test .is-test .ensures) (at-if1 .if1 .left) in
     rw is
 
 pub tested-step-spec : {M : Type 1} → statement M

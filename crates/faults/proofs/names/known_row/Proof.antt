@@ -1,6 +1,6 @@
 -- `faults::names::known_row` meets its contract. Assumes nothing.
-use borrow.Author.Tests.{not-true, not-false}
-use mathlib.Core.Path.{_≡_, sym, ap, _∙_}
+use Rattle.word.proofs.Tests.{known-true, known-false}
+use mathlib.Core.Path.{_≡_, ap, _∙_}
 use Rattle.faults.specs.Names.{beside, knownRow}
 use borrow.Author.Needs.{needs}
 use Rattle.faults.proofs.names.known_row.Statement.{statement}
@@ -11,7 +11,7 @@ is-label-requires c κs = search needs
 
 returns : tie.Need-returns
 unfolding knownRow
-returns c = rw (sym (c .before .is-label .ensures) ∙ not-true _ (c .if1 .taken))
+returns c = rw (known-false (c .before .is-label .ensures) (c .if1 .taken))
 
 key-of-requires : tie.Need-key-of-requires
 key-of-requires c κs = search needs
@@ -26,7 +26,7 @@ returns-2 c =
     let at-if1 = at-key-of .before in
     let at-is-label = at-if1 .before in
     let entry = at-is-label .before .before .before .before in
-    rw (sym (at-is-label .is-label .ensures) ∙ not-false _ (at-if1 .if1 .left))
+    rw (known-true (at-is-label .is-label .ensures) (at-if1 .if1 .left))
     (c .row-beside .ensures ∙ ap (beside (entry .args .keys .now) (entry .args .rows .now)) (at-key-of .key-of .ensures))
 
 pub known-row-spec : {M : Type 1} → statement M

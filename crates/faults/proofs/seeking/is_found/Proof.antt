@@ -1,6 +1,7 @@
 -- `faults::seeking::is_found` meets its contract. Assumes nothing.
-use mathlib.Core.Path.{sym, _∙_}
-use borrow.Author.Tests.{not-false, ltb-true}
+use mathlib.Core.Path.{_∙_}
+use borrow.Author.Tests.{ltb-true}
+use Rattle.word.proofs.Tests.{known-true}
 use lib.ListN.{length}
 use Rattle.lines.proofs.Lists.{true-false}
 use Rattle.faults.proofs.Finding.{found-there}
@@ -28,7 +29,7 @@ returns-2 c = λ b text f e.
     let at-is-label = at-if1 .before in
     let entry = at-is-label .before .before .before in
     let less = ltb-true (c .place-of .result) (length (entry .args .found .now)) e in
-    found-there b text (entry .args .found .now) f (entry .args .w .now) (sym (at-is-label .is-label .ensures) ∙ not-false _ (at-if1 .if1 .left))
+    found-there b text (entry .args .found .now) f (entry .args .w .now) (known-true (at-is-label .is-label .ensures) (at-if1 .if1 .left))
     (c .place-of .result) less
     (c .place-of .ensures .1 less ∙ at-key-of .key-of .ensures)
 

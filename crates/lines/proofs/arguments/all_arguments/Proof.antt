@@ -2,7 +2,7 @@
 use Prim.Native.Nat.{_+_, _-_}
 use native.Mathlib.Omega.{arith}
 use mathlib.Core.Path.{sym, ap, _∙_}
-use borrow.Author.Tests.{not-true, not-false}
+use Rattle.word.proofs.Tests.{known-true, known-false}
 use lib.ListN.{length}
 use Rattle.lines.specs.Forms.{isArgument}
 use Rattle.lines.proofs.Parts.{Tested, tested-none, tested-more, tested-not, tested-all, part-inside, part-slice}
@@ -43,7 +43,7 @@ returns c =
     let entry = at-loop .before .before in
     tested-not _ _ (at-loop .loop .inv) _ (at-loop-test .loop-test .taken) (at-comma-end .comma-end .ensures)
     (ap isArgument (sym (part-slice (at-loop .loop .at) (at-comma-end .comma-end .result) (entry .args .s .now)))
-    ∙ sym (at-is-argument .is-argument .ensures) ∙ not-true _ (c .if1 .taken))
+    ∙ known-false (at-is-argument .is-argument .ensures) (c .if1 .taken))
 
 add-at : tie.Need-add-at Inv-loop μ-loop
 add-at c =
@@ -66,7 +66,7 @@ loop-again c =
     let entry = at-loop .before .before in
     tested-more _ _ (at-loop .loop .inv) _ (at-loop-test .loop-test .taken) (at-comma-end .comma-end .ensures)
     (ap isArgument (sym (part-slice (at-loop .loop .at) (at-comma-end .comma-end .result) (entry .args .s .now)))
-    ∙ sym (at-is-argument .is-argument .ensures) ∙ not-false _ (c .if1 .left))
+    ∙ known-true (at-is-argument .is-argument .ensures) (c .if1 .left))
 
 returns-2 : tie.Need-returns-2 Inv-loop μ-loop
 returns-2 c = tested-all _ _ (c .before .loop .inv) (c .loop-test .left)

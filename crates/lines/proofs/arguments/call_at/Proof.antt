@@ -3,7 +3,7 @@ use native.Mathlib.Omega.{arith}
 use mathlib.Core.Path.{_≡_, sym, ap, _∙_}
 use mathlib.Core.List.{List}
 use Prim.Native.Nat.{ℕ}
-use borrow.Author.Tests.{not-true, not-false}
+use Rattle.word.proofs.Tests.{known-true, known-false}
 use lib.ListN.{length}
 use Rattle.lines.specs.Words.{spelled, same}
 use Rattle.lines.specs.Forms.{expanded}
@@ -71,7 +71,7 @@ returns-3 c =
     let at-comma-end = at-if1 .before in
     let entry = at-comma-end .before .before in
     let is = ap (λ (w : List ℕ). same w (spelled "DO")) (sym (part-slice 0 (at-comma-end .comma-end .result) (entry .args .s .now)))
-    ∙ sym (at-is-same .is-same .ensures) ∙ not-true _ (c .if3 .taken) in
+    ∙ known-false (at-is-same .is-same .ensures) (c .if3 .taken) in
     let three = short-three (entry .args .s .now) _ (at-comma-end .comma-end .ensures) (at-if1 .if1 .left) _ (at-comma-end2 .comma-end2 .ensures)
     (at-if2 .if2 .left) is in (
       omega arith,
@@ -92,7 +92,7 @@ returns-4 c =
     let at-comma-end = at-if1 .before in
     let entry = at-comma-end .before .before in
     let is = ap (λ (w : List ℕ). same w (spelled "DO")) (sym (part-slice 0 (at-comma-end .comma-end .result) (entry .args .s .now)))
-    ∙ sym (at-is-same .is-same .ensures) ∙ not-false _ (c .if3 .left) in
+    ∙ known-true (at-is-same .is-same .ensures) (c .if3 .left) in
     let two = called-two (entry .args .s .now) _ (at-comma-end .comma-end .ensures) (at-if1 .if1 .left) _ (at-comma-end2 .comma-end2 .ensures)
     (at-if2 .if2 .left) is in
     (omega arith, λ b e. calls-at (entry .args .s .now) (at-comma-end .comma-end .result) ∙ calls-one b (split (entry .args .s .now)) _ two e)

@@ -3,7 +3,7 @@ use Prim.Native.Nat.{ℕ, _+_, _-_, _*_}
 use native.Mathlib.Omega.{arith}
 use mathlib.Core.Path.{sym, ap, _∙_}
 use mathlib.Core.List.{List, map}
-use borrow.Author.Tests.{not-true, not-false}
+use Rattle.word.proofs.Tests.{known-true, known-false}
 use lib.ListN.{getD}
 use Rattle.lines.specs.Words.{isKind}
 use Rattle.lines.specs.Forms.{noForm}
@@ -90,7 +90,7 @@ returns-3 c =
     ∙ z)) _
     (at-if2 .if2 .left) (at-comma-end .comma-end .ensures)
     (ap (isKind _ _) (sym (part-slice (at-loop .loop .at) (at-comma-end .comma-end .result) (entry .args .s .now))) ∙ of-kind _ _ (sym number)
-    ∙ sym (at-is-kind .is-kind .ensures) ∙ not-true _ (c .if3 .taken)) ∙ fits-numbers _ _ _ _ (entry .pre .1 .1 .0)
+    ∙ known-false (at-is-kind .is-kind .ensures) (c .if3 .taken)) ∙ fits-numbers _ _ _ _ (entry .pre .1 .1 .0)
 
 add-at : tie.Need-add-at Inv-loop μ-loop
 add-at c =
@@ -121,7 +121,7 @@ loop-again c =
     ∙ z)) _
     (at-if2 .if2 .left) (at-comma-end .comma-end .ensures)
     (ap (isKind _ _) (sym (part-slice (at-loop .loop .at) (at-comma-end .comma-end .result) (entry .args .s .now))) ∙ of-kind _ _ (sym number)
-    ∙ sym (at-is-kind .is-kind .ensures) ∙ not-false _ (c .if3 .left))
+    ∙ known-true (at-is-kind .is-kind .ensures) (c .if3 .left))
 
 returns-4 : tie.Need-returns-4 Inv-loop μ-loop
 returns-4 c =

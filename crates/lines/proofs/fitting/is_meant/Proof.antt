@@ -3,7 +3,7 @@ use native.Mathlib.Omega.{arith}
 use mathlib.Core.Path.{sym, ap, _∙_}
 use mathlib.Core.List.{List}
 use Prim.Native.Nat.{ℕ, _+_, _*_}
-use borrow.Author.Tests.{not-true}
+use Rattle.word.proofs.Tests.{known-false}
 use lib.ListN.{getD}
 use Rattle.lines.specs.Words.{isKind}
 use Rattle.lines.specs.Forms.{noForm}
@@ -33,7 +33,7 @@ returns c =
     ∙ of-kind (entry .args .b) (entry .args .second .now) (sym (at-number-in .number-in .ensures ∙ ap (λ (t : List ℕ). getD t
     (8 * entry .args .form + 2) 0) (entry .pre .0 .0) ∙ kind-at (formsOf (entry .args .tests)) (entry .args .form) 1 (entry .pre .0 .1 .1 .0)
     (omega arith)))
-    ∙ sym (at-is-kind .is-kind .ensures) ∙ not-true _ (c .if1 .taken))
+    ∙ known-false (at-is-kind .is-kind .ensures) (c .if1 .taken))
 
 is-form-requires : tie.Need-is-form-requires
 is-form-requires c κs =

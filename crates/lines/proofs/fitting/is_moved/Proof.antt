@@ -1,11 +1,11 @@
 -- `lines::fitting::is_moved` meets its contract. Assumes nothing.
 use native.Mathlib.Omega.{arith}
-use mathlib.Core.Path.{sym, ap, _∙_}
+use mathlib.Core.Path.{ap, _∙_}
 use mathlib.Core.Bool.{Bool, _&&_}
 use Prim.Native.Nat.{_-_}
 use lib.Dec.{leb}
 use lib.ListN.{length}
-use borrow.Author.Tests.{not-true, not-false}
+use Rattle.word.proofs.Tests.{known-true, known-false}
 use Rattle.lines.proofs.Moving.{not-moved, short-field, moved}
 use borrow.Author.Needs.{needs}
 use Rattle.lines.proofs.fitting.is_moved.Statement.{statement}
@@ -15,13 +15,13 @@ is-field-requires : tie.Need-is-field-requires
 is-field-requires c κs = search needs
 
 returns : tie.Need-returns
-returns c = not-moved _ _ (sym (c .before .is-field .ensures) ∙ not-true _ (c .if1 .taken))
+returns c = not-moved _ _ (known-false (c .before .is-field .ensures) (c .if1 .taken))
 
 sub-result : tie.Need-sub-result
 sub-result c =
     let at-is-field = c .before in
     let entry = at-is-field .before .before .before in
-    let short = short-field (entry .args .a .now) (entry .args .names .now) (sym (at-is-field .is-field .ensures) ∙ not-false _ (c .if1 .left)) in omega arith
+    let short = short-field (entry .args .a .now) (entry .args .names .now) (known-true (at-is-field .is-field .ensures) (c .if1 .left)) in omega arith
 
 all-names-requires : tie.Need-all-names-requires
 all-names-requires c κs = search needs
@@ -32,7 +32,7 @@ returns-2 c =
     let at-is-field = at-if1 .before in
     let entry = at-is-field .before .before .before in
     ap (λ (t : Bool). leb (length (entry .args .names .now)) (6 - length (entry .args .a .now)) && t) (c .all-names .ensures)
-    ∙ moved _ _ (sym (at-is-field .is-field .ensures) ∙ not-false _ (at-if1 .if1 .left))
+    ∙ moved _ _ (known-true (at-is-field .is-field .ensures) (at-if1 .if1 .left))
 
 pub is-moved-spec : {M : Type 1} → statement M
 is-moved-spec =

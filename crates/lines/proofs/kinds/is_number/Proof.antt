@@ -2,8 +2,7 @@
 use Prim.Native.Nat.{ℕ, _+_, _-_, _*_, _^_, _≤_, _<_}
 use native.Mathlib.Nat.{mul-le-mul-left}
 use native.Mathlib.Omega.{arith}
-use mathlib.Core.Path.{sym, _∙_}
-use borrow.Author.Tests.{not-true, not-false}
+use Rattle.word.proofs.Tests.{known-true, known-false}
 use lib.ListN.{length, getD}
 use Rattle.lines.proofs.Literals.{Valued, valued-none, valued-more, valued-not, valued-over, valued-all, digit-least}
 use borrow.Author.Needs.{needs}
@@ -33,7 +32,7 @@ returns c =
     let at-is-digit-of = c .before in
     let at-loop-test = at-is-digit-of .before .before in
     let at-loop = at-loop-test .before in
-    valued-not _ _ _ (at-loop .loop .inv) (at-loop-test .loop-test .taken) (sym (at-is-digit-of .is-digit-of .ensures) ∙ not-true _ (c .if1 .taken))
+    valued-not _ _ _ (at-loop .loop .inv) (at-loop-test .loop-test .taken) (known-false (at-is-digit-of .is-digit-of .ensures) (c .if1 .taken))
 
 mul-v : tie.Need-mul-v Inv-loop μ-loop
 mul-v c =
@@ -60,7 +59,7 @@ sub-v : tie.Need-sub-v Inv-loop μ-loop
 sub-v c =
     let at-is-digit-of = c .before in
     let entry = at-is-digit-of .before .before .before .before .before in
-    let least = digit-least (entry .args .base) 0 (entry .args .w .now) _ (sym (at-is-digit-of .is-digit-of .ensures) ∙ not-false _ (c .if1 .left)) in omega
+    let least = digit-least (entry .args .base) 0 (entry .args .w .now) _ (known-true (at-is-digit-of .is-digit-of .ensures) (c .if1 .left)) in omega
     arith
 
 returns-2 : tie.Need-returns-2 Inv-loop μ-loop
@@ -71,7 +70,7 @@ returns-2 c =
     let at-loop = at-loop-test .before in
     let entry = at-loop .before .before in
     valued-over _ _ _ (entry .pre .1 .1 .0) (at-loop .loop .inv) (at-loop-test .loop-test .taken)
-    (sym (at-is-digit-of .is-digit-of .ensures) ∙ not-false _ (at-if1 .if1 .left)) (c .if2 .taken)
+    (known-true (at-is-digit-of .is-digit-of .ensures) (at-if1 .if1 .left)) (c .if2 .taken)
 
 add-i : tie.Need-add-i Inv-loop μ-loop
 add-i c = search needs
@@ -85,7 +84,7 @@ loop-again c =
     let at-is-digit-of = at-if1 .before in
     let at-loop-test = at-is-digit-of .before .before in
     let at-loop = at-loop-test .before in
-    valued-more _ _ _ (at-loop .loop .inv) (at-loop-test .loop-test .taken) (sym (at-is-digit-of .is-digit-of .ensures) ∙ not-false _ (at-if1 .if1 .left))
+    valued-more _ _ _ (at-loop .loop .inv) (at-loop-test .loop-test .taken) (known-true (at-is-digit-of .is-digit-of .ensures) (at-if1 .if1 .left))
     (c .if2 .left)
 
 returns-3 : tie.Need-returns-3 Inv-loop μ-loop

@@ -1,8 +1,7 @@
 -- `lines::words::all_characters` meets its contract. The loop's invariant: the characters end where they did at the start. Assumes nothing.
 use Prim.Native.Nat.{_-_}
 use native.Mathlib.Omega.{arith}
-use mathlib.Core.Path.{sym, _∙_}
-use borrow.Author.Tests.{not-true, not-false}
+use Rattle.word.proofs.Tests.{known-true, known-false}
 use lib.ListN.{length}
 use Rattle.lines.specs.Words.{isCharacter}
 use Rattle.lines.proofs.Scanning.{Passed, passed-none, passed-more, passed-not, passed-whole}
@@ -30,7 +29,7 @@ returns c =
     let at-is-character = c .before in
     let at-loop-test = at-is-character .before .before in
     let at-loop = at-loop-test .before in
-    passed-not isCharacter _ (at-loop .loop .inv) (at-loop-test .loop-test .taken) (sym (at-is-character .is-character .ensures) ∙ not-true _ (c .if1 .taken))
+    passed-not isCharacter _ (at-loop .loop .inv) (at-loop-test .loop-test .taken) (known-false (at-is-character .is-character .ensures) (c .if1 .taken))
 
 add-i : tie.Need-add-i Inv-loop μ-loop
 add-i c = search needs
@@ -43,7 +42,7 @@ loop-again c =
     let at-is-character = c .before in
     let at-loop-test = at-is-character .before .before in
     let at-loop = at-loop-test .before in
-    passed-more isCharacter _ (at-loop .loop .inv) (at-loop-test .loop-test .taken) (sym (at-is-character .is-character .ensures) ∙ not-false _ (c .if1 .left))
+    passed-more isCharacter _ (at-loop .loop .inv) (at-loop-test .loop-test .taken) (known-true (at-is-character .is-character .ensures) (c .if1 .left))
 
 returns-2 : tie.Need-returns-2 Inv-loop μ-loop
 returns-2 c = passed-whole isCharacter _ (c .before .loop .inv) (c .loop-test .left)

@@ -2,9 +2,8 @@
 use borrow.Author.Needs.{needs}
 use Prim.Native.Nat.{_≤_, _-_, _/_}
 use native.Mathlib.Numerals.{add-one}
-use mathlib.Core.Bool.{true, false}
 use mathlib.Core.Path.{_≡_, refl, ap, sym, _∙_}
-use borrow.Author.Tests.{not-true, not-false}
+use Rattle.word.proofs.Tests.{known-true, known-false}
 use lib.ListN.{length}
 use Rattle.table.specs.Row.{rows}
 use Rattle.table.specs.Table.{wellFormed, lowestFrom}
@@ -34,9 +33,8 @@ returns : tie.Need-returns Inv-loop μ-loop
 returns c =
     let loop = c .before .before .before .before .loop in
     let start = c .before .before .before .before .before .before .args in
-    let wrong : c .before .well-formed .result ≡ false = not-true _ (c .if1 .taken) in
     lowest-here (start .b) (start .table .now) (loop .r) (omega arith)
-    (ap (wellFormed (start .b) _ (loop .r)) (sym (c .before .before .row-at .ensures)) ∙ sym (c .before .well-formed .ensures) ∙ wrong)
+    (ap (wellFormed (start .b) _ (loop .r)) (sym (c .before .before .row-at .ensures)) ∙ known-false (c .before .well-formed .ensures) (c .if1 .taken))
     ∙ sym (loop .inv .1)
 
 add-r : tie.Need-add-r Inv-loop μ-loop
@@ -48,13 +46,12 @@ loop-less c = omega arith
 loop-again : tie.Need-loop-again Inv-loop μ-loop
 loop-again c =
     let loop = c .before .before .before .before .loop in
-    let start = c .before .before .before .before .before .before .args in
-    let right : c .before .well-formed .result ≡ true = not-false _ (c .if1 .left) in (
+    let start = c .before .before .before .before .before .before .args in (
       omega arith,
       rw add-one
           (loop .inv .1
           ∙ lowest-later (start .b) (start .table .now) (loop .r) (omega arith)
-          (ap (wellFormed (start .b) _ (loop .r)) (sym (c .before .before .row-at .ensures)) ∙ sym (c .before .well-formed .ensures) ∙ right)),
+          (ap (wellFormed (start .b) _ (loop .r)) (sym (c .before .before .row-at .ensures)) ∙ known-true (c .before .well-formed .ensures) (c .if1 .left))),
     )
 
 returns-2 : tie.Need-returns-2 Inv-loop μ-loop

@@ -1,9 +1,7 @@
 -- `table::check::well_formed_as` meets its contract: each return by the tests that led there. Assumes nothing.
 use borrow.Author.Needs.{needs}
 use native.Mathlib.Omega.{arith}
-use mathlib.Core.Bool.{true, false}
-use mathlib.Core.Path.{_≡_, sym, _∙_}
-use borrow.Author.Tests.{not-true, not-false}
+use Rattle.word.proofs.Tests.{known-true, known-false}
 use Rattle.table.proofs.Formed.{other-kind, not-chained, formed-from}
 use Rattle.table.proofs.check.well_formed_as.Statement.{statement}
 use Rattle.table.proofs.check.well_formed_as.Tie as tie
@@ -15,9 +13,7 @@ is-chained-requires : tie.Need-is-chained-requires
 is-chained-requires c κs = search needs
 
 returns-2 : tie.Need-returns-2
-returns-2 c =
-    let wrong : c .before .is-chained .result ≡ false = not-true _ (c .if2 .taken) in
-    not-chained _ _ _ _ _ (omega arith) (sym (c .before .is-chained .ensures) ∙ wrong)
+returns-2 c = not-chained _ _ _ _ _ (omega arith) (known-false (c .before .is-chained .ensures) (c .if2 .taken))
 
 has-kind-requires : tie.Need-has-kind-requires
 has-kind-requires c κs = search needs
@@ -25,8 +21,7 @@ has-kind-requires c κs = search needs
 returns-3 : tie.Need-returns-3
 returns-3 c =
     let at-is-chained = c .before .before in
-    let right : at-is-chained .is-chained .result ≡ true = not-false _ (c .before .if2 .left) in
-    formed-from _ _ _ _ _ (omega arith) (sym (at-is-chained .is-chained .ensures) ∙ right) (c .has-kind .ensures)
+    formed-from _ _ _ _ _ (omega arith) (known-true (at-is-chained .is-chained .ensures) (c .before .if2 .left)) (c .has-kind .ensures)
 
 pub well-formed-as-spec : {M : Type 1} → statement M
 well-formed-as-spec =

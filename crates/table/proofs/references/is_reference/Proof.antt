@@ -2,9 +2,9 @@
 -- reference, and has at most k + 1 digits. The measure is what is left. Assumes nothing.
 use Prim.Native.Nat.{ℕ, suc, _<_, _^_}
 use native.Mathlib.Omega.{arith}
-use mathlib.Core.Bool.{true, false}
 use mathlib.Core.Path.{_≡_, _∙_, sym}
-use borrow.Author.Tests.{le-ltb, not-true, not-false}
+use borrow.Author.Tests.{le-ltb}
+use Rattle.word.proofs.Tests.{known-true, known-false}
 use Rattle.table.specs.Reference.{isReference, namesBug, namesField}
 use Rattle.table.proofs.Digits.{wellNamed, is-reference-named, named-last, goes-on, goes-wrong}
 use Rattle.table.proofs.references.is_reference.Statement.{statement}
@@ -31,7 +31,7 @@ unfolding namesField
 returns-2 c =
     let loop = c .before .before .before .loop in
     goes-wrong _ (loop .inv .0) (loop .rest) (loop .inv .1) (loop .inv .2) (c .before .before .loop-test .taken)
-    (let wrong : c .before .is-name .result ≡ false = not-true _ (c .if2 .taken) in sym (c .before .is-name .ensures) ∙ wrong)
+    (known-false (c .before .is-name .ensures) (c .if2 .taken))
 
 loop-less : tie.Need-loop-less Inv-loop μ-loop
 loop-less c = omega arith
@@ -41,7 +41,7 @@ unfolding namesField
 loop-again c =
     let loop = c .before .before .before .loop in
     goes-on _ (loop .inv .0) (loop .rest) (loop .inv .1) (loop .inv .2) (c .before .before .loop-test .taken)
-    (let right : c .before .is-name .result ≡ true = not-false _ (c .if2 .left) in sym (c .before .is-name .ensures) ∙ right)
+    (known-true (c .before .is-name .ensures) (c .if2 .left))
 
 is-name-requires-2 : tie.Need-is-name-requires-2 Inv-loop μ-loop
 is-name-requires-2 c κs = tt
