@@ -1,6 +1,24 @@
 // The engine's state, answers and reports: what they mean stands in specs/.
 
-// Why a step is refused: document 01's refusals 1 to 21, in its order, then 22 of ticket 1 and 31 of ticket 9.
+// How many bugs and fields there are, entries of a stack, and bytes of a map: one for each word that may be set up.
+pub const BUGS: usize = 26;
+
+pub const FIELDS: usize = 36;
+
+pub const STACK: usize = 128;
+
+pub const MAP: usize = 4096;
+
+// The last row that a place may name.
+pub const LAST_ROW: u16 = 799;
+
+// The last word of a block that a definition may name.
+pub const LAST_WORD: u8 = 127;
+
+// How many characters a print writes at most.
+pub const PRINTED: u64 = 120;
+
+// Why a step is refused: document 01's refusals 1 to 21, in its order, then refusal 22 of ticket 1 and 31 of ticket 9.
 pub enum Refusal {
     TableLength,
     BadRow,
@@ -33,7 +51,16 @@ pub enum Answer {
     Refused(Refusal),
 }
 
-// Where the engine stands: kind 0 at the tests of a line, 1 at an operation of a line, 2 at a line's exit, 3 finished.
+// Kinds of places: at the tests of a line, at an operation of a line, at a line's exit, finished.
+pub const AT_TESTS: u8 = 0;
+
+pub const AT_OPERATION: u8 = 1;
+
+pub const AT_EXIT: u8 = 2;
+
+pub const FINISHED: u8 = 3;
+
+// Where the engine stands.
 pub struct Place {
     pub kind: u8,
     pub row: u16,
@@ -50,25 +77,25 @@ pub struct Definition {
 
 // The three stacks: the first count entries are used.
 pub struct ContentsStack {
-    pub entries: [u64; 128],
+    pub entries: [u64; STACK],
     pub count: usize,
 }
 
 pub struct DefinitionStack {
-    pub entries: [Definition; 128],
+    pub entries: [Definition; STACK],
     pub count: usize,
 }
 
 pub struct CallStack {
-    pub entries: [Place; 128],
+    pub entries: [Place; STACK],
     pub count: usize,
 }
 
 // All of the state but the block map.
 pub struct Core {
     pub place: Place,
-    pub bugs: [u64; 26],
-    pub definitions: [Definition; 36],
+    pub bugs: [u64; BUGS],
+    pub definitions: [Definition; FIELDS],
     pub contents: ContentsStack,
     pub saved: DefinitionStack,
     pub calls: CallStack,
@@ -81,7 +108,7 @@ pub struct Core {
 pub struct State {
     pub width: u8,
     pub core: Core,
-    pub map: [u8; 4096],
+    pub map: [u8; MAP],
 }
 
 // Where a reference leads: a bug, or bits left to right of the word at an address.
@@ -122,19 +149,19 @@ pub struct Ran {
     pub count: u64,
 }
 
-// What is answered where a fresh engine is asked for: that it is made, or that its width is none (31).
+// What is answered where a fresh engine is asked for: that it is made, or that its width is none (refusal 31).
 pub enum FreshAnswer {
     Done,
     NoWidth,
 }
 
-// A fresh engine's state. With NoWidth comes one that every call refuses by 31.
+// A fresh engine's state. With NoWidth comes one that every call refuses: refusal 31.
 pub struct Fresh {
     pub state: State,
     pub answer: FreshAnswer,
 }
 
-// What an extension answers: that it is done, or why it is refused (31, 11, 12, and 32 of ticket 11).
+// What an extension answers: that it is done, or why it is refused (refusals 31, 11, 12, and 32 of ticket 11).
 pub enum ExtensionAnswer {
     Done,
     NoWidth,

@@ -13,6 +13,7 @@ use crate::Operand;
 use crate::Row;
 use crate::Shape;
 use crate::TableCheck;
+use crate::codes;
 use crate::forms;
 use crate::rows;
 
@@ -53,30 +54,30 @@ fn name_and(x: Operand) -> Shape
     }
 }
 
-// The operands of an operation from 8 on.
+// The operands of an operation from add on.
 fn later_shape(code: u64) -> Shape
     requires { ⌜ (8 ≤ code) × (code ≤ 36) ⌝ }
     ensures { λ r. ⌜ r ≡ shapeOf code ⌝ }
 {
-    if code <= 15 {
+    if code <= codes::COMPLEMENT {
         return a_and_cd();
     }
-    if code <= 21 {
+    if code <= codes::RIGHTMOST_ZERO {
         return a_and_c();
     }
-    if code <= 24 {
+    if code <= codes::INPUT {
         return a_and_cd();
     }
-    if code <= 25 {
+    if code <= codes::PRINT {
         return unnamed(Operand::Either, Operand::Either, Operand::Absent);
     }
-    if code <= 31 {
+    if code <= codes::ZEROS_TO_BLANKS {
         return a_and_c();
     }
-    if code <= 33 {
+    if code <= codes::RESTORE {
         return unnamed(Operand::Reference, Operand::Absent, Operand::Absent);
     }
-    if code <= 35 {
+    if code <= codes::RESTORE_DEFINITION {
         return name_and(Operand::Absent);
     }
     unnamed(Operand::Line, Operand::Absent, Operand::Absent)
@@ -87,33 +88,33 @@ fn shape_of(code: u64) -> Shape
     requires { ⌜ (1 ≤ code) × (code ≤ 36) ⌝ }
     ensures { λ r. ⌜ r ≡ shapeOf code ⌝ }
 {
-    if code <= 1 {
+    if code <= codes::SET_UP {
         return unnamed(Operand::Literal, Operand::Literal, Operand::Literal);
     }
-    if code <= 2 {
+    if code <= codes::DEFINE {
         return name_and(Operand::Either);
     }
-    if code <= 3 {
+    if code <= codes::GET {
         return unnamed(
             Operand::Reference,
             Operand::Either,
             Operand::ReferenceOrAbsent,
         );
     }
-    if code <= 4 {
+    if code <= codes::FREE {
         return unnamed(
             Operand::Reference,
             Operand::ReferenceOrZero,
             Operand::Absent,
         );
     }
-    if code <= 5 {
+    if code <= codes::DUPLICATE {
         return a_and_c();
     }
-    if code <= 6 {
+    if code <= codes::COPY {
         return a_and_cd();
     }
-    if code <= 7 {
+    if code <= codes::INTERCHANGE {
         return a_and_c();
     }
     later_shape(code)
@@ -132,7 +133,7 @@ fn names_rows(rows: u64, row: Row) -> bool
 {
     let test = row_or_none(rows, row.first.form);
     let operation = row_or_none(rows, row.first.value);
-    let goes = row_or_none(rows, row.second.form) | (row.second.form == 65535);
+    let goes = row_or_none(rows, row.second.form) | (row.second.form == codes::DONE);
     test & (operation & goes)
 }
 
@@ -140,14 +141,14 @@ fn names_rows(rows: u64, row: Row) -> bool
 fn has_mode(row: Row) -> bool
     ensures { λ x. ⌜ x ≡ hasMode row ⌝ }
 {
-    (row.code <= 4) & (row.name == 0)
+    (row.code <= codes::IFNALL) & (row.name == 0)
 }
 
 // THEN has no test, the others have one or more.
 fn has_tests(row: Row) -> bool
     ensures { λ x. ⌜ x ≡ hasTests row ⌝ }
 {
-    (row.code == 0) == (row.first.form == 0)
+    (row.code == codes::THEN) == (row.first.form == 0)
 }
 
 // Without operations a go-to is needed.
@@ -182,17 +183,18 @@ fn is_line(rows: u64, row: Row) -> bool
 fn is_test(b: u64, rows: u64, row: Row) -> bool
     ensures { λ x. ⌜ x ≡ isTest b rows row ⌝ }
 {
-    (1 <= row.code) & ((row.code <= 7) & forms::has_shape(b, rows, a_and_cd(), row))
+    (codes::EQUAL <= row.code)
+        & ((row.code <= codes::ZEROS) & forms::has_shape(b, rows, a_and_cd(), row))
 }
 
 // Kind 3, an operation: codes 1 to 36.
 fn is_operation(b: u64, rows: u64, row: Row) -> bool
     ensures { λ x. ⌜ x ≡ isOperation b rows row ⌝ }
 {
-    if row.code < 1 {
+    if row.code < codes::SET_UP {
         return false;
     }
-    if 36 < row.code {
+    if codes::DO < row.code {
         return false;
     }
     forms::has_shape(b, rows, shape_of(row.code), row)
@@ -215,10 +217,10 @@ fn well_formed_as(kind: u64, b: u64, rows: u64, r: u64, row: Row) -> bool
 fn has_kind(kind: u64, b: u64, rows: u64, row: Row) -> bool
     ensures { λ x. ⌜ x ≡ shaped kind b rows row ⌝ }
 {
-    if kind == 1 {
+    if kind == codes::LINE {
         return is_line(rows, row);
     }
-    if kind == 2 {
+    if kind == codes::TEST {
         return is_test(b, rows, row);
     }
     is_operation(b, rows, row)
@@ -235,9 +237,9 @@ fn is_chained(rows: u64, r: u64, next: u64) -> bool
 fn well_formed(b: u64, rows: u64, r: u64, row: Row) -> bool
     ensures { λ x. ⌜ x ≡ wellFormed b rows r row ⌝ }
 {
-    let line = well_formed_as(1, b, rows, r, row);
-    let test = well_formed_as(2, b, rows, r, row);
-    let operation = well_formed_as(3, b, rows, r, row);
+    let line = well_formed_as(codes::LINE, b, rows, r, row);
+    let test = well_formed_as(codes::TEST, b, rows, r, row);
+    let operation = well_formed_as(codes::OPERATION, b, rows, r, row);
     line | test | operation
 }
 
@@ -253,7 +255,7 @@ pub fn has_length(table: &[u64]) -> bool
 pub fn is_usable(kind: u64, b: u64, table: &[u64], r: usize) -> bool
     ensures { λ x. ⌜ x ≡ usable kind b (now (table .entry)) r ⌝ }
 {
-    let rows = table.len() / 10;
+    let rows = table.len() / rows::NUMBERS;
     if r < 1 {
         return false;
     }
@@ -267,7 +269,7 @@ pub fn is_usable(kind: u64, b: u64, table: &[u64], r: usize) -> bool
 pub fn lowest_ill_formed(b: u64, table: &[u64]) -> u64
     ensures { λ x. ⌜ x ≡ lowestFrom b (now (table .entry)) 1 (rows (now (table .entry)) - 1) ⌝ }
 {
-    let rows = table.len() / 10;
+    let rows = table.len() / rows::NUMBERS;
     let mut r = 1;
     while r < rows {
         if !well_formed(b, rows as u64, r as u64, rows::row_at(table, r)) {
@@ -278,7 +280,7 @@ pub fn lowest_ill_formed(b: u64, table: &[u64]) -> u64
     0
 }
 
-// The table check at a width: 31, then 1, then the row; the second promise gives the answer in the papers' numbers.
+// The table check at a width: refusal 31, then 1, then the row; the second promise gives the answer in the papers' numbers.
 pub fn check_table(b: u64, table: &[u64]) -> TableCheck
     ensures { λ x. ⌜ x ≡ tableChecked b (now (table .entry)) ⌝ }
     ensures numbered { λ x. ⌜ toldCheck x ≡ checkTold b (now (table .entry)) ⌝ }

@@ -8,6 +8,7 @@ use crate::Operand;
 use crate::Pair;
 use crate::Row;
 use crate::Shape;
+use crate::codes;
 use crate::references;
 use word::arithmetic;
 
@@ -15,7 +16,7 @@ use word::arithmetic;
 pub(crate) fn is_absent(p: Pair) -> bool
     ensures { λ r. ⌜ r ≡ isAbsent p ⌝ }
 {
-    (p.form == 0) & (p.value == 0)
+    (p.form == codes::ABSENT) & (p.value == 0)
 }
 
 // A number below 2^b: each is, where b is 64 or more.
@@ -33,21 +34,21 @@ fn fits_word(b: u64, v: u64) -> bool
 fn is_literal(b: u64, p: Pair) -> bool
     ensures { λ r. ⌜ r ≡ isLiteral b p ⌝ }
 {
-    (p.form == 1) & fits_word(b, p.value)
+    (p.form == codes::LITERAL) & fits_word(b, p.value)
 }
 
 // Form 2, a reference.
 fn is_ref(p: Pair) -> bool
     ensures { λ r. ⌜ r ≡ isRef p ⌝ }
 {
-    (p.form == 2) & references::is_reference(p.value)
+    (p.form == codes::REFERENCE) & references::is_reference(p.value)
 }
 
 // The literal 0.
 fn is_zero(p: Pair) -> bool
     ensures { λ r. ⌜ r ≡ isZero p ⌝ }
 {
-    (p.form == 1) & (p.value == 0)
+    (p.form == codes::LITERAL) & (p.value == 0)
 }
 
 // A pair is such an operand, in a table of this many rows.

@@ -1,5 +1,6 @@
 // The table: rows of ten numbers, references, operands and the check. What each means stands in specs/.
 pub mod check;
+pub mod codes;
 mod forms;
 pub mod references;
 pub mod rows;

@@ -8,28 +8,38 @@ use crate::BugLetter;
 use crate::FieldName;
 use crate::Names;
 
-// A digit that names something: one of lowest to 36.
+// The digits of names: the first field's, that of A, and the last.
+const FIRST: u64 = 1;
+
+const A: u64 = 11;
+
+const LAST: u64 = 36;
+
+// As many values as six digits have.
+const SIX: u64 = 0o1_000_000_000_000;
+
+// A digit that names something: one of lowest to the last.
 fn is_name(lowest: u64, x: u64) -> bool
     ensures { λ r. ⌜ r ≡ names lowest x ⌝ }
 {
-    (lowest <= x) & (x <= 36)
+    (lowest <= x) & (x <= LAST)
 }
 
 // v is a reference: six base-64 digits at most, the first a bug's, the others fields'.
 pub fn is_reference(v: u64) -> bool
     ensures { λ r. ⌜ r ≡ isReference v ⌝ }
 {
-    if 68719476736 <= v {
+    if SIX <= v {
         return false;
     }
     let mut rest = v;
     while 64 <= rest {
-        if !is_name(1, rest % 64) {
+        if !is_name(FIRST, rest % 64) {
             return false;
         }
         rest = rest / 64;
     }
-    is_name(11, rest)
+    is_name(A, rest)
 }
 
 // The names of a reference, the last one first found.
@@ -42,11 +52,11 @@ pub fn names_in(v: u64) -> Names
     let mut from = 5;
     while 64 <= rest {
         from -= 1;
-        fields[from] = FieldName((rest % 64 - 1) as u8);
+        fields[from] = FieldName((rest % 64 - FIRST) as u8);
         rest = rest / 64;
     }
     Names {
-        bug: BugLetter(rest - 11),
+        bug: BugLetter(rest - A),
         from: from,
         fields: fields,
     }
@@ -65,7 +75,7 @@ pub fn bug_before(v: u64, bits: u64) -> BugLetter
     requires { ⌜ isReference v ≡ true × Following v bits ⌝ }
     ensures { λ r. ⌜ (r ≡ referenceOf v .bug) × (r .0 < 26) ⌝ }
 {
-    BugLetter((v >> bits) - 11)
+    BugLetter((v >> bits) - A)
 }
 
 // The field that a reference names where so many bits follow.
@@ -73,5 +83,5 @@ pub fn name_before(v: u64, bits: u64) -> FieldName
     requires { ⌜ isReference v ≡ true × FollowingLater v bits ⌝ }
     ensures { λ r. ⌜ (r ≡ nameAt v bits) × (r .0 < 36) ⌝ }
 {
-    FieldName(((v >> bits) % 64 - 1) as u8)
+    FieldName(((v >> bits) % 64 - FIRST) as u8)
 }

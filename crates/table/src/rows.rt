@@ -6,6 +6,11 @@ ghost use Rattle.table.specs.Row.{asRow, rowAt};
 use crate::Pair;
 use crate::Row;
 
+// How many numbers a row has, and how many rows a table at most.
+pub const NUMBERS: usize = 10;
+
+pub const MOST: usize = 800;
+
 // Ten numbers as a row.
 fn as_row(row: &[u64]) -> Row
     requires { ⌜ 10 ≤ length (now row) ⌝ }
@@ -36,6 +41,6 @@ pub fn row_at(table: &[u64], r: usize) -> Row
     requires { ⌜ 10 * r + 10 ≤ length (now table) ⌝ }
     ensures { λ x. ⌜ x ≡ rowAt (now (table .entry)) r ⌝ }
 {
-    let at = 10 * r;
+    let at = NUMBERS * r;
     as_row(&table[at..])
 }
