@@ -10,6 +10,8 @@ use super::fresh::free_trees;
 use super::section::words_of;
 use super::sizes::size_of;
 use super::sizes::top_of;
+use block::LAST_ADDRESS;
+use block::MOST_WORDS;
 use block::SetUp;
 
 // Whether a new last address is taken, with so many words lent: refusal 32.
@@ -18,12 +20,12 @@ pub fn extends(lent: usize, setup: SetUp, last: u64) -> bool
     ensures { λ r. ⌜ r ≡ extending lent last setup ⌝ }
 {
     let s2 = setup.s2 as u64;
-    let later = (s2 < last) & (last <= 32767);
+    let later = (s2 < last) & (last <= LAST_ADDRESS);
     if !later {
         return false;
     }
     let words = last - setup.s1 as u64 + 1;
-    ((last - s2) % (setup.d as u64) == 0) & (words <= 4096) & (words <= lent as u64)
+    ((last - s2) % (setup.d as u64) == 0) & (words <= MOST_WORDS) & (words <= lent as u64)
 }
 
 // The words up to a new last address become free blocks of the largest size.

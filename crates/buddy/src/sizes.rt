@@ -3,6 +3,7 @@ ghost use mathlib.Core.Path.{_≡_};
 ghost use Prim.Native.Nat.{_≤_};
 ghost use Rattle.block.specs.Blocks.{size, level};
 ghost use Rattle.block.specs.SetUp.{top};
+use block::TOP;
 
 // The k-th size.
 pub fn size_of(k: u8) -> usize
@@ -28,5 +29,5 @@ pub fn level_of(k: u8, n: u64) -> u8
 pub fn top_of(d: u16) -> u8
     ensures { λ r. ⌜ r ≡ top d ⌝ }
 {
-    level_of(7, d as u64)
+    level_of(TOP, d as u64)
 }

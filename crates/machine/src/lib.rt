@@ -7,7 +7,7 @@ pub const FIELDS: usize = 36;
 
 pub const STACK: usize = 128;
 
-pub const MAP: usize = 4096;
+pub const MAP: usize = block::MOST_WORDS as usize;
 
 // The last row that a place may name.
 pub const LAST_ROW: u16 = 799;

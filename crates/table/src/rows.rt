@@ -6,10 +6,12 @@ ghost use Rattle.table.specs.Row.{asRow, rowAt};
 use crate::Pair;
 use crate::Row;
 
-// How many numbers a row has, and how many rows a table at most.
+// How many numbers a row has, how many rows a table at most, and how many numbers these have.
 pub const NUMBERS: usize = 10;
 
 pub const MOST: usize = 800;
+
+pub const ALL: usize = 8000;
 
 // Ten numbers as a row.
 fn as_row(row: &[u64]) -> Row
