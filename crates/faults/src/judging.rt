@@ -19,10 +19,19 @@ use crate::labels;
 use crate::line;
 use crate::names;
 use crate::seeking;
+use lines::BAD_LABEL;
+use lines::BAD_LINE;
 use lines::Spot;
+use lines::TOO_LONG;
 use lines::arguments;
 use lines::spots;
 use lines::words;
+use table::rows;
+
+// How many numbers a row has, and how many rows a table at most.
+const NUMBERS: u64 = rows::NUMBERS as u64;
+
+const MOST: u64 = rows::MOST as u64;
 
 // Whether no line declares a label.
 fn is_missing(b: u64, text: &[u8], keys: &[u64], rows: &[u64], label: &[u8]) -> bool
@@ -32,7 +41,7 @@ fn is_missing(b: u64, text: &[u8], keys: &[u64], rows: &[u64], label: &[u8]) -> 
     if names::known_row(keys, rows, label) != 0 {
         return false;
     }
-    if (keys.len() < 800) & (0 < label.len()) {
+    if (keys.len() < rows::MOST) & (0 < label.len()) {
         return true;
     }
     !labels::declared(b, text, label)
@@ -143,16 +152,16 @@ fn is_again(keys: &[u64], rows: &[u64], count: u64, label: &[u8]) -> bool
     (row != 0) & (row < count)
 }
 
-// Whether rows pass 800, or the lent numbers.
+// Whether rows are too many, or pass the lent numbers.
 fn too_long(lent: u64, count: u64, size: u64) -> bool
     requires { ⌜ count ≤ 800 ⌝ }
     ensures { λ r. ⌜ r ≡ tooLong lent (count + size) ⌝ }
 {
-    if 800 < size {
+    if MOST < size {
         return true;
     }
     let rows = count + size;
-    !((rows <= 800) & (10 * rows <= lent))
+    !((rows <= MOST) & (NUMBERS * rows <= lent))
 }
 
 // Whether a line uses a label that no line declares, or declares one again.
@@ -197,16 +206,22 @@ fn fault_of(
     let scanned = line::scan(b, s);
     let Scanned::Good(c) = scanned else {
         return Fault {
-            number: 23,
+            number: BAD_LINE,
             size: 0,
         };
     };
     let size = (1 + c.tests + c.operations) as u64;
     if is_mislabelled(b, text, keys, rows, s, count, c) {
-        return Fault { number: 24, size };
+        return Fault {
+            number: BAD_LABEL,
+            size,
+        };
     }
     if too_long(lent, count, size) {
-        return Fault { number: 25, size };
+        return Fault {
+            number: TOO_LONG,
+            size,
+        };
     }
     Fault { number: 0, size }
 }
@@ -219,7 +234,7 @@ pub fn judge(b: u64, text: &[u8], keys: &[u64], rows: &[u64], lent: u64) -> Verd
 {
     if text.len() == 0 {
         return Verdict {
-            number: 23,
+            number: BAD_LINE,
             line: 1,
             count: 0,
         };

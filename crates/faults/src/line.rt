@@ -16,6 +16,7 @@ use lines::fitting;
 use lines::kinds;
 use lines::spots;
 use lines::words;
+use table::codes;
 
 // After a mode word.
 fn entered(from: usize, label: usize, mode: u64, end: usize) -> Walk
@@ -32,7 +33,7 @@ fn entered(from: usize, label: usize, mode: u64, end: usize) -> Walk
         goes: 0,
         ends: 0,
     };
-    if mode == 0 {
+    if mode == codes::THEN {
         Walk::Operations(c)
     } else {
         Walk::Tests(c)
@@ -45,7 +46,7 @@ fn mode_step(s: &[u8], from: usize, label: usize, at: usize, end: usize, other: 
     ensures { λ r. ⌜ r ≡ modeWalk (now (s .entry)) from label at end other ⌝ }
 {
     let mode = kinds::mode_of(&s[at..end]);
-    if mode == 5 {
+    if mode == kinds::NO_MODE {
         return other;
     }
     entered(from, label, mode, end)
@@ -209,7 +210,7 @@ fn at_end(s: &[u8], at: usize) -> bool
     if s.len() - at != 1 {
         return false;
     }
-    s[at] == 10
+    s[at] == b'\n'
 }
 
 // Tests unless the line is a THEN line, and an operation or a go-to.
@@ -217,7 +218,7 @@ fn is_enough(c: Scan) -> bool
     ensures { λ r. ⌜ r ≡ enoughAt c ⌝ }
 {
     let going = !((c.operations == 0) & (c.goes == c.ends));
-    if c.mode == 0 {
+    if c.mode == codes::THEN {
         return (c.tests == 0) & going;
     }
     (c.tests != 0) & going

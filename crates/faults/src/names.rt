@@ -8,6 +8,7 @@ use crate::Scanned;
 use crate::labels;
 use crate::line;
 use lines::kinds;
+use table::rows;
 
 // A byte as a number.
 fn wide(x: u8) -> u64
@@ -104,7 +105,7 @@ pub fn collect(b: u64, text: &[u8], keys: &mut [u64], rows: &mut [u64]) -> usize
     let mut n = 0;
     let mut before: u64 = 0;
     while from < text.len() {
-        if 800 <= n {
+        if rows::MOST <= n {
             return n;
         }
         let to = labels::line_end(text, from);

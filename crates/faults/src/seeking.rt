@@ -13,6 +13,10 @@ use crate::names;
 use lines::arguments;
 use lines::kinds;
 use lines::words;
+use table::rows;
+
+// The row put beside a label that is found: past the last, since nobody asks which it is.
+const PAST: u64 = 801;
 
 // The place of a number, their count where it is not there.
 fn place_of(keys: &[u64], key: u64) -> usize
@@ -44,10 +48,10 @@ fn is_use(text: &[u8], from: usize, end: usize) -> bool
     requires { ⌜ (from ≤ end) × (end < length (now text)) ⌝ }
 {
     let x = text[end];
-    if x == 10 {
+    if x == b'\n' {
         return true;
     }
-    if x != 41 {
+    if x != b')' {
         return false;
     }
     if from < 4 {
@@ -201,7 +205,7 @@ pub fn resolve(
 fn is_new(keys: &[u64], rows: &[u64], found: &[u64], s: &[u8]) -> bool
     requires { ⌜ (length (now keys) ≤ length (now rows)) × (length (now s) + 1 < 2 ^ 64) ⌝ }
 {
-    if keys.len() < 800 {
+    if keys.len() < rows::MOST {
         return false;
     }
     let n = arguments::call_at(s);
@@ -252,7 +256,7 @@ fn append(keys: &mut [u64], rows: &mut [u64], n: usize, found: &[u64]) -> usize
             return k;
         }
         keys[k] = found[i];
-        rows[k] = 801;
+        rows[k] = PAST;
         k += 1;
         i += 1;
     }
@@ -260,8 +264,8 @@ fn append(keys: &mut [u64], rows: &mut [u64], n: usize, found: &[u64]) -> usize
 }
 
 // Room for labels.
-pub fn no_labels() -> [u64; 800] {
-    [0; 800]
+pub fn no_labels() -> [u64; rows::MOST] {
+    [0; rows::MOST]
 }
 
 // The labels of a text's lines, the first 800 of them, and of the others those that the text uses first: how many.
@@ -272,7 +276,7 @@ pub fn learn(b: u64, text: &[u8], keys: &mut [u64], rows: &mut [u64]) -> usize
         (take r (now (rows .exit)))) ⌝ }
 {
     let n = names::collect(b, text, keys, rows);
-    if n < 800 {
+    if n < rows::MOST {
         return n;
     }
     let mut found = no_labels();

@@ -20,7 +20,7 @@ pub fn comma_end(s: &[u8], at: usize) -> usize
 {
     let mut i = at;
     while i < s.len() {
-        if s[i] == 44 {
+        if s[i] == b',' {
             return i;
         }
         i += 1;

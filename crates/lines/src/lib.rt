@@ -6,6 +6,13 @@ mod numbers;
 pub mod spots;
 pub mod words;
 
+// The refusals of a text: a line that breaks the grammar, a label that is missing or declared again, too many rows.
+pub const BAD_LINE: u64 = 23;
+
+pub const BAD_LABEL: u64 = 24;
+
+pub const TOO_LONG: u64 = 25;
+
 // What a reading answers: the row count, refusal 31, or the refusals 23, 24 and 25, each with the line of the fault, counted from 1.
 pub enum Read {
     Rows(u64),

@@ -11,7 +11,10 @@ pub mod writing;
 
 use faults::judging::judge;
 use faults::seeking::learn;
+use lines::BAD_LABEL;
+use lines::BAD_LINE;
 use lines::Read;
+use table::rows;
 use word::is_width;
 use writing::put_text;
 
@@ -27,18 +30,20 @@ pub struct Group {
 fn refuse(number: u64, line: u64) -> Read
     ensures { λ r. ⌜ r ≡ refused (record { number = number; line = line }) ⌝ }
 {
-    if number == 23 {
+    if number == BAD_LINE {
         return Read::BadLine(line);
     }
-    if number == 24 {
+    if number == BAD_LABEL {
         return Read::BadLabel(line);
     }
     Read::TooLong(line)
 }
 
-// Room for the labels of a text.
-fn no_labels() -> [u64; 1600] {
-    [0; 1600]
+// Room for the labels of a text: for those of its first lines, and as many that it uses.
+const LABELS: usize = 2 * rows::MOST;
+
+fn no_labels() -> [u64; LABELS] {
+    [0; LABELS]
 }
 
 // Reads a text whose labels are put by.
@@ -74,7 +79,7 @@ pub fn read_at(b: u64, text: &[u8], table: &mut [u64]) -> Read
     read_with(b, text, &mut keys, &mut rows, table)
 }
 
-// Reads a text into the lent table, for words of b bits: 31, 23, 24, 25.
+// Reads a text into the lent table, for words of b bits: refusals 31, 23, 24, 25.
 pub fn read(b: u64, text: &[u8], table: &mut [u64]) -> Read
     ensures { λ r. ⌜ record { answer = r; table = now (table .exit) } ≡ readAt b (now (text .entry)) (now (table .entry)) ⌝ }
     ensures numbered { λ r. ⌜ toldRead r ≡ readTold b (now (text .entry)) (now (table .entry)) ⌝ }

@@ -14,8 +14,10 @@ ghost use Rattle.typed.specs.Putting.{movedRow};
 use crate::values;
 use lines::arguments;
 use lines::fitting;
+use lines::kinds;
 use table::Pair;
 use table::Row;
+use table::codes;
 
 // A number less one as a place.
 fn less_one(n: u64) -> usize
@@ -41,9 +43,12 @@ pub fn operand(
     ensures { λ r. ⌜ r ≡ getD (pairsOf (labelRow b (now (text .entry))) (getD (formsOf tests) form noForm) (split (now (s .entry))))
         k absentPair ⌝ }
 {
-    let n = fitting::form_number(tests, form, k + 5);
+    let n = fitting::form_number(tests, form, k + fitting::FIRST_PAIR);
     if n == 0 {
-        return Pair { form: 0, value: 0 };
+        return Pair {
+            form: codes::ABSENT,
+            value: 0,
+        };
     }
     let i = less_one(n);
     let kind = fitting::form_number(tests, form, i + 1);
@@ -67,7 +72,7 @@ pub fn name_in(tests: bool, form: usize, s: &[u8]) -> u64
 {
     let mut i = 0;
     let mut at = 0;
-    while i < 4 {
+    while i < fitting::ARGUMENTS {
         let kind = fitting::form_number(tests, form, i + 1);
         if kind == 0 {
             return 0;
@@ -76,7 +81,7 @@ pub fn name_in(tests: bool, form: usize, s: &[u8]) -> u64
             return 0;
         }
         let end = arguments::comma_end(s, at);
-        if (kind == 7) | (kind == 8) {
+        if (kind == kinds::FIELD_NAME) | (kind == kinds::DEFINITION) {
             return last_name(&s[at..end]);
         }
         at = end + 1;
@@ -123,7 +128,7 @@ pub fn test_row(b: u64, text: &[u8], keys: &[u64], rows: &[u64], s: &[u8], next:
     requires { ⌜ Ready b (now text) (now keys) (now rows) × ((length (now s) + 1 < 2 ^ 64) × (isTest b (split (now s)) ≡ true)) ⌝ }
     ensures { λ r. ⌜ r ≡ testRow b (labelRow b (now (text .entry))) next (split (now (s .entry))) ⌝ }
 {
-    row_in(b, text, keys, rows, true, s, 2, next)
+    row_in(b, text, keys, rows, true, s, codes::TEST, next)
 }
 
 // The row of (a, Δ), which stands for (a, P, aΔ).
@@ -131,22 +136,25 @@ fn moved_row(a: &[u8], names: &[u8], next: u64) -> Row
     requires { ⌜ (isField (now a) && isField (now a ++ now names)) ≡ true ⌝ }
     ensures { λ r. ⌜ r ≡ movedRow next (now (a .entry)) (now (names .entry)) ⌝ }
 {
-    let first = values::value_from(1, 0, a);
-    let second = values::value_from(1, first, names);
+    let first = values::value_from(kinds::FIELD, 0, a);
+    let second = values::value_from(kinds::FIELD, first, names);
     Row {
-        kind: 3,
+        kind: codes::OPERATION,
         next,
-        code: 6,
+        code: codes::COPY,
         name: 0,
         first: Pair {
-            form: 2,
+            form: codes::REFERENCE,
             value: first,
         },
         second: Pair {
-            form: 2,
+            form: codes::REFERENCE,
             value: second,
         },
-        third: Pair { form: 0, value: 0 },
+        third: Pair {
+            form: codes::ABSENT,
+            value: 0,
+        },
     }
 }
 
@@ -158,7 +166,7 @@ pub fn operation_row(b: u64, text: &[u8], keys: &[u64], rows: &[u64], s: &[u8], 
 {
     let n = arguments::names_at(s);
     if n == 0 {
-        return row_in(b, text, keys, rows, false, s, 3, next);
+        return row_in(b, text, keys, rows, false, s, codes::OPERATION, next);
     }
     let end = n - 1;
     moved_row(&s[0..end], &s[n..], next)

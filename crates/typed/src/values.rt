@@ -11,6 +11,23 @@ ghost use Rattle.faults.specs.Names.{labelRow, Ready};
 use faults::names;
 use lines::kinds;
 use table::Pair;
+use table::codes;
+
+// The name numbers of A, J and S, at which the six-bit codes leave a gap.
+const A: u64 = 10;
+
+const J: u64 = 19;
+
+const S: u64 = 28;
+
+// The bytes of 0, of 9 and of the period, and what is taken from the byte of a letter.
+const ZERO: u64 = b'0' as u64;
+
+const NINE: u64 = b'9' as u64;
+
+const PERIOD: u64 = b'.' as u64;
+
+const BEFORE_LETTERS: u64 = b'A' as u64 - A;
 
 // A difference, 0 where it would be less.
 fn less(x: u64, y: u64) -> u64
@@ -23,10 +40,10 @@ fn less(x: u64, y: u64) -> u64
 pub fn name_number(x: u64) -> u64
     ensures { λ r. ⌜ (r ≡ nameNumber x) × (r ≤ x) ⌝ }
 {
-    if (48 <= x) & (x <= 57) {
-        x - 48
+    if (ZERO <= x) & (x <= NINE) {
+        x - ZERO
     } else {
-        less(x, 55)
+        less(x, BEFORE_LETTERS)
     }
 }
 
@@ -35,13 +52,13 @@ fn code_of(n: u64) -> u64
     requires { ⌜ n < 1000 ⌝ }
     ensures { λ r. ⌜ r ≡ codeOf n ⌝ }
 {
-    if n < 10 {
+    if n < A {
         return n;
     }
-    if n < 19 {
+    if n < J {
         return n + 7;
     }
-    if n < 28 {
+    if n < S {
         return n + 14;
     }
     n + 22
@@ -59,26 +76,26 @@ fn digit_as(kind: u64, x: u8) -> u64
     ensures { λ r. ⌜ r ≡ digitAs kind x ⌝ }
 {
     let n = wide(x);
-    if kind == 1 {
+    if kind == kinds::FIELD {
         return name_number(n) + 1;
     }
-    if kind == 4 {
-        if n == 46 {
-            return 27;
+    if kind == kinds::HOLLERITH {
+        if n == PERIOD {
+            return 0o33;
         }
         return code_of(name_number(n));
     }
-    less(n, 48)
+    less(n, ZERO)
 }
 
 // The base of a kind.
 fn base_of(kind: u64) -> u64
     ensures { λ r. ⌜ r ≡ baseOf kind ⌝ }
 {
-    if kind == 2 {
+    if kind == kinds::DECIMAL {
         return 10;
     }
-    if kind == 3 {
+    if kind == kinds::OCTAL {
         return 8;
     }
     64
@@ -125,9 +142,9 @@ fn either(kind: u64, w: &[u8]) -> Pair
         (literalPair (valueFrom kind 0 (now (w .entry)))) ⌝ }
 {
     if kinds::is_field(w) {
-        valued(2, 1, w)
+        valued(codes::REFERENCE, kinds::FIELD, w)
     } else {
-        valued(1, kind, w)
+        valued(codes::LITERAL, kind, w)
     }
 }
 
@@ -137,7 +154,10 @@ fn labelled(b: u64, text: &[u8], keys: &[u64], rows: &[u64], w: &[u8]) -> Pair
     ensures { λ r. ⌜ r ≡ literalPair (labelRow b (now (text .entry)) (now (w .entry))) ⌝ }
 {
     let value = names::known_row(keys, rows, w);
-    Pair { form: 1, value }
+    Pair {
+        form: codes::LITERAL,
+        value,
+    }
 }
 
 // A pair without a value.
@@ -153,15 +173,15 @@ pub fn pair_of(b: u64, text: &[u8], keys: &[u64], rows: &[u64], kind: u64, w: &[
     ensures { λ r. ⌜ r ≡ pairOf (labelRow b (now (text .entry))) (kindOf kind) (now (w .entry)) ⌝ }
 {
     match kind {
-        1 => valued(2, 1, w),
-        2 => valued(1, 2, w),
-        3 => valued(1, 3, w),
-        4 => valued(1, 4, w),
-        5 => either(2, w),
-        6 => either(3, w),
-        7 => plain(0),
-        8 => plain(0),
-        9 => labelled(b, text, keys, rows, w),
-        _ => plain(1),
+        kinds::FIELD => valued(codes::REFERENCE, kinds::FIELD, w),
+        kinds::DECIMAL => valued(codes::LITERAL, kinds::DECIMAL, w),
+        kinds::OCTAL => valued(codes::LITERAL, kinds::OCTAL, w),
+        kinds::HOLLERITH => valued(codes::LITERAL, kinds::HOLLERITH, w),
+        kinds::FIELD_OR_DECIMAL => either(kinds::DECIMAL, w),
+        kinds::FIELD_OR_OCTAL => either(kinds::OCTAL, w),
+        kinds::FIELD_NAME => plain(codes::ABSENT),
+        kinds::DEFINITION => plain(codes::ABSENT),
+        kinds::LABEL => labelled(b, text, keys, rows, w),
+        _ => plain(codes::LITERAL),
     }
 }

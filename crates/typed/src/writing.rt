@@ -23,6 +23,8 @@ use lines::spots;
 use lines::words;
 use table::Pair;
 use table::Row;
+use table::codes;
+use table::rows;
 
 // The row of a test or an operation.
 fn group_row(
@@ -70,8 +72,8 @@ fn put_row(table: &mut [u64], row: usize, made: Row)
     requires { ⌜ 10 * (row + 1) ≤ length (now table) ⌝ }
     ensures { λ _. ⌜ now (table .exit) ≡ putRows row (made ∷ []) (now (table .entry)) ⌝ }
 {
-    let at = 10 * row;
-    let end = at + 10;
+    let at = rows::NUMBERS * row;
+    let end = at + rows::NUMBERS;
     put_numbers(&mut table[at..end], made);
 }
 
@@ -120,7 +122,7 @@ fn go_to_row(b: u64, text: &[u8], keys: &[u64], rows: &[u64], w: &[u8]) -> u64
         return 0;
     }
     if words::is_same(w, b"DONE") {
-        return 65535;
+        return codes::DONE;
     }
     names::known_row(keys, rows, w)
 }
@@ -130,7 +132,7 @@ fn line_row(next: u64, mode: u64, tests: u64, operations: u64, goes: u64) -> Row
     ensures { λ r. ⌜ r ≡ lineNumbers next mode tests operations goes ⌝ }
 {
     Row {
-        kind: 1,
+        kind: codes::LINE,
         next,
         code: mode,
         name: 0,
