@@ -17,12 +17,13 @@ use commit::words::zero_words;
 use machine::Core;
 use machine::Extended;
 use machine::ExtensionAnswer;
+use machine::MAP;
 use machine::State;
 use soundness::is_sound_engine;
 use word::is_width;
 
 // The engine with the words up to a new last address: free blocks, all zero.
-fn grown(width: u8, core: Core, first: [u8; 4096], storage: &mut [u64], last: u16) -> State
+fn grown(width: u8, core: Core, first: [u8; MAP], storage: &mut [u64], last: u16) -> State
     requires { ⌜ (fitting (length (now storage)) (core .setup) ≡ true)
         × (extending (length (now storage)) last (core .setup) ≡ true) × (keeps (core .setup) first ≡ true) ⌝ }
     ensures { λ r. ⌜ record { state = r; storage = now (storage .exit) }
@@ -46,8 +47,8 @@ fn grown(width: u8, core: Core, first: [u8; 4096], storage: &mut [u64], last: u1
     }
 }
 
-// A new last address for the words set up: 31, 11, 12, 32. The second promise gives the answer as the papers' number, 0 where it is no
-// refusal.
+// A new last address for the words set up: refusals 31, 11, 12, 32. The second promise gives the answer as the papers' number, 0 where it
+// is no refusal.
 pub fn extend(storage: &mut [u64], state: State, last: u64) -> Extended
     ensures { λ r. ⌜ record { extended = r; storage = now (storage .exit) }
         ≡ extendOf last (record { state = state; storage = now (storage .entry) }) ⌝ }

@@ -5,13 +5,16 @@ ghost use lib.ListN.{length, take, drop};
 ghost use Rattle.octets.specs.Octets.{lowFirst};
 ghost use Rattle.layout.specs.Records.{numberAt, recordsOf};
 ghost use Rattle.layout.specs.Layout.{stateLength, placeOf, definitionOf, stateOf};
+use crate::offsets;
 use block::SetUp;
 use machine::CallStack;
 use machine::ContentsStack;
 use machine::Core;
 use machine::Definition;
 use machine::DefinitionStack;
+use machine::FIELDS;
 use machine::Place;
+use machine::STACK;
 use machine::State;
 use octets::number_at;
 
@@ -81,42 +84,42 @@ fn read_bytes(bytes: &[u8], at: usize, map: &mut [u8])
 }
 
 // The fields' definitions. A loop for each array: one loop over both, with a branch, is read entry by entry.
-fn current_at(bytes: &[u8]) -> [Definition; 36]
+fn current_at(bytes: &[u8]) -> [Definition; FIELDS]
     requires { ⌜ length (now bytes) ≡ stateLength ⌝ }
     ensures { λ r. ⌜ r ≡ recordsOf definitionOf 4 36 (drop 1283 (now (bytes .entry))) ⌝ }
 {
-    let mut made = [definition_at(bytes, 1283); 36];
+    let mut made = [definition_at(bytes, offsets::DEFINITIONS); FIELDS];
     let mut i = 0;
-    while i < 36 {
-        made[i] = definition_at(bytes, 1283 + 4 * i);
+    while i < FIELDS {
+        made[i] = definition_at(bytes, offsets::DEFINITIONS + offsets::DEFINITION_BYTES * i);
         i += 1;
     }
     made
 }
 
 // The entries of the stack of definitions.
-fn saved_at(bytes: &[u8]) -> [Definition; 128]
+fn saved_at(bytes: &[u8]) -> [Definition; STACK]
     requires { ⌜ length (now bytes) ≡ stateLength ⌝ }
     ensures { λ r. ⌜ r ≡ recordsOf definitionOf 4 128 (drop 1427 (now (bytes .entry))) ⌝ }
 {
-    let mut made = [definition_at(bytes, 1427); 128];
+    let mut made = [definition_at(bytes, offsets::SAVED); STACK];
     let mut i = 0;
-    while i < 128 {
-        made[i] = definition_at(bytes, 1427 + 4 * i);
+    while i < STACK {
+        made[i] = definition_at(bytes, offsets::SAVED + offsets::DEFINITION_BYTES * i);
         i += 1;
     }
     made
 }
 
 // The entries of the stack of calls.
-fn calls_at(bytes: &[u8]) -> [Place; 128]
+fn calls_at(bytes: &[u8]) -> [Place; STACK]
     requires { ⌜ length (now bytes) ≡ stateLength ⌝ }
     ensures { λ r. ⌜ r ≡ recordsOf placeOf 5 128 (drop 1939 (now (bytes .entry))) ⌝ }
 {
-    let mut made = [place_at(bytes, 1939); 128];
+    let mut made = [place_at(bytes, offsets::CALLS); STACK];
     let mut i = 0;
-    while i < 128 {
-        made[i] = place_at(bytes, 1939 + 5 * i);
+    while i < STACK {
+        made[i] = place_at(bytes, offsets::CALLS + offsets::PLACE_BYTES * i);
         i += 1;
     }
     made
@@ -128,9 +131,9 @@ pub fn setup_at(bytes: &[u8]) -> SetUp
     ensures { λ r. ⌜ r ≡ stateOf (now (bytes .entry)) .core .setup ⌝ }
 {
     SetUp {
-        d: short_at(bytes, 21),
-        s1: short_at(bytes, 23),
-        s2: short_at(bytes, 25),
+        d: short_at(bytes, offsets::LARGEST),
+        s1: short_at(bytes, offsets::FIRST),
+        s2: short_at(bytes, offsets::LAST),
     }
 }
 
@@ -139,7 +142,7 @@ pub fn width_at(bytes: &[u8]) -> u8
     requires { ⌜ length (now bytes) ≡ stateLength ⌝ }
     ensures { λ r. ⌜ r ≡ stateOf (now (bytes .entry)) .width ⌝ }
 {
-    bytes[6675]
+    bytes[offsets::WIDTH]
 }
 
 // All but the map and the width.
@@ -147,32 +150,32 @@ fn core_at(bytes: &[u8]) -> Core
     requires { ⌜ length (now bytes) ≡ stateLength ⌝ }
     ensures { λ r. ⌜ r ≡ stateOf (now (bytes .entry)) .core ⌝ }
 {
-    let mut bugs = [0u64; 26];
-    let mut words = [0u64; 128];
-    read_words(bytes, 51, &mut bugs);
-    read_words(bytes, 259, &mut words);
+    let mut bugs = [0u64; machine::BUGS];
+    let mut words = [0u64; STACK];
+    read_words(bytes, offsets::BUGS, &mut bugs);
+    read_words(bytes, offsets::CONTENTS, &mut words);
     let current = current_at(bytes);
     let saved = saved_at(bytes);
     let calls = calls_at(bytes);
     Core {
-        place: place_at(bytes, 0),
+        place: place_at(bytes, offsets::PLACE),
         bugs: bugs,
         definitions: current,
         contents: ContentsStack {
             entries: words,
-            count: count_at(bytes, 27),
+            count: count_at(bytes, offsets::CONTENTS_COUNT),
         },
         saved: DefinitionStack {
             entries: saved,
-            count: count_at(bytes, 35),
+            count: count_at(bytes, offsets::SAVED_COUNT),
         },
         calls: CallStack {
             entries: calls,
-            count: count_at(bytes, 43),
+            count: count_at(bytes, offsets::CALLS_COUNT),
         },
         setup: setup_at(bytes),
-        taken: count_at(bytes, 5),
-        written: count_at(bytes, 13),
+        taken: count_at(bytes, offsets::TAKEN),
+        written: count_at(bytes, offsets::WRITTEN),
     }
 }
 
@@ -182,8 +185,8 @@ pub fn read_state(bytes: &[u8]) -> State
     ensures { λ r. ⌜ r ≡ stateOf (now (bytes .entry)) ⌝ }
 {
     let core = core_at(bytes);
-    let mut map = [0u8; 4096];
-    read_bytes(bytes, 2579, &mut map);
+    let mut map = [0u8; machine::MAP];
+    read_bytes(bytes, offsets::MAP, &mut map);
     State {
         width: width_at(bytes),
         core: core,

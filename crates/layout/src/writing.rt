@@ -9,13 +9,16 @@ ghost use Rattle.machine.specs.Storage.{placed};
 ghost use Rattle.layout.specs.Records.{bytesOfAll};
 ghost use Rattle.layout.specs.Layout.{stateLength, bytesOfPlace, bytesOfDefinition, bytesOfNumbers, bytesOfArrays, bytesOfState, stateOf};
 ghost use Rattle.layout.specs.Ranged.{Array, Bytes, RangedPlace, RangedDefinition, RangedNumbers, RangedArrays};
+use crate::offsets;
 use block::SetUp;
 use machine::CallStack;
 use machine::ContentsStack;
 use machine::Core;
 use machine::Definition;
 use machine::DefinitionStack;
+use machine::FIELDS;
 use machine::Place;
+use machine::STACK;
 use machine::State;
 use octets::put_number;
 
@@ -71,16 +74,16 @@ fn put_bytes(bytes: &mut [u8], at: usize, map: &[u8])
 }
 
 // The fields' definitions.
-fn put_current(bytes: &mut [u8], entries: [Definition; 36])
+fn put_current(bytes: &mut [u8], entries: [Definition; FIELDS])
     requires { ⌜ length (now bytes) ≡ stateLength ⌝ }
     ensures { λ _. ⌜ now (bytes .exit) ≡ placed 1283 (bytesOfAll bytesOfDefinition entries) (now (bytes .entry)) ⌝ }
     ensures ranged { λ _. ⌜ Array RangedDefinition undefined 36 entries ⌝ }
 {
     let mut i = 0;
-    while i < 36 {
+    while i < FIELDS {
         put_definition(
             bytes,
-            1283 + 4 * i,
+            offsets::DEFINITIONS + offsets::DEFINITION_BYTES * i,
             entries[i].defined,
             entries[i].word,
             entries[i].left,
@@ -91,16 +94,16 @@ fn put_current(bytes: &mut [u8], entries: [Definition; 36])
 }
 
 // The entries of the stack of definitions.
-fn put_saved(bytes: &mut [u8], entries: [Definition; 128])
+fn put_saved(bytes: &mut [u8], entries: [Definition; STACK])
     requires { ⌜ length (now bytes) ≡ stateLength ⌝ }
     ensures { λ _. ⌜ now (bytes .exit) ≡ placed 1427 (bytesOfAll bytesOfDefinition entries) (now (bytes .entry)) ⌝ }
     ensures ranged { λ _. ⌜ Array RangedDefinition undefined 128 entries ⌝ }
 {
     let mut i = 0;
-    while i < 128 {
+    while i < STACK {
         put_definition(
             bytes,
-            1427 + 4 * i,
+            offsets::SAVED + offsets::DEFINITION_BYTES * i,
             entries[i].defined,
             entries[i].word,
             entries[i].left,
@@ -111,14 +114,14 @@ fn put_saved(bytes: &mut [u8], entries: [Definition; 128])
 }
 
 // The entries of the stack of calls.
-fn put_calls(bytes: &mut [u8], entries: [Place; 128])
+fn put_calls(bytes: &mut [u8], entries: [Place; STACK])
     requires { ⌜ length (now bytes) ≡ stateLength ⌝ }
     ensures { λ _. ⌜ now (bytes .exit) ≡ placed 1939 (bytesOfAll bytesOfPlace entries) (now (bytes .entry)) ⌝ }
     ensures ranged { λ _. ⌜ Array RangedPlace (testsOf 0) 128 entries ⌝ }
 {
     let mut i = 0;
-    while i < 128 {
-        put_place(bytes, 1939 + 5 * i, entries[i]);
+    while i < STACK {
+        put_place(bytes, offsets::CALLS + offsets::PLACE_BYTES * i, entries[i]);
         i += 1;
     }
 }
@@ -130,9 +133,9 @@ fn put_streams(bytes: &mut [u8], place: Place, taken: usize, written: usize)
         (now (bytes .entry)) ⌝ }
     ensures ranged { λ _. ⌜ RangedPlace place × Bytes 8 taken × Bytes 8 written ⌝ }
 {
-    put_place(bytes, 0, place);
-    put_number(bytes, 5, 8, taken as u64);
-    put_number(bytes, 13, 8, written as u64);
+    put_place(bytes, offsets::PLACE, place);
+    put_number(bytes, offsets::TAKEN, 8, taken as u64);
+    put_number(bytes, offsets::WRITTEN, 8, written as u64);
 }
 
 // The set-up's numbers.
@@ -142,9 +145,9 @@ fn put_setup(bytes: &mut [u8], setup: SetUp)
         (now (bytes .entry)) ⌝ }
     ensures ranged { λ _. ⌜ Bytes 2 (setup .d) × Bytes 2 (setup .s1) × Bytes 2 (setup .s2) ⌝ }
 {
-    put_number(bytes, 21, 2, setup.d as u64);
-    put_number(bytes, 23, 2, setup.s1 as u64);
-    put_number(bytes, 25, 2, setup.s2 as u64);
+    put_number(bytes, offsets::LARGEST, 2, setup.d as u64);
+    put_number(bytes, offsets::FIRST, 2, setup.s1 as u64);
+    put_number(bytes, offsets::LAST, 2, setup.s2 as u64);
 }
 
 // The stacks' counts.
@@ -154,9 +157,9 @@ fn put_counts(bytes: &mut [u8], contents: usize, saved: usize, calls: usize)
         (now (bytes .entry)) ⌝ }
     ensures ranged { λ _. ⌜ Bytes 8 contents × Bytes 8 saved × Bytes 8 calls ⌝ }
 {
-    put_number(bytes, 27, 8, contents as u64);
-    put_number(bytes, 35, 8, saved as u64);
-    put_number(bytes, 43, 8, calls as u64);
+    put_number(bytes, offsets::CONTENTS_COUNT, 8, contents as u64);
+    put_number(bytes, offsets::SAVED_COUNT, 8, saved as u64);
+    put_number(bytes, offsets::CALLS_COUNT, 8, calls as u64);
 }
 
 // What stands before the bugs.
@@ -187,8 +190,8 @@ fn put_arrays(bytes: &mut [u8], core: Core)
     let definitions = core.definitions;
     let kept = saved.entries;
     let places = calls.entries;
-    put_words(bytes, 51, &bugs);
-    put_words(bytes, 259, &words);
+    put_words(bytes, offsets::BUGS, &bugs);
+    put_words(bytes, offsets::CONTENTS, &words);
     put_current(bytes, definitions);
     put_saved(bytes, kept);
     put_calls(bytes, places);
@@ -200,7 +203,7 @@ fn put_width(bytes: &mut [u8], width: u8)
     ensures { λ _. ⌜ now (bytes .exit) ≡ placed 6675 (bytesOf 1 width) (now (bytes .entry)) ⌝ }
     ensures ranged { λ _. ⌜ Bytes 1 width ⌝ }
 {
-    put_number(bytes, 6675, 1, width as u64);
+    put_number(bytes, offsets::WIDTH, 1, width as u64);
 }
 
 // The bytes of a state.
@@ -213,6 +216,6 @@ pub fn write_state(bytes: &mut [u8], state: State)
     let map = state.map;
     put_numbers(bytes, core);
     put_arrays(bytes, core);
-    put_bytes(bytes, 2579, &map);
+    put_bytes(bytes, offsets::MAP, &map);
     put_width(bytes, state.width);
 }

@@ -14,12 +14,13 @@ use buddy::section::words_of;
 use buddy::setup::fits;
 use buddy::setup::is_absent;
 use buddy::sizes::size_of;
+use machine::MAP;
 
 // Whether set-up numbers and map keep their sections.
 pub fn are_blocks(setup: SetUp, map: &[u8]) -> bool
     ensures { λ r. ⌜ r ≡ areBlocks setup (now (map .entry)) ⌝ }
 {
-    (fits(4096, setup.d as u64, setup.s1 as u64, setup.s2 as u64) | is_absent(setup))
+    (fits(MAP, setup.d as u64, setup.s1 as u64, setup.s2 as u64) | is_absent(setup))
         & keeps_section(setup, map)
 }
 

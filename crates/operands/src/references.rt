@@ -27,6 +27,7 @@ use machine::Location;
 use machine::Refusal;
 use table::FieldName;
 use table::Pair;
+use table::codes;
 use table::references::bits_after;
 use table::references::bug_before;
 use table::references::name_before;
@@ -111,8 +112,8 @@ fn contents_after(
     }
 }
 
-// One link, by the field's definition and the size of the live block at the pointer, 0 if there is none: 14, 15, 16 in this order. Where it
-// leads, which is never a bug, and what stands there.
+// One link, by the field's definition and the size of the live block at the pointer, 0 if there is none: refusals 14, 15, 16 in this
+// order. Where it leads, which is never a bug, and what stands there.
 fn link(b: u64, s1: u16, storage: &[u64], x: Definition, size: u64, pointer: u64) -> Linked
     requires { ⌜ (b ≤ 48) × Lying b s1 (now storage) x size pointer ⌝ }
     ensures { λ r. ⌜ toldLinked r ≡ told (standing (contentsOf b [] s1 (now (storage .entry))) (linkBy x size pointer)) ⌝ }
@@ -314,7 +315,7 @@ pub fn operand(
     ensures { λ r. ⌜ toldGot r ≡ told (operandOf b (seen (now (bugs .entry)) (now (fields .entry)) setup (now (map .entry))
         (now (storage .entry))) p) ⌝ }
 {
-    if p.form == 1 {
+    if p.form == codes::LITERAL {
         return Got::Value(p.value, b);
     }
     if p.value < 64 {

@@ -12,13 +12,24 @@ use buddy::section::keeps_section;
 use buddy::section::words_of;
 use buddy::setup::fits;
 use buddy::setup::is_absent;
+use machine::AT_EXIT;
+use machine::AT_OPERATION;
+use machine::AT_TESTS;
 use machine::CallStack;
 use machine::ContentsStack;
 use machine::Core;
 use machine::Definition;
 use machine::DefinitionStack;
+use machine::FIELDS;
+use machine::FINISHED;
+use machine::LAST_ROW;
+use machine::LAST_WORD;
 use machine::Place;
+use machine::STACK;
 use word::arithmetic::power;
+
+// How many words are joined at a time, a number of turns that the compiler knows.
+const AT_ONCE: usize = 128;
 
 // What these words are joined to by "or": it is below a power of two if each of them is.
 fn joined(words: &[u64]) -> u64
@@ -33,15 +44,15 @@ fn joined(words: &[u64]) -> u64
     all
 }
 
-// Each of these words is below 2^b: so is what they are joined to, 128 at a time, a number of turns that the compiler knows.
+// Each of these words is below 2^b: so is what they are joined to, some at a time.
 pub fn are_words(b: u64, words: &[u64]) -> bool
     requires { ⌜ b < 64 ⌝ }
     ensures { λ r. ⌜ r ≡ every (λ x. ltb x (2 ^ b)) (now (words .entry)) ⌝ }
 {
     let mut all: u64 = 0;
     let mut i = 0;
-    while 128 <= words.len() - i {
-        let end = i + 128;
+    while AT_ONCE <= words.len() - i {
+        let end = i + AT_ONCE;
         all = all | joined(&words[i..end]);
         i = end;
     }
@@ -52,17 +63,17 @@ pub fn are_words(b: u64, words: &[u64]) -> bool
 fn is_row(r: u16) -> bool
     ensures { λ x. ⌜ x ≡ isRow r ⌝ }
 {
-    (1 <= r) & (r <= 799)
+    (1 <= r) & (r <= LAST_ROW)
 }
 
 // The row of a place: an operation's, otherwise zero.
 fn has_row(p: Place) -> bool
     ensures { λ r. ⌜ r ≡ cond (eqb (p .kind) 1) (isRow (p .row)) (eqb (p .row) 0 && (eqb (p .kind) 0 || eqb (p .kind) 2)) ⌝ }
 {
-    if p.kind == 1 {
+    if p.kind == AT_OPERATION {
         is_row(p.row)
     } else {
-        (p.row == 0) & ((p.kind == 0) | (p.kind == 2))
+        (p.row == 0) & ((p.kind == AT_TESTS) | (p.kind == AT_EXIT))
     }
 }
 
@@ -77,23 +88,23 @@ fn is_place(p: Place) -> bool
 fn is_sound_place(p: Place) -> bool
     ensures { λ r. ⌜ r ≡ soundPlace p ⌝ }
 {
-    is_place(p) | ((p.kind == 3) & (p.row == 0) & (p.line == 0))
+    is_place(p) | ((p.kind == FINISHED) & (p.row == 0) & (p.line == 0))
 }
 
 // A definition that is undefined or in range.
 fn is_definition(b: u64, x: Definition) -> bool
     ensures { λ r. ⌜ r ≡ isDefinition b x ⌝ }
 {
-    !x.defined | ((x.word <= 127) & ((x.left as u64) < b) & ((x.right as u64) < b))
+    !x.defined | ((x.word <= LAST_WORD) & ((x.left as u64) < b) & ((x.right as u64) < b))
 }
 
 // Each field's definition is undefined or in range: all are looked at, which takes no branch for each.
-fn are_definitions(b: u64, definitions: [Definition; 36]) -> bool
+fn are_definitions(b: u64, definitions: [Definition; FIELDS]) -> bool
     ensures { λ r. ⌜ r ≡ every (isDefinition b) definitions ⌝ }
 {
     let mut all = true;
     let mut i = 0;
-    while i < 36 {
+    while i < FIELDS {
         all = all & is_definition(b, definitions[i]);
         i += 1;
     }
@@ -101,21 +112,21 @@ fn are_definitions(b: u64, definitions: [Definition; 36]) -> bool
 }
 
 // The stack of contents: at most 128 entries, and those used are words.
-fn are_contents(b: u64, entries: [u64; 128], count: usize) -> bool
+fn are_contents(b: u64, entries: [u64; STACK], count: usize) -> bool
     requires { ⌜ b < 64 ⌝ }
     ensures { λ r. ⌜ r ≡ soundStack (λ x. ltb x (2 ^ b)) count entries ⌝ }
 {
-    if 128 < count {
+    if STACK < count {
         return false;
     }
     are_words(b, &entries[..count])
 }
 
 // The stack of definitions: those used are undefined or in range.
-fn are_saved(b: u64, entries: [Definition; 128], count: usize) -> bool
+fn are_saved(b: u64, entries: [Definition; STACK], count: usize) -> bool
     ensures { λ r. ⌜ r ≡ soundStack (isDefinition b) count entries ⌝ }
 {
-    if 128 < count {
+    if STACK < count {
         return false;
     }
     let mut i = 0;
@@ -129,10 +140,10 @@ fn are_saved(b: u64, entries: [Definition; 128], count: usize) -> bool
 }
 
 // The stack of calls: those used are places in range.
-fn are_calls(entries: [Place; 128], count: usize) -> bool
+fn are_calls(entries: [Place; STACK], count: usize) -> bool
     ensures { λ r. ⌜ r ≡ soundStack isPlace count entries ⌝ }
 {
-    if 128 < count {
+    if STACK < count {
         return false;
     }
     let mut i = 0;
