@@ -4,6 +4,8 @@ ghost use mathlib.Core.Path.{_≡_};
 ghost use Rattle.table.specs.Row.{lengthFits, rowAt};
 ghost use Rattle.defined.specs.Kinds.{namesKind, lineNames, operationNames, rowNames, wrongRow};
 use table::Row;
+use table::codes;
+use table::rows;
 use table::rows::row_at;
 
 // The kind of row r, 0 where there is no such row.
@@ -11,9 +13,9 @@ pub fn kind_at(table: &[u64], r: u64) -> u64
     requires { ⌜ lengthFits (now table) ≡ true ⌝ }
     ensures { λ x. ⌜ x ≡ rowAt (now (table .entry)) r .kind ⌝ }
 {
-    let rows = (table.len() / 10) as u64;
+    let rows = (table.len() / rows::NUMBERS) as u64;
     if r < rows {
-        let at = 10 * r as usize;
+        let at = rows::NUMBERS * r as usize;
         return table[at];
     }
     0
@@ -33,10 +35,10 @@ fn line_names(table: &[u64], row: Row) -> bool
     requires { ⌜ lengthFits (now table) ≡ true ⌝ }
     ensures { λ x. ⌜ x ≡ lineNames (now (table .entry)) row ⌝ }
 {
-    let tests = names_kind(table, 2, row.first.form);
-    let operations = names_kind(table, 3, row.first.value);
-    let go_to = names_kind(table, 1, row.second.form);
-    tests & (operations & ((row.second.form == 65535) | go_to))
+    let tests = names_kind(table, codes::TEST, row.first.form);
+    let operations = names_kind(table, codes::OPERATION, row.first.value);
+    let go_to = names_kind(table, codes::LINE, row.second.form);
+    tests & (operations & ((row.second.form == codes::DONE) | go_to))
 }
 
 // The line that a DO names.
@@ -45,7 +47,7 @@ fn operation_names(table: &[u64], row: Row) -> bool
     ensures { λ x. ⌜ x ≡ operationNames (now (table .entry)) row ⌝ }
 {
     let kind = kind_at(table, row.first.value);
-    (row.code != 36) | (kind == 1)
+    (row.code != codes::DO) | (kind == codes::LINE)
 }
 
 // The rows that a row names.
@@ -56,10 +58,10 @@ fn row_names(table: &[u64], row: Row) -> bool
     if !names_kind(table, row.kind, row.next) {
         return false;
     }
-    if row.kind == 1 {
+    if row.kind == codes::LINE {
         return line_names(table, row);
     }
-    if row.kind == 3 {
+    if row.kind == codes::OPERATION {
         return operation_names(table, row);
     }
     true
@@ -70,8 +72,8 @@ pub fn wrong_row(table: &[u64]) -> u64
     requires { ⌜ lengthFits (now table) ≡ true ⌝ }
     ensures { λ x. ⌜ x ≡ wrongRow (now (table .entry)) ⌝ }
 {
-    let rows = table.len() / 10;
-    if kind_at(table, 1) != 1 {
+    let rows = table.len() / rows::NUMBERS;
+    if kind_at(table, 1) != codes::LINE {
         return 1;
     }
     let mut r = 1;

@@ -24,8 +24,9 @@ pub enum FirstUse {
     Nowhere,
 }
 
-// What the check answers: yes; no, with the row and the field; or what is wrong before paths are followed: the width (31), the table's
-// length (1), the lowest ill-formed row, or a row of the wrong kind (30), with the row that names it, or row 1 where it is no line.
+// What the check answers: yes; no, with the row and the field; or what is wrong before paths are followed: the width (refusal 31), the
+// table's length (refusal 1), the lowest ill-formed row, or a row of the wrong kind (refusal 30), with the row that names it, or row 1
+// where it is no line.
 pub enum FieldsCheck {
     Yes,
     No(u64, u64),
@@ -35,8 +36,8 @@ pub enum FieldsCheck {
     WrongKind(u64),
 }
 
-// The check of a table of words of b bits: 31, 1, the table check's own answer, 30, then whether each field is defined before it is
-// used.
+// The check of a table of words of b bits: refusals 31 and 1, the table check's own answer, refusal 30, then whether each field is
+// defined before it is used.
 pub fn check_fields(b: u64, table: &[u64]) -> FieldsCheck
     ensures { λ x. ⌜ x ≡ fieldsChecked b (now (table .entry)) ⌝ }
     ensures meant { λ x. ⌜ Meant b (now (table .entry)) x ⌝ }

@@ -12,9 +12,12 @@ use super::rounds::no_sets;
 use super::walk::join_at;
 use super::walk::row_of;
 use super::walk::set_past;
+use table::codes::LINE;
+use table::rows::MOST;
+use table::rows::NUMBERS;
 
 // The set at a line's start, at each of its tests.
-fn mark_tests(table: &[u64], first: u64, x: u64, marks: &mut [u64; 800])
+fn mark_tests(table: &[u64], first: u64, x: u64, marks: &mut [u64; MOST])
     requires { ⌜ Accepted (now table) × RowOrNone (now table) 2 first ⌝ }
     ensures { λ _. ⌜ now (marks .exit) ≡ testsMarked (now (table .entry)) first x (now (marks .entry)) ⌝ }
 {
@@ -27,7 +30,7 @@ fn mark_tests(table: &[u64], first: u64, x: u64, marks: &mut [u64; 800])
 }
 
 // The set before each of its operations.
-fn mark_chain(table: &[u64], first: u64, start: u64, done: u64, marks: &mut [u64; 800])
+fn mark_chain(table: &[u64], first: u64, start: u64, done: u64, marks: &mut [u64; MOST])
     requires { ⌜ Accepted (now table) × RowOrNone (now table) 3 first ⌝ }
     ensures { λ _. ⌜ now (marks .exit) ≡ chainMarked (now (table .entry)) first start done (now (marks .entry)) ⌝ }
 {
@@ -43,7 +46,7 @@ fn mark_chain(table: &[u64], first: u64, start: u64, done: u64, marks: &mut [u64
 }
 
 // A line's tests and operations.
-fn mark_line(table: &[u64], l: u64, sets: &[u64; 800], marks: &mut [u64; 800])
+fn mark_line(table: &[u64], l: u64, sets: &[u64; MOST], marks: &mut [u64; MOST])
     requires { ⌜ Accepted (now table) × IsRow (now table) 1 l ⌝ }
     ensures { λ _. ⌜ now (marks .exit) ≡ lineMarked (now (table .entry)) (now (sets .entry)) l (now (marks .entry)) ⌝ }
 {
@@ -55,25 +58,25 @@ fn mark_line(table: &[u64], l: u64, sets: &[u64; 800], marks: &mut [u64; 800])
 }
 
 // A row, if it is a line.
-fn mark_row(table: &[u64], l: u64, sets: &[u64; 800], marks: &mut [u64; 800])
+fn mark_row(table: &[u64], l: u64, sets: &[u64; MOST], marks: &mut [u64; MOST])
     requires { ⌜ Accepted (now table) × (0 < l) × (l < rows (now table)) ⌝ }
     ensures { λ _. ⌜ now (marks .exit)
         ≡ cond (isKind (now (table .entry)) 1 l) (lineMarked (now (table .entry)) (now (sets .entry)) l (now (marks .entry)))
         (now (marks .entry)) ⌝ }
 {
-    if kind_at(table, l) == 1 {
+    if kind_at(table, l) == LINE {
         mark_line(table, l, sets, marks);
     }
 }
 
 // Every line, with the sets that no further round changes.
-pub fn marks(table: &[u64]) -> [u64; 800]
+pub fn marks(table: &[u64]) -> [u64; MOST]
     requires { ⌜ Accepted (now table) ⌝ }
     ensures { λ r. ⌜ r ≡ finalMarks (now (table .entry)) ⌝ }
 {
     let sets = final_sets(table);
     let mut marks = no_sets();
-    let rows = (table.len() / 10) as u64;
+    let rows = (table.len() / NUMBERS) as u64;
     let mut l = 1;
     while l < rows {
         mark_row(table, l, &sets, &mut marks);

@@ -13,6 +13,9 @@ use super::kinds::kind_at;
 use super::walk::join_at;
 use super::walk::walk_chain;
 use super::walk::walk_line;
+use table::codes::LINE;
+use table::rows::MOST;
+use table::rows::NUMBERS;
 
 // All 36 names, and bit 36: there is a path.
 const EVERYTHING: u64 = 137438953471;
@@ -21,14 +24,14 @@ const EVERYTHING: u64 = 137438953471;
 const ROUNDS: u64 = 59200;
 
 // A line whose set has changed since it was last walked.
-fn walk_changed(table: &[u64], l: u64, sets: &mut [u64; 800], walked: &mut [u64; 800])
+fn walk_changed(table: &[u64], l: u64, sets: &mut [u64; MOST], walked: &mut [u64; MOST])
     requires { ⌜ Accepted (now table) × (0 < l) × (l < rows (now table)) ⌝ }
     ensures { λ _. ⌜ record { sets = now (sets .exit); walked = now (walked .exit) }
         ≡ cond (isKind (now (table .entry)) 1 l)
         (changedWalked (now (table .entry)) l (record { sets = now (sets .entry); walked = now (walked .entry) }))
         (record { sets = now (sets .entry); walked = now (walked .entry) }) ⌝ }
 {
-    if kind_at(table, l) != 1 {
+    if kind_at(table, l) != LINE {
         return;
     }
     let at = l as usize;
@@ -41,12 +44,12 @@ fn walk_changed(table: &[u64], l: u64, sets: &mut [u64; 800], walked: &mut [u64;
 }
 
 // Every such line, once.
-fn walk_lines(table: &[u64], sets: &mut [u64; 800], walked: &mut [u64; 800])
+fn walk_lines(table: &[u64], sets: &mut [u64; MOST], walked: &mut [u64; MOST])
     requires { ⌜ Accepted (now table) ⌝ }
     ensures { λ _. ⌜ record { sets = now (sets .exit); walked = now (walked .exit) }
         ≡ linesWalked (now (table .entry)) (record { sets = now (sets .entry); walked = now (walked .entry) }) ⌝ }
 {
-    let rows = (table.len() / 10) as u64;
+    let rows = (table.len() / NUMBERS) as u64;
     let mut l = 1;
     while l < rows {
         walk_changed(table, l, sets, walked);
@@ -55,23 +58,23 @@ fn walk_lines(table: &[u64], sets: &mut [u64; 800], walked: &mut [u64; 800])
 }
 
 // What follows the DOs of a row that is a line, with the set of the DONEs.
-fn walk_rest(table: &[u64], l: u64, done: u64, sets: &mut [u64; 800])
+fn walk_rest(table: &[u64], l: u64, done: u64, sets: &mut [u64; MOST])
     requires { ⌜ Accepted (now table) × (0 < l) × (l < rows (now table)) ⌝ }
     ensures { λ _. ⌜ now (sets .exit)
         ≡ cond (isKind (now (table .entry)) 1 l) (chainWalked (now (table .entry)) l 0 done (now (sets .entry)))
         (now (sets .entry)) ⌝ }
 {
-    if kind_at(table, l) == 1 {
+    if kind_at(table, l) == LINE {
         walk_chain(table, l, 0, done, sets);
     }
 }
 
 // What follows every DO.
-fn walk_rests(table: &[u64], done: u64, sets: &mut [u64; 800])
+fn walk_rests(table: &[u64], done: u64, sets: &mut [u64; MOST])
     requires { ⌜ Accepted (now table) ⌝ }
     ensures { λ _. ⌜ now (sets .exit) ≡ restsWalked (now (table .entry)) done (now (sets .entry)) ⌝ }
 {
-    let rows = (table.len() / 10) as u64;
+    let rows = (table.len() / NUMBERS) as u64;
     let mut l = 1;
     while l < rows {
         walk_rest(table, l, done, sets);
@@ -80,7 +83,7 @@ fn walk_rests(table: &[u64], done: u64, sets: &mut [u64; 800])
 }
 
 // The same, if the set of the DONEs has changed since it was last walked.
-fn walk_returns(table: &[u64], sets: &mut [u64; 800], walked: &mut [u64; 800])
+fn walk_returns(table: &[u64], sets: &mut [u64; MOST], walked: &mut [u64; MOST])
     requires { ⌜ Accepted (now table) ⌝ }
     ensures { λ _. ⌜ record { sets = now (sets .exit); walked = now (walked .exit) }
         ≡ returnsWalked (now (table .entry)) (record { sets = now (sets .entry); walked = now (walked .entry) }) ⌝ }
@@ -94,7 +97,7 @@ fn walk_returns(table: &[u64], sets: &mut [u64; 800], walked: &mut [u64; 800])
 }
 
 // One round.
-fn round(table: &[u64], sets: &mut [u64; 800], walked: &mut [u64; 800])
+fn round(table: &[u64], sets: &mut [u64; MOST], walked: &mut [u64; MOST])
     requires { ⌜ Accepted (now table) ⌝ }
     ensures { λ _. ⌜ record { sets = now (sets .exit); walked = now (walked .exit) }
         ≡ rounded (now (table .entry)) (record { sets = now (sets .entry); walked = now (walked .entry) }) ⌝ }
@@ -104,12 +107,12 @@ fn round(table: &[u64], sets: &mut [u64; 800], walked: &mut [u64; 800])
 }
 
 // Whether every set was walked as it is.
-fn are_same(walked: &[u64; 800], sets: &[u64; 800]) -> bool
+fn are_same(walked: &[u64; MOST], sets: &[u64; MOST]) -> bool
     requires { ⌜ (length (now walked) ≡ 800) × (length (now sets) ≡ 800) ⌝ }
     ensures { λ r. ⌜ (r ≡ true → now (walked .entry) ≡ now (sets .entry)) ⌝ }
 {
     let mut i = 0;
-    while i < 800 {
+    while i < MOST {
         if walked[i] != sets[i] {
             return false;
         }
@@ -119,14 +122,14 @@ fn are_same(walked: &[u64; 800], sets: &[u64; 800]) -> bool
 }
 
 // Nowhere a path.
-pub fn no_sets() -> [u64; 800]
+pub fn no_sets() -> [u64; MOST]
     ensures { λ r. ⌜ r ≡ replicate 800 0 ⌝ }
 {
-    [0; 800]
+    [0; MOST]
 }
 
 // At first only row 1 is reached, with no field defined.
-fn first_sets() -> [u64; 800]
+fn first_sets() -> [u64; MOST]
     ensures { λ r. ⌜ r ≡ firstSets ⌝ }
 {
     let mut sets = no_sets();
@@ -135,7 +138,7 @@ fn first_sets() -> [u64; 800]
 }
 
 // The sets that no further round changes.
-pub fn final_sets(table: &[u64]) -> [u64; 800]
+pub fn final_sets(table: &[u64]) -> [u64; MOST]
     requires { ⌜ Accepted (now table) ⌝ }
     ensures { λ r. ⌜ r ≡ finalSets (now (table .entry)) ⌝ }
 {

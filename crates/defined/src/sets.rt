@@ -4,13 +4,14 @@ ghost use mathlib.Core.Path.{_≡_};
 ghost use Prim.Native.Nat.{_<_};
 ghost use Rattle.defined.specs.Search.{has, without, including, setAfter};
 use table::Row;
+use table::codes;
 use word::arithmetic::power;
 use word::logic;
 
-// The codes of a definition and of a restore of one.
-const DEFINE: u64 = 2;
+// The bit of a path, and how many bits a set has.
+const PATH: u64 = 36;
 
-const RESTORE: u64 = 35;
+pub const BITS: u64 = 37;
 
 // Bit n of x.
 pub fn contains(x: u64, n: u64) -> bool
@@ -27,7 +28,7 @@ fn taken_out(n: u64, x: u64) -> u64
     requires { ⌜ n < 64 ⌝ }
     ensures { λ r. ⌜ r ≡ without n x ⌝ }
 {
-    logic::exclusive_or(37, x, logic::and(37, x, power(n)))
+    logic::exclusive_or(BITS, x, logic::and(BITS, x, power(n)))
 }
 
 // A restore puts its name in, where there is a path.
@@ -35,8 +36,8 @@ fn put_in(n: u64, x: u64) -> u64
     requires { ⌜ n < 64 ⌝ }
     ensures { λ r. ⌜ r ≡ including n x ⌝ }
 {
-    if contains(x, 36) {
-        return logic::or(37, x, power(n));
+    if contains(x, PATH) {
+        return logic::or(BITS, x, power(n));
     }
     x
 }
@@ -46,10 +47,10 @@ pub fn set_after(row: Row, x: u64) -> u64
     requires { ⌜ row .name < 64 ⌝ }
     ensures { λ r. ⌜ r ≡ setAfter row x ⌝ }
 {
-    if row.code == DEFINE {
+    if row.code == codes::DEFINE {
         return taken_out(row.name, x);
     }
-    if row.code == RESTORE {
+    if row.code == codes::RESTORE_DEFINITION {
         return put_in(row.name, x);
     }
     x

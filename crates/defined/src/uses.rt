@@ -17,7 +17,10 @@ use crate::Used;
 use table::Names;
 use table::Pair;
 use table::Row;
+use table::codes;
 use table::references::names_in;
+use table::rows::MOST;
+use table::rows::NUMBERS;
 
 // A name number as a number of 64 bits.
 fn wide(n: u8) -> u64
@@ -47,7 +50,7 @@ fn pair_use(p: Pair, x: u64) -> Used
     requires { ⌜ (p .form ≡ 2 → isReference (p .value) ≡ true) ⌝ }
     ensures { λ r. ⌜ r ≡ firstIn (pairFields p) x ⌝ }
 {
-    if p.form != 2 {
+    if p.form != codes::REFERENCE {
         return Used::Nothing;
     }
     name_in(names_in(p.value), x)
@@ -76,18 +79,18 @@ fn use_at(table: &[u64], r: u64, x: u64) -> Used
     requires { ⌜ Accepted (now table) × (0 < r) × (r < rows (now table)) ⌝ }
     ensures { λ u. ⌜ u ≡ useAt (now (table .entry)) r x ⌝ }
 {
-    if kind_at(table, r) == 1 {
+    if kind_at(table, r) == codes::LINE {
         return Used::Nothing;
     }
     row_use(row_of(table, r), x)
 }
 
 // The lowest row that uses a field in its set.
-fn lowest_use(table: &[u64], marks: &[u64; 800]) -> FirstUse
+fn lowest_use(table: &[u64], marks: &[u64; MOST]) -> FirstUse
     requires { ⌜ Accepted (now table) ⌝ }
     ensures { λ u. ⌜ u ≡ lowestUse (now (table .entry)) (now (marks .entry)) ⌝ }
 {
-    let rows = (table.len() / 10) as u64;
+    let rows = (table.len() / NUMBERS) as u64;
     let mut r = 1;
     while r < rows {
         let at = r as usize;

@@ -6,27 +6,26 @@ ghost use lib.ListN.{length};
 ghost use Rattle.table.specs.Row.{rowAt, goTo, done};
 ghost use Rattle.defined.specs.Answer.{Accepted, IsRow};
 ghost use Rattle.defined.specs.Search.{joinedAt, joinedTo, leaving, entering, setPast, testsWalked, chainWalked, lineWalked};
+use super::sets::BITS;
 use super::sets::set_after;
 use table::Row;
+use table::codes::DO;
+use table::codes::DONE;
+use table::rows::MOST;
 use table::rows::row_at;
 use word::logic;
 
-// The code of a DO, and the go-to that is a DONE.
-const DO: u64 = 36;
-
-const DONE: u64 = 65535;
-
 // x joined to the set in place r.
-pub fn join_at(sets: &mut [u64; 800], r: u64, x: u64)
+pub fn join_at(sets: &mut [u64; MOST], r: u64, x: u64)
     requires { ⌜ r < 800 ⌝ }
     ensures { λ _. ⌜ now (sets .exit) ≡ joinedAt r x (now (sets .entry)) ⌝ }
 {
     let at = r as usize;
-    sets[at] = logic::or(37, sets[at], x);
+    sets[at] = logic::or(BITS, sets[at], x);
 }
 
 // The same where a row is named.
-fn join_to(sets: &mut [u64; 800], r: u64, x: u64)
+fn join_to(sets: &mut [u64; MOST], r: u64, x: u64)
     requires { ⌜ r < 800 ⌝ }
     ensures { λ _. ⌜ now (sets .exit) ≡ joinedTo r x (now (sets .entry)) ⌝ }
 {
@@ -36,7 +35,7 @@ fn join_to(sets: &mut [u64; 800], r: u64, x: u64)
 }
 
 // Where a line's exit leads.
-fn leave(sets: &mut [u64; 800], line: Row, x: u64)
+fn leave(sets: &mut [u64; MOST], line: Row, x: u64)
     requires { ⌜ (line .next < 800) × ((goTo line ≡ done → ⊥) → goTo line < 800) ⌝ }
     ensures { λ _. ⌜ now (sets .exit) ≡ leaving line x (now (sets .entry)) ⌝ }
 {
@@ -53,7 +52,7 @@ fn leave(sets: &mut [u64; 800], line: Row, x: u64)
 }
 
 // A DO leads into its line.
-fn enter(sets: &mut [u64; 800], row: Row, x: u64)
+fn enter(sets: &mut [u64; MOST], row: Row, x: u64)
     requires { ⌜ (row .code ≡ 36 → row .first .value < 800) ⌝ }
     ensures { λ _. ⌜ now (sets .exit) ≡ entering row x (now (sets .entry)) ⌝ }
 {
@@ -82,7 +81,7 @@ pub fn row_of(table: &[u64], r: u64) -> Row
 }
 
 // The operations of a line with the set at its start and that of the DONEs, to its exit.
-pub fn walk_chain(table: &[u64], l: u64, start: u64, done: u64, sets: &mut [u64; 800])
+pub fn walk_chain(table: &[u64], l: u64, start: u64, done: u64, sets: &mut [u64; MOST])
     requires { ⌜ Accepted (now table) × IsRow (now table) 1 l ⌝ }
     ensures { λ _. ⌜ now (sets .exit) ≡ chainWalked (now (table .entry)) l start done (now (sets .entry)) ⌝ }
 {
@@ -99,7 +98,7 @@ pub fn walk_chain(table: &[u64], l: u64, start: u64, done: u64, sets: &mut [u64;
 }
 
 // Tests that are not satisfied lead to the next line.
-fn walk_tests(line: Row, x: u64, sets: &mut [u64; 800])
+fn walk_tests(line: Row, x: u64, sets: &mut [u64; MOST])
     requires { ⌜ line .next < 800 ⌝ }
     ensures { λ _. ⌜ now (sets .exit) ≡ testsWalked line x (now (sets .entry)) ⌝ }
 {
@@ -109,7 +108,7 @@ fn walk_tests(line: Row, x: u64, sets: &mut [u64; 800])
 }
 
 // A line with the set at its start; what follows its DOs is walked by itself.
-pub fn walk_line(table: &[u64], l: u64, x: u64, sets: &mut [u64; 800])
+pub fn walk_line(table: &[u64], l: u64, x: u64, sets: &mut [u64; MOST])
     requires { ⌜ Accepted (now table) × IsRow (now table) 1 l ⌝ }
     ensures { λ _. ⌜ now (sets .exit) ≡ lineWalked (now (table .entry)) l x (now (sets .entry)) ⌝ }
 {
