@@ -11,7 +11,17 @@ ghost use Rattle.columns.specs.Columns.{groupsOf, filledUp, turnedGroups
 ghost use Rattle.columns.specs.Packing.{unpacked, spreadOf, packedTurned, octets, longer};
 use word::is_width;
 
-// What a call answers: how many bytes or words it wrote, or why it wrote none: 31, 33, 34, 35.
+// How many words a group has.
+const GROUP: usize = 8;
+
+// A one in each byte, seven ones in each byte, and in the lowest byte the leftmost bit, in the next the next one, and so on.
+const ONES: u64 = 0x0101_0101_0101_0101;
+
+const SEVENS: u64 = 0x7F7F_7F7F_7F7F_7F7F;
+
+const DIAGONAL: u64 = 0x0102_0408_1020_4080;
+
+// What a call answers: how many bytes or words it wrote, or why it wrote none: refusals 31, 33, 34, 35.
 pub enum Kept {
     Count(usize),
     NoWidth,
@@ -24,7 +34,7 @@ pub enum Kept {
 fn groups_of(words: usize) -> usize
     ensures { λ r. ⌜ r ≡ groupsOf words ⌝ }
 {
-    words / 8 + (words % 8 + 7) / 8
+    words / GROUP + (words % GROUP + 7) / GROUP
 }
 
 // Whether every word fits the width.
@@ -55,13 +65,13 @@ fn word_or_zero(words: &[u64], at: usize, i: usize) -> u64
 }
 
 // Eight words from a place on, zero past the last.
-fn group_at(words: &[u64], at: usize) -> [u64; 8]
+fn group_at(words: &[u64], at: usize) -> [u64; GROUP]
     requires { ⌜ at + 8 ≤ 8 * groupsOf (length (now words)) ⌝ }
     ensures { λ r. ⌜ r ≡ take 8 (drop at (filledUp (now (words .entry)))) ⌝ }
 {
-    let mut group = [0u64; 8];
+    let mut group = [0u64; GROUP];
     let mut i = 0;
-    while i < 8 {
+    while i < GROUP {
         group[i] = word_or_zero(words, at, i);
         i += 1;
     }
@@ -74,8 +84,8 @@ fn spread(x: u64) -> u64
     requires { ⌜ x < 256 ⌝ }
     ensures { λ r. ⌜ r ≡ spreadOf x ⌝ }
 {
-    let bits = (x * 72340172838076673) & 72624976668147840;
-    ((bits + 9187201950435737471) >> 7) & 72340172838076673
+    let bits = (x * ONES) & DIAGONAL;
+    ((bits + SEVENS) >> 7) & ONES
 }
 
 // Eight bits of eight words turned, those with so many bits to their right.
@@ -85,7 +95,7 @@ fn turned_words(group: &[u64], right: u64) -> u64
 {
     let mut made = 0;
     let mut i = 0;
-    while i < 8 {
+    while i < GROUP {
         made = made * 2 + spread((group[i] >> right) % 256);
         i += 1;
     }
@@ -141,14 +151,14 @@ fn save_group(b: u64, group: &[u64], bytes: &mut [u8], to: usize)
 }
 
 // Eight words with eight bits more, those in the bytes of a number.
-fn with_bits(group: &[u64], all: u64) -> [u64; 8]
+fn with_bits(group: &[u64], all: u64) -> [u64; GROUP]
     requires { ⌜ (length (now group) ≡ 8) × ((i : ℕ) → getD (now group) i 0 < 2 ^ 48) ⌝ }
     ensures { λ r. ⌜ r ≡ longer (now (group .entry)) all ⌝ }
 {
-    let mut made = [0u64; 8];
+    let mut made = [0u64; GROUP];
     let mut rest = all;
     let mut i = 0;
-    while i < 8 {
+    while i < GROUP {
         made[i] = group[i] * 256 + rest % 256;
         rest = rest / 256;
         i += 1;
@@ -157,13 +167,13 @@ fn with_bits(group: &[u64], all: u64) -> [u64; 8]
 }
 
 // The words of a group.
-fn load_group(b: u64, bytes: &[u8], at: usize) -> [u64; 8]
+fn load_group(b: u64, bytes: &[u8], at: usize) -> [u64; GROUP]
     requires { ⌜ (b ≤ 48) × (at + b ≤ length (now bytes)) ⌝ }
     ensures { λ r. ⌜ r ≡ turned 8 (take b (drop at (now (bytes .entry)))) ⌝ }
 {
     let n = b as usize;
     let odd = n % 8;
-    let mut group = [0u64; 8];
+    let mut group = [0u64; GROUP];
     group = with_bits(&group, turned_bytes(bytes, at, odd));
     let mut p = odd;
     while p < n {
@@ -206,7 +216,7 @@ fn word_at(b: u64, groups: usize, bytes: &[u8], i: usize) -> u64
     requires { ⌜ (b ≤ 48) × (length (now bytes) ≡ b * groups) × (i < 8 * groups) ⌝ }
     ensures { λ r. ⌜ r ≡ getD (turnedGroups 8 b groups (now (bytes .entry))) i 0 ⌝ }
 {
-    row(b, (i % 8) as u64, bytes, i / 8 * b as usize)
+    row(b, (i % GROUP) as u64, bytes, i / GROUP * b as usize)
 }
 
 // Whether the words that fill up the last group, from word n on, are zero.
@@ -214,7 +224,7 @@ fn filled_with_zeros(b: u64, groups: usize, bytes: &[u8], n: usize) -> bool
     requires { ⌜ (8 ≤ b) × (b ≤ 48) × (length (now bytes) ≡ b * groups) ⌝ }
     ensures { λ r. ⌜ r ≡ eachBelow 1 (drop n (turnedGroups 8 b groups (now (bytes .entry)))) ⌝ }
 {
-    let end = groups * 8;
+    let end = groups * GROUP;
     let mut i = n;
     while i < end {
         if word_at(b, groups, bytes, i) != 0 {
@@ -233,17 +243,17 @@ fn save_all(b: u64, words: &[u64], groups: usize, bytes: &mut [u8])
     let n = b as usize;
     let mut k = 0;
     while k < groups {
-        let group = group_at(words, 8 * k);
+        let group = group_at(words, GROUP * k);
         save_group(b, &group, bytes, n * k);
         k += 1;
     }
 }
 
-// The lesser of eight and what is left.
+// As many words as a group has, or what is left.
 fn up_to_eight(left: usize) -> usize
     ensures { λ r. ⌜ r ≡ min left 8 ⌝ }
 {
-    if left < 8 { left } else { 8 }
+    if left < GROUP { left } else { GROUP }
 }
 
 // Writes the first n words of what is loaded at the start of the words, a group at a time.
@@ -272,7 +282,7 @@ fn is_whole(b: u64, groups: usize, length: usize) -> bool
     (length % n == 0) & (length / n == groups)
 }
 
-// Saves words of b bits: 31, 33, 35. Bytes past those written stay.
+// Saves words of b bits: refusals 31, 33, 35. Bytes past those written stay.
 pub fn save(b: u64, words: &[u64], bytes: &mut [u8]) -> Kept
     ensures { λ r. ⌜ record { answer = r; output = now (bytes .exit) } ≡ saving b (now (words .entry)) (now (bytes .entry)) ⌝ }
     ensures numbered { λ r. ⌜ toldKept r ≡ savingTold b (now (words .entry)) (now (bytes .entry)) ⌝ }
@@ -293,7 +303,7 @@ pub fn save(b: u64, words: &[u64], bytes: &mut [u8]) -> Kept
     Kept::Count(count)
 }
 
-// Loads n words of b bits: 31, 34, 35. Words past those written stay.
+// Loads n words of b bits: refusals 31, 34, 35. Words past those written stay.
 pub fn load(b: u64, bytes: &[u8], n: usize, words: &mut [u64]) -> Kept
     ensures { λ r. ⌜ record { answer = r; output = now (words .exit) } ≡ loading b n (now (bytes .entry)) (now (words .entry)) ⌝ }
     ensures numbered { λ r. ⌜ toldKept r ≡ loadingTold b n (now (bytes .entry)) (now (words .entry)) ⌝ }

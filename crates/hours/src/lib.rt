@@ -7,6 +7,22 @@ ghost use lib.ListN.{length, take, drop};
 ghost use Rattle.hours.specs.Hours.{weekday, entryOf, entries, hasHours, hasZeros, hasName, keeps, allKeep, holds};
 ghost use Rattle.hours.specs.Hours.{anyNames, naming, firstHolding, listKeeps, openAt, toldOpening, holdingTold, openTold};
 
+// How many numbers a window and an exception have.
+const WINDOW: usize = 4;
+
+const EXCEPTION: usize = 5;
+
+// How many weekdays there are and which is the last, how many minutes and which is the last, and the last row of a table.
+const WEEKDAYS: u64 = 7;
+
+const LAST_WEEKDAY: u64 = 6;
+
+const MINUTES: u64 = 1440;
+
+const LAST_MINUTE: u64 = 1439;
+
+const LAST_ROW: u64 = 799;
+
 // What a window or an exception says: its weekday or day, the opening and the closing minute, the row, and 1 if it is closed.
 pub struct Entry {
     pub name: u64,
@@ -16,7 +32,7 @@ pub struct Entry {
     pub closed: u64,
 }
 
-// The answer: the row of an entry line, closed, or refused (29).
+// The answer: the row of an entry line, closed, or refused (refusal 29).
 pub enum Opening {
     Row(u64),
     Closed,
@@ -27,7 +43,7 @@ pub enum Opening {
 fn weekday_of(day: u64) -> u64
     ensures { λ r. ⌜ r ≡ weekday day ⌝ }
 {
-    (day % 7 + 5) % 7
+    (day % WEEKDAYS + 5) % WEEKDAYS
 }
 
 // The entry of these numbers.
@@ -58,7 +74,7 @@ fn entry_at(list: &[u64], at: usize, n: usize) -> Entry
 fn has_hours(e: Entry) -> bool
     ensures { λ r. ⌜ r ≡ hasHours e ⌝ }
 {
-    (e.opening < e.closing) & ((e.closing <= 1440) & ((1 <= e.row) & (e.row <= 799)))
+    (e.opening < e.closing) & ((e.closing <= MINUTES) & ((1 <= e.row) & (e.row <= LAST_ROW)))
 }
 
 // The minutes and the row of a closed exception.
@@ -72,7 +88,7 @@ fn has_zeros(e: Entry) -> bool
 fn has_name(n: usize, e: Entry) -> bool
     ensures { λ r. ⌜ r ≡ hasName n e ⌝ }
 {
-    (n == 5) | (e.name <= 6)
+    (n == EXCEPTION) | (e.name <= LAST_WEEKDAY)
 }
 
 // Whether an entry of n numbers keeps the rules.
@@ -165,17 +181,17 @@ pub fn open_at(windows: &[u64], exceptions: &[u64], day: u64, minute: u64) -> Op
     ensures { λ r. ⌜ r ≡ openAt (now (windows .entry)) (now (exceptions .entry)) day minute ⌝ }
     ensures numbered { λ r. ⌜ toldOpening r ≡ openTold (now (windows .entry)) (now (exceptions .entry)) day minute ⌝ }
 {
-    if !list_keeps(windows, 4) {
+    if !list_keeps(windows, WINDOW) {
         return Opening::Refused;
     }
-    if !list_keeps(exceptions, 5) {
+    if !list_keeps(exceptions, EXCEPTION) {
         return Opening::Refused;
     }
-    if 1439 < minute {
+    if LAST_MINUTE < minute {
         return Opening::Refused;
     }
-    if any_names(exceptions, 5, day) {
-        return first_holding(exceptions, 5, day, minute);
+    if any_names(exceptions, EXCEPTION, day) {
+        return first_holding(exceptions, EXCEPTION, day, minute);
     }
-    first_holding(windows, 4, weekday_of(day), minute)
+    first_holding(windows, WINDOW, weekday_of(day), minute)
 }

@@ -16,7 +16,7 @@ use places::put_pair;
 
 mod places;
 
-// What the call answers: how many stops it wrote, or why it wrote none: 26, 27, 28.
+// What the call answers: how many stops it wrote, or why it wrote none: refusals 26, 27, 28.
 pub enum Written {
     Count(usize),
     BadList,
@@ -26,6 +26,17 @@ pub enum Written {
 
 // How many stops are noted in memory of the call's own.
 const FEW: usize = 1023;
+
+// How many numbers a row has, and which are its next index, its stop, its issue day and its recording.
+const NUMBERS: usize = 4;
+
+const NEXT: usize = 0;
+
+const STOP: usize = 1;
+
+const DAY: usize = 2;
+
+const RECORDING: usize = 3;
 
 // What a list with few stops comes to: the call's answer, or that it has more.
 enum Few {
@@ -44,18 +55,18 @@ fn number_of(list: &[u64], row: usize, k: usize) -> u64
     requires { ⌜ 4 * row + k < length (now list) ⌝ }
     ensures { λ r. ⌜ r ≡ numberOf (now (list .entry)) row k ⌝ }
 {
-    list[4 * row + k]
+    list[NUMBERS * row + k]
 }
 
 // Whether the next index of every row lies inside.
 fn nexts_inside(list: &[u64]) -> bool
     ensures { λ r. ⌜ r ≡ nextsInside (now (list .entry)) (rowCount (now (list .entry))) ⌝ }
 {
-    let rows = list.len() / 4;
+    let rows = list.len() / NUMBERS;
     let mut row = rows;
     while 0 < row {
         row -= 1;
-        if rows as u64 <= number_of(list, row, 0) {
+        if rows as u64 <= number_of(list, row, NEXT) {
             return false;
         }
     }
@@ -67,17 +78,17 @@ fn zeros_after(list: &[u64]) -> bool
     requires { ⌜ 4 ≤ length (now list) ⌝ }
     ensures { λ r. ⌜ r ≡ zerosAfter (now (list .entry)) ⌝ }
 {
-    (list[1] == 0) & ((list[2] == 0) & (list[3] == 0))
+    (list[STOP] == 0) & ((list[DAY] == 0) & (list[RECORDING] == 0))
 }
 
-// Whether it is a list: 26.
+// Whether it is a list: refusal 26.
 fn is_list(list: &[u64]) -> bool
     ensures { λ r. ⌜ r ≡ isList (now (list .entry)) ⌝ }
 {
     if list.len() == 0 {
         return false;
     }
-    if list.len() % 4 != 0 {
+    if list.len() % NUMBERS != 0 {
         return false;
     }
     if !zeros_after(list) {
@@ -91,14 +102,14 @@ fn chain_length(list: &[u64]) -> usize
     requires { ⌜ isList (now list) ≡ true ⌝ }
     ensures { λ r. ⌜ r ≡ length (chain (now (list .entry))) ⌝ }
 {
-    let rows = list.len() / 4;
-    let mut row = number_of(list, 0, 0);
+    let rows = list.len() / NUMBERS;
+    let mut row = number_of(list, 0, NEXT);
     let mut count = 0;
     while count < rows {
         if row == 0 {
             return count;
         }
-        row = number_of(list, row as usize, 0);
+        row = number_of(list, row as usize, NEXT);
         count += 1;
     }
     count
@@ -133,11 +144,11 @@ fn next_stop(list: &[u64], steps: usize, last: Least) -> Least
     ensures { λ r. ⌜ LeastOf (from last) (stops (now (list .entry)) (chain (now (list .entry)))) r ⌝ }
 {
     let mut found = Least::Nothing;
-    let mut row = number_of(list, 0, 0);
+    let mut row = number_of(list, 0, NEXT);
     let mut i = 0;
     while i < steps {
-        found = lesser_of(last, found, number_of(list, row as usize, 1));
-        row = number_of(list, row as usize, 0);
+        found = lesser_of(last, found, number_of(list, row as usize, STOP));
+        row = number_of(list, row as usize, NEXT);
         i += 1;
     }
     found
@@ -197,12 +208,12 @@ fn note_standing(list: &[u64], steps: usize, output: &mut [u64], heads: &mut [u3
 {
     let mut count = 0;
     let mut size = 0;
-    let mut row = number_of(list, 0, 0);
+    let mut row = number_of(list, 0, NEXT);
     let mut i = 0;
     while i < steps {
         size = grow(list, count, size, output, heads);
         count = enter(list, row as usize, count, size, output, heads);
-        row = number_of(list, row as usize, 0);
+        row = number_of(list, row as usize, NEXT);
         i += 1;
     }
     count
@@ -222,7 +233,12 @@ fn put_row(list: &[u64], row: usize, k: usize, output: &mut [u64])
     requires { ⌜ (4 * row + 3 < length (now list)) × (2 * k + 2 ≤ length (now output)) ⌝ }
     ensures { λ _. ⌜ now (output .exit) ≡ withRow (now (list .entry)) row k (now (output .entry)) ⌝ }
 {
-    put_pair(output, k, number_of(list, row, 1), number_of(list, row, 3));
+    put_pair(
+        output,
+        k,
+        number_of(list, row, STOP),
+        number_of(list, row, RECORDING),
+    );
 }
 
 // Puts each noted row's stop and recording in its place.
@@ -242,9 +258,9 @@ fn note_few(list: &[u64], pairs: &mut [u64], heads: &mut [u32]) -> usize
     requires { ⌜ isList (now list) ≡ true × (2048 ≤ length (now pairs)) × Fresh (now heads) ⌝ }
     ensures { λ r. ⌜ FewNoted (now (list .entry)) r (now (pairs .exit)) ⌝ }
 {
-    let rows = list.len() / 4;
+    let rows = list.len() / NUMBERS;
     let mut count = 0;
-    let mut row = number_of(list, 0, 0);
+    let mut row = number_of(list, 0, NEXT);
     let mut i = 0;
     while i < rows {
         if row == 0 {
@@ -254,7 +270,7 @@ fn note_few(list: &[u64], pairs: &mut [u64], heads: &mut [u32]) -> usize
         if FEW < count {
             return count;
         }
-        row = number_of(list, row as usize, 0);
+        row = number_of(list, row as usize, NEXT);
         i += 1;
     }
     FEW + 1
@@ -297,7 +313,7 @@ fn write_many(list: &[u64], output: &mut [u64]) -> Written
     ensures { λ r. ⌜ Answered (now (list .entry)) (now (output .entry)) r (now (output .exit)) ⌝ }
 {
     let steps = chain_length(list);
-    if steps == list.len() / 4 {
+    if steps == list.len() / NUMBERS {
         return Written::RowTwice;
     }
     if !has_room(list, steps, output.len() / 2) {
@@ -308,8 +324,8 @@ fn write_many(list: &[u64], output: &mut [u64]) -> Written
     Written::Count(count)
 }
 
-// Writes stop and recording of each standing record, in the order in which the stops first occur in the chain, and counts them: 26, 27, 28.
-// Numbers past those written stay.
+// Writes stop and recording of each standing record, in the order in which the stops first occur in the chain, and counts them:
+// refusals 26, 27, 28. Numbers past those written stay.
 pub fn write_standing(list: &[u64], output: &mut [u64]) -> Written
     ensures { λ r. ⌜ record { answer = r; output = now (output .exit) } ≡ correcting (now (list .entry)) (now (output .entry)) ⌝ }
     ensures numbered { λ r. ⌜ toldWritten r ≡ correctingTold (now (list .entry)) (now (output .entry)) ⌝ }

@@ -4,10 +4,14 @@ ghost use Prim.Native.Nat.{_+_, _*_, _/_, _%_, _≤_, _<_};
 ghost use lib.ListN.{length, set};
 ghost use Rattle.recordings.specs.Walking.{rowAt, secondAt, linkAt, chainCount, headAt, stopAt, standingOf, Holds};
 ghost use Rattle.recordings.specs.Walking.{Place, Linked, HeadPut, Pushed, Cleared, Regrown, Entering, Enters};
+use super::DAY;
+use super::STOP;
 use super::number_of;
 
-// Half of 64 bits.
+// As many values as half of 64 bits has, and the last of them.
 const HALF: u64 = 4294967296;
+
+const LAST: usize = 4294967295;
 
 // How many pairs there are when they first hold the heads themselves: a prime, and so are the next ones.
 const FIRST: usize = 16381;
@@ -79,7 +83,7 @@ pub fn stop_at(list: &[u64], output: &[u64], k: usize) -> u64
     requires { ⌜ (2 * k + 2 ≤ length (now output)) × (4 * rowAt (now output) k + 1 < length (now list)) ⌝ }
     ensures { λ r. ⌜ r ≡ stopAt (now (list .entry)) (now (output .entry)) k ⌝ }
 {
-    number_of(list, first_of(output, k) as usize, 1)
+    number_of(list, first_of(output, k) as usize, STOP)
 }
 
 // The place of a stop among the first so many pairs, or their count where it is not there.
@@ -146,7 +150,7 @@ pub fn find(
     requires { ⌜ Holds (now list) count (now output) × Linked (now list) (now heads) size (now output) count ⌝ }
     ensures { λ r. ⌜ Place (now (list .entry)) (now (output .entry)) count stop r ⌝ }
 {
-    if 4294967295 < count {
+    if LAST < count {
         return place_of(list, output, count, stop);
     }
     let mut at = head_of(heads, size, output, chain_of(heads, size, stop)) as usize;
@@ -169,7 +173,7 @@ pub fn push(list: &[u64], heads: &mut [u32], size: usize, k: usize, output: &mut
     let chain = chain_of(&*heads, size, stop_at(list, &*output, k));
     let before = head_of(&*heads, size, &*output, chain);
     put_link(output, k, before);
-    put_head(heads, size, output, chain, (k % 4294967295 + 1) as u64);
+    put_head(heads, size, output, chain, (k % LAST + 1) as u64);
 }
 
 // Makes the second numbers of the first so many pairs zero.
@@ -219,7 +223,7 @@ pub fn standing_of(list: &[u64], held: usize, row: usize) -> usize
     requires { ⌜ (4 * held + 2 < length (now list)) × (4 * row + 2 < length (now list)) ⌝ }
     ensures { λ r. ⌜ r ≡ standingOf (now (list .entry)) held row ⌝ }
 {
-    if number_of(list, row, 2) < number_of(list, held, 2) {
+    if number_of(list, row, DAY) < number_of(list, held, DAY) {
         return held;
     }
     row
@@ -238,7 +242,7 @@ pub fn enter(
     ensures { λ r. ⌜ Enters (now (list .entry)) row size count r
         (now (output .entry)) (now (output .exit)) (now (heads .entry)) (now (heads .exit)) ⌝ }
 {
-    let stop = number_of(list, row, 1);
+    let stop = number_of(list, row, STOP);
     let k = find(list, &*heads, size, &*output, count, stop);
     if k == count {
         put_pair(output, count, row as u64, 0);

@@ -8,7 +8,7 @@ ghost use lib.ListN.{length, drop, set};
 ghost use Rattle.recordings.specs.Recordings.{member};
 ghost use Rattle.silence.specs.Silence.{hasRecording, testOf, testAt, chosen, silent, repeated, telling, toldListed, tellingTold, Tells};
 
-// What a call answers: how many stops it wrote, or that its output is too short for them: 28.
+// What a call answers: how many stops it wrote, or that its output is too short for them: refusal 28.
 pub enum Listed {
     Count(usize),
     OutputShort,
@@ -120,7 +120,7 @@ fn put_picked(asked: Asked, stops: &[u64], pairs: &[u64], output: &mut [u64])
     }
 }
 
-// Writes the stops asked for, in the order of the list, and counts them; 28 where the output is too short, which then stays.
+// Writes the stops asked for, in the order of the list, and counts them; refusal 28 where the output is too short, which then stays.
 fn write_picked(asked: Asked, stops: &[u64], pairs: &[u64], output: &mut [u64]) -> Listed
     ensures { λ r. ⌜ Tells (chosen asked (now (pairs .entry)) (now (stops .entry))) (now (output .entry)) r (now (output .exit)) ⌝ }
 {
@@ -133,7 +133,7 @@ fn write_picked(asked: Asked, stops: &[u64], pairs: &[u64], output: &mut [u64]) 
 }
 
 // Writes each stop of a list that no pair with a recording has, in the order of the list and as often as it stands there, and counts
-// them: 28. Numbers past those written stay.
+// them: refusal 28. Numbers past those written stay.
 pub fn write_silent(stops: &[u64], pairs: &[u64], output: &mut [u64]) -> Listed
     ensures { λ r. ⌜ record { answer = r; output = now (output .exit) }
         ≡ telling (silent (now (pairs .entry)) (now (stops .entry))) (now (output .entry)) ⌝ }
@@ -143,7 +143,7 @@ pub fn write_silent(stops: &[u64], pairs: &[u64], output: &mut [u64]) -> Listed
     write_picked(Asked::Silent, stops, pairs, output)
 }
 
-// Writes each stop that stands in a list twice or more, once, in the order in which they first occur, and counts them: 28.
+// Writes each stop that stands in a list twice or more, once, in the order in which they first occur, and counts them: refusal 28.
 pub fn write_repeated(stops: &[u64], output: &mut [u64]) -> Listed
     ensures { λ r. ⌜ record { answer = r; output = now (output .exit) }
         ≡ telling (repeated (now (stops .entry))) (now (output .entry)) ⌝ }
