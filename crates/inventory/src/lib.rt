@@ -15,22 +15,33 @@ use block::SetUp;
 use buddy::section::words_of;
 use buddy::sizes::size_of;
 use diagnosis::field_character;
+use machine::BUGS;
 use machine::CallStack;
 use machine::ContentsStack;
 use machine::Core;
 use machine::Definition;
 use machine::DefinitionStack;
+use machine::FIELDS;
+use machine::MAP;
 use machine::Place;
+use machine::STACK;
 use machine::State;
+use tour::LENT;
 use tour::least;
 use tour::run_tour;
+use tour::text::BLANK;
+use tour::text::NEWLINE;
 use tour::text::put;
 use tour::text::put_decimal;
 use tour::text::put_word;
 
-const NEWLINE: u8 = 10;
+// How many bytes the listing has at most.
+pub const LISTING: usize = 440000;
 
-const BLANK: u8 = 32;
+// How many octal digits a word has, and an address.
+const WORD: usize = 12;
+
+const ADDRESS: usize = 5;
 
 // The last octal digits of a number.
 fn put_octal(text: &mut [u8], at: usize, digits: usize, n: u64) -> usize
@@ -41,7 +52,7 @@ fn put_octal(text: &mut [u8], at: usize, digits: usize, n: u64) -> usize
     let mut rest = n;
     let mut left = digits;
     while left > 0 {
-        place = put(text, place, 48 + (rest % 8) as u8);
+        place = put(text, place, b'0' + (rest % 8) as u8);
         rest /= 8;
         left -= 1;
     }
@@ -54,7 +65,7 @@ fn put_word_end(text: &mut [u8], at: usize, w: u64) -> usize
     ensures { λ r. ⌜ Puts (wordEnd w) 14 at (now (text .entry)) r (now (text .exit)) ⌝ }
 {
     let end = put(text, at, NEWLINE);
-    let digits = put_octal(text, end, 12, w);
+    let digits = put_octal(text, end, WORD, w);
     put(text, digits, BLANK)
 }
 
@@ -96,7 +107,7 @@ fn put_bug(text: &mut [u8], at: usize, i: usize, w: u64) -> usize
         return at;
     }
     let end = put_word_end(text, at, w);
-    let name = put(text, end, 65 + i as u8);
+    let name = put(text, end, b'A' + i as u8);
     put_word(text, name, b"bug ")
 }
 
@@ -169,7 +180,7 @@ fn put_saved(text: &mut [u8], at: usize, w: u64) -> usize
 }
 
 // The tag of the block that the word at a place lies in.
-fn owner_of(map: &[u8; 4096], i: usize) -> u8
+fn owner_of(map: &[u8; MAP], i: usize) -> u8
     requires { ⌜ i < 4096 ⌝ }
     ensures { λ r. ⌜ r ≡ owner (now (map .entry)) i ⌝ }
 {
@@ -211,7 +222,7 @@ fn put_content(text: &mut [u8], at: usize, address: u64, tag: u8, w: u64) -> usi
         return at;
     }
     let end = put_word_end(text, at, w);
-    put_octal(text, end, 5, address)
+    put_octal(text, end, ADDRESS, address)
 }
 
 // The block that starts at a place, and the word there.
@@ -219,8 +230,8 @@ fn put_stored(
     text: &mut [u8],
     at: usize,
     s1: u16,
-    map: &[u8; 4096],
-    storage: &[u64; 4096],
+    map: &[u8; MAP],
+    storage: &[u64; LENT],
     i: usize,
 ) -> usize
     requires { ⌜ (i < 4096) × (96 ≤ at) × (at ≤ length (now text)) ⌝ }
@@ -233,13 +244,13 @@ fn put_stored(
 }
 
 // The bugs.
-fn put_bugs(text: &mut [u8], at: usize, bugs: &[u64; 26]) -> usize
+fn put_bugs(text: &mut [u8], at: usize, bugs: &[u64; BUGS]) -> usize
     requires { ⌜ (2496 ≤ at) × (at ≤ length (now text)) ⌝ }
     ensures { λ r. ⌜ Puts (texts (λ i. bugText i (getD (now (bugs .entry)) i 0)) 0 26) 2496 at
         (now (text .entry)) r (now (text .exit)) ⌝ }
 {
     let mut place = at;
-    let mut left = 26;
+    let mut left = BUGS;
     while left > 0 {
         left -= 1;
         place = put_bug(text, place, left, bugs[left]);
@@ -248,13 +259,13 @@ fn put_bugs(text: &mut [u8], at: usize, bugs: &[u64; 26]) -> usize
 }
 
 // The fields.
-fn put_fields(text: &mut [u8], at: usize, definitions: [Definition; 36]) -> usize
+fn put_fields(text: &mut [u8], at: usize, definitions: [Definition; FIELDS]) -> usize
     requires { ⌜ (3456 ≤ at) × (at ≤ length (now text)) ⌝ }
     ensures { λ r. ⌜ Puts (texts (λ i. fieldText i (getD definitions i undefined)) 0 36) 3456 at
         (now (text .entry)) r (now (text .exit)) ⌝ }
 {
     let mut place = at;
-    let mut left = 36;
+    let mut left = FIELDS;
     while left > 0 {
         left -= 1;
         place = put_field(text, place, left, definitions[left]);
@@ -267,8 +278,8 @@ fn put_storage(
     text: &mut [u8],
     at: usize,
     s1: u16,
-    map: &[u8; 4096],
-    storage: &[u64; 4096],
+    map: &[u8; MAP],
+    storage: &[u64; LENT],
     n: usize,
 ) -> usize
     requires { ⌜ (n ≤ 4096) × (96 * n ≤ at) × (at ≤ length (now text)) ⌝ }
@@ -285,7 +296,7 @@ fn put_storage(
 }
 
 // The first so many contents that are saved.
-fn put_contents(text: &mut [u8], at: usize, entries: &[u64; 128], n: usize) -> usize
+fn put_contents(text: &mut [u8], at: usize, entries: &[u64; STACK], n: usize) -> usize
     requires { ⌜ (n ≤ 128) × (96 * n ≤ at) × (at ≤ length (now text)) ⌝ }
     ensures { λ r. ⌜ Puts (texts (λ i. savedText (getD (now (entries .entry)) i 0)) 0 n) (96 * n) at
         (now (text .entry)) r (now (text .exit)) ⌝ }
@@ -300,7 +311,7 @@ fn put_contents(text: &mut [u8], at: usize, entries: &[u64; 128], n: usize) -> u
 }
 
 // The first so many definitions that are saved.
-fn put_definitions(text: &mut [u8], at: usize, entries: [Definition; 128], n: usize) -> usize
+fn put_definitions(text: &mut [u8], at: usize, entries: [Definition; STACK], n: usize) -> usize
     requires { ⌜ (n ≤ 128) × (96 * n ≤ at) × (at ≤ length (now text)) ⌝ }
     ensures { λ r. ⌜ Puts (texts (λ i. definitionText (getD entries i undefined)) 0 n) (96 * n) at
         (now (text .entry)) r (now (text .exit)) ⌝ }
@@ -315,7 +326,7 @@ fn put_definitions(text: &mut [u8], at: usize, entries: [Definition; 128], n: us
 }
 
 // The first so many places that are saved.
-fn put_places(text: &mut [u8], at: usize, entries: [Place; 128], n: usize) -> usize
+fn put_places(text: &mut [u8], at: usize, entries: [Place; STACK], n: usize) -> usize
     requires { ⌜ (n ≤ 128) × (96 * n ≤ at) × (at ≤ length (now text)) ⌝ }
     ensures { λ r. ⌜ Puts (texts (λ i. placeText (getD entries i (testsOf 0))) 0 n) (96 * n) at
         (now (text .entry)) r (now (text .exit)) ⌝ }
@@ -378,14 +389,14 @@ fn put_stacks(
     let kept = contents.entries;
     let undone = saved.entries;
     let returning = calls.entries;
-    let places = put_places(text, at, returning, least(calls.count, 128));
-    let definitions = put_definitions(text, places, undone, least(saved.count, 128));
-    let words = put_contents(text, definitions, &kept, least(contents.count, 128));
+    let places = put_places(text, at, returning, least(calls.count, STACK));
+    let definitions = put_definitions(text, places, undone, least(saved.count, STACK));
+    let words = put_contents(text, definitions, &kept, least(contents.count, STACK));
     put_counts(text, words, contents.count, saved.count, calls.count)
 }
 
 // The listing of a state and its storage.
-fn put_listing(text: &mut [u8], at: usize, state: State, storage: &[u64; 4096]) -> usize
+fn put_listing(text: &mut [u8], at: usize, state: State, storage: &[u64; LENT]) -> usize
     requires { ⌜ (440000 ≤ at) × (at ≤ length (now text)) ⌝ }
     ensures { λ r. ⌜ Puts (listing state (now (storage .entry))) 440000 at (now (text .entry)) r (now (text .exit)) ⌝ }
 {
@@ -393,19 +404,19 @@ fn put_listing(text: &mut [u8], at: usize, state: State, storage: &[u64; 4096]) 
     let map = state.map;
     let setup = core.setup;
     let stacks = put_stacks(text, at, core.contents, core.saved, core.calls);
-    let n = least(words_of(setup), 4096);
+    let n = least(words_of(setup), LENT);
     let blocks = put_storage(text, stacks, setup.s1, &map, storage, n);
     put_head(text, blocks, core)
 }
 
 // Runs a tour as tourrun does and puts what tourlist prints at the end of the text. Returns where it starts.
-pub fn list_tour(tab: &[u8], stops: &[u8], text: &mut [u8; 440000]) -> usize
+pub fn list_tour(tab: &[u8], stops: &[u8], text: &mut [u8; LISTING]) -> usize
     ensures { λ r. ⌜ Puts (printed (now (tab .entry)) (now (stops .entry))) 440000 440000
         (now (text .entry)) r (now (text .exit)) ⌝ }
 {
-    let mut storage = [0u64; 4096];
-    let mut output = [0u8; 4096];
+    let mut storage = [0u64; LENT];
+    let mut output = [0u8; LENT];
     let ran = run_tour(tab, stops, &mut storage, &mut output);
     let state = ran.state;
-    put_listing(text, 440000, state, &storage)
+    put_listing(text, LISTING, state, &storage)
 }

@@ -6,6 +6,9 @@ ghost use Rattle.tour.specs.Tour.{numbers, tableOf};
 ghost use Rattle.tour.specs.Put.{putBefore};
 use octets::number_at;
 
+// How many bytes a table has at most.
+pub const BYTES: usize = 64000;
+
 // The first n numbers, put at the start of the table.
 fn read_numbers(bytes: &[u8], n: usize, table: &mut [u64])
     requires { ⌜ (8 * n ≤ length (now bytes)) × (n ≤ length (now table)) ⌝ }
@@ -27,7 +30,7 @@ pub fn read_table(tab: &[u8], table: &mut [u64]) -> usize
     if tab.len() % 8 != 0 {
         return 0;
     }
-    if tab.len() > 64000 {
+    if tab.len() > BYTES {
         return 0;
     }
     let n = tab.len() / 8;

@@ -8,9 +8,9 @@ ghost use Rattle.tour.specs.Put.{putBefore};
 use engine::answers::refusal_number;
 use machine::Answer;
 
-const NEWLINE: u8 = 10;
+pub const NEWLINE: u8 = b'\n';
 
-const BLANK: u8 = 32;
+pub const BLANK: u8 = b' ';
 
 // A character.
 pub fn put(text: &mut [u8], at: usize, character: u8) -> usize
@@ -47,7 +47,7 @@ fn put_digits(text: &mut [u8], at: usize, n: u64) -> usize
     let mut place = at;
     let mut rest = n;
     while rest > 0 {
-        place = put(text, place, 48 + (rest % 10) as u8);
+        place = put(text, place, b'0' + (rest % 10) as u8);
         rest /= 10;
     }
     place
@@ -60,7 +60,7 @@ pub fn put_decimal(text: &mut [u8], at: usize, n: u64) -> usize
     ensures { λ _. ⌜ now (text .exit) ≡ putBefore at (decimal n) (now (text .entry)) ⌝ }
 {
     if n == 0 {
-        return put(text, at, 48);
+        return put(text, at, b'0');
     }
     put_digits(text, at, n)
 }
@@ -72,8 +72,8 @@ fn put_code(text: &mut [u8], at: usize, code: u8, after: u8) -> usize
     ensures { λ _. ⌜ now (text .exit) ≡ putBefore at ((48 + code / 8 % 8) ∷ (48 + code % 8) ∷ after ∷ []) (now (text .entry)) ⌝ }
 {
     let end = put(text, at, after);
-    let low = put(text, end, 48 + code % 8);
-    put(text, low, 48 + code / 8 % 8)
+    let low = put(text, end, b'0' + code % 8);
+    put(text, low, b'0' + code / 8 % 8)
 }
 
 // Codes, a blank after each but the last, and the line's end after that.

@@ -6,10 +6,10 @@ ghost use Rattle.tour.specs.Width.{widthOfTwo, widthOf};
 fn width_of_two(x: u8, y: u8) -> u64
     ensures { λ r. ⌜ r ≡ widthOfTwo x y ⌝ }
 {
-    if (x == 51) & (y == 54) {
+    if (x == b'3') & (y == b'6') {
         return 36;
     }
-    if (x == 52) & (y == 56) {
+    if (x == b'4') & (y == b'8') {
         return 48;
     }
     0

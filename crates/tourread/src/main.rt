@@ -2,7 +2,9 @@
 // none. What it writes and prints is proved of what it reads (crate tourtext).
 use files::read_file;
 use libc::STDOUT_FILENO;
+use tour::numbers::BYTES;
 use tour::width::width_of;
+use tourtext::LINE;
 use tourtext::translate;
 
 // Writes tour.tab anew.
@@ -17,8 +19,8 @@ fn write_tab(bytes: &[u8]) {
 
 fn main() {
     let mut typed = io::large_buffer();
-    let mut tab = [0u8; 64000];
-    let mut printed = [0u8; 128];
+    let mut tab = [0u8; BYTES];
+    let mut printed = [0u8; LINE];
     let mut word = [0u8; 8];
     let asked = files::first_word(&mut word);
     let given = read_file(b"tour.l6", &mut typed);
