@@ -1,8 +1,15 @@
 // Fields defined before they are used, for players in C and Rust.
 ghost use mathlib.Core.Path.{_≡_};
 ghost use Rattle.player.specs.Defined.{definedLeft};
+use crate::ILL_FORMED;
+use crate::NO_WIDTH;
+use crate::NOT_DEFINED;
+use crate::TABLE_LENGTH;
 use defined::FieldsCheck;
 use defined::check_fields;
+
+// The refusal of a row that names a row of the wrong kind.
+const WRONG_KIND: u64 = 30;
 
 // Whether each field of a table of words of width bits is defined before it is used; otherwise what is wrong, with its row, and of a field its name
 // number.
@@ -17,17 +24,17 @@ pub extern "C" fn l6_defined(width: u64, table: &[u64], row: &mut u64, field: &m
         FieldsCheck::No(r, n) => {
             *row = r;
             *field = n;
-            106
+            NOT_DEFINED
         }
-        FieldsCheck::NoWidth => 31,
-        FieldsCheck::BadLength => 1,
+        FieldsCheck::NoWidth => NO_WIDTH,
+        FieldsCheck::BadLength => TABLE_LENGTH,
         FieldsCheck::IllFormed(r) => {
             *row = r;
-            107
+            ILL_FORMED
         }
         FieldsCheck::WrongKind(r) => {
             *row = r;
-            30
+            WRONG_KIND
         }
     }
 }

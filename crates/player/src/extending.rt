@@ -5,8 +5,10 @@ ghost use Rattle.layout.specs.Layout.{stateLength, stateOf};
 ghost use Rattle.machine.specs.Extend.{extend as extendOf};
 ghost use Rattle.player.specs.Extending.{extendLeft};
 ghost use Rattle.player.specs.Calls.{engineAt};
+use crate::STATE_LENGTH;
 use extension::extend;
 use extension::number_of;
+use layout::offsets::STATE_BYTES;
 use layout::reading::read_state;
 use layout::writing::write_state;
 
@@ -18,8 +20,8 @@ pub extern "C" fn l6_extend(storage: &mut [u64], state: &mut [u8], last: u64) ->
     ensures back { λ _. ⌜ (length (now (state .entry)) ≡ stateLength → stateOf (now (state .exit))
         ≡ extendOf last (engineAt (now (state .entry)) (now (storage .entry))) .extended .state) ⌝ }
 {
-    if state.len() != 6676 {
-        return 101;
+    if state.len() != STATE_BYTES {
+        return STATE_LENGTH;
     }
     let extended = extend(storage, read_state(&*state), last);
     let after = extended.state;

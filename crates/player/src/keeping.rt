@@ -3,6 +3,7 @@ ghost use mathlib.Core.Path.{_≡_};
 ghost use Rattle.word.specs.Told.{number};
 ghost use Rattle.columns.specs.Columns.{toldKept};
 ghost use Rattle.player.specs.Keeping.{countOf, saveLeft, loadLeft};
+use crate::NO_WIDTH;
 use columns::Kept;
 use columns::load;
 use columns::save;
@@ -13,7 +14,7 @@ fn number_of(answer: Kept) -> u64
 {
     match answer {
         Kept::Count(_) => 0,
-        Kept::NoWidth => 31,
+        Kept::NoWidth => NO_WIDTH,
         Kept::WordTooWide => 33,
         Kept::NotSaved => 34,
         Kept::OutputShort => 35,

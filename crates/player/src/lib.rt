@@ -24,6 +24,9 @@ use engine::answers::refusal_number;
 use engine::fresh;
 use engine::run;
 use engine::step;
+use layout::offsets::MAP;
+use layout::offsets::STATE_BYTES;
+use layout::offsets::WIDTH;
 use layout::reading::read_state;
 use layout::reading::setup_at;
 use layout::reading::width_at;
@@ -39,13 +42,39 @@ use table::TableCheck;
 use table::check::check_table;
 use word::is_width;
 
+// How many numbers a report has.
+const REPORT: usize = 12;
+
+// Answers that are no refusal of a paper: finished, a state, a report or a list of a wrong length, closed, a field that is not defined,
+// an ill-formed row.
+const FINISHED: u64 = 100;
+
+const STATE_LENGTH: u64 = 101;
+
+const REPORT_LENGTH: u64 = 102;
+
+const LIST_LENGTH: u64 = 103;
+
+const CLOSED: u64 = 104;
+
+const NOT_DEFINED: u64 = 106;
+
+const ILL_FORMED: u64 = 107;
+
+// Refusals that calls answer by themselves: 1, 11 and 31.
+const TABLE_LENGTH: u64 = 1;
+
+const UNSOUND: u64 = 11;
+
+const NO_WIDTH: u64 = 31;
+
 // The number of an answer: 0 running, 100 finished, otherwise document 01's number of the refusal.
 fn code_of(answer: Answer) -> u64
     ensures { λ r. ⌜ r ≡ code answer ⌝ }
 {
     match answer {
         Answer::Running => 0,
-        Answer::Finished => 100,
+        Answer::Finished => FINISHED,
         Answer::Refused(refusal) => refusal_number(refusal),
     }
 }
@@ -57,7 +86,7 @@ fn has_moved(kind: u8, answer: Answer, count: u64) -> bool
     if count != 1 {
         return 1 < count;
     }
-    if kind == 3 {
+    if kind == machine::FINISHED {
         return false;
     }
     match answer {
@@ -115,13 +144,6 @@ fn put_report(report: &mut [u64], of: Report)
     put_store(report, 8, of.second);
 }
 
-// How many bytes a state has, and where its map begins and ends.
-const STATE: usize = 6676;
-
-const MAP: usize = 2579;
-
-const MAP_END: usize = 6675;
-
 // The version of the library, which its header and module have too.
 const VERSION: u64 = 1;
 
@@ -140,25 +162,25 @@ pub extern "C" fn l6_fresh(width: u64, state: &mut [u8]) -> u64
         ≡ freshState width) ⌝ }
 {
     if !is_width(width) {
-        return 31;
+        return NO_WIDTH;
     }
-    if state.len() != STATE {
-        return 101;
+    if state.len() != STATE_BYTES {
+        return STATE_LENGTH;
     }
     let made = fresh(width);
     write_state(state, made.state);
     0
 }
 
-// What a step answers where its report has a wrong length: 31 where the state has another width, otherwise 102.
+// What a step answers where its report has a wrong length: refusal 31 where the state has another width, otherwise 102.
 fn unreported(state: &[u8]) -> u64
     requires { ⌜ length (now state) ≡ stateLength ⌝ }
     ensures { λ r. ⌜ r ≡ unreportedOf (now (state .entry)) ⌝ }
 {
     if !is_width(width_at(state) as u64) {
-        return 31;
+        return NO_WIDTH;
     }
-    102
+    REPORT_LENGTH
 }
 
 // One step, with its report.
@@ -178,10 +200,10 @@ pub extern "C" fn l6_step(
         → stateOf (now (state .exit)) ≡ stepOf (lends (now (table .entry)) (now (input .entry)) (now (output .entry)))
         (engineAt (now (state .entry)) (now (storage .entry))) .stepped .state) ⌝ }
 {
-    if state.len() != STATE {
-        return 101;
+    if state.len() != STATE_BYTES {
+        return STATE_LENGTH;
     }
-    if report.len() != 12 {
+    if report.len() != REPORT {
         return unreported(&*state);
     }
     let before = read_state(&*state);
@@ -213,8 +235,8 @@ pub extern "C" fn l6_run(
         ≡ runOf limit (lends (now (table .entry)) (now (input .entry)) (now (output .entry)))
         (engineAt (now (state .entry)) (now (storage .entry))) .ran .state) ⌝ }
 {
-    if state.len() != STATE {
-        return 101;
+    if state.len() != STATE_BYTES {
+        return STATE_LENGTH;
     }
     let before = read_state(&*state);
     let core = before.core;
@@ -238,8 +260,8 @@ pub extern "C" fn l6_check(width: u64, table: &[u64], row: &mut u64) -> u64
             *row = r;
             0
         }
-        TableCheck::BadLength => 1,
-        TableCheck::NoWidth => 31,
+        TableCheck::BadLength => TABLE_LENGTH,
+        TableCheck::NoWidth => NO_WIDTH,
     }
 }
 
@@ -247,11 +269,11 @@ pub extern "C" fn l6_check(width: u64, table: &[u64], row: &mut u64) -> u64
 fn state_fault(state: &[u8]) -> u64
     ensures { λ r. ⌜ r ≡ stateFault (now (state .entry)) ⌝ }
 {
-    if state.len() != STATE {
-        return 101;
+    if state.len() != STATE_BYTES {
+        return STATE_LENGTH;
     }
     if !is_width(width_at(state) as u64) {
-        return 31;
+        return NO_WIDTH;
     }
     0
 }
@@ -266,12 +288,12 @@ pub extern "C" fn l6_count_blocks(state: &[u8], counts: &mut [u64]) -> u64
         return fault;
     }
     if counts.len() != 2 {
-        return 103;
+        return LIST_LENGTH;
     }
     let setup = setup_at(state);
-    let map = &state[MAP..MAP_END];
+    let map = &state[MAP..WIDTH];
     if !are_blocks(setup, map) {
-        return 11;
+        return UNSOUND;
     }
     let live = count_blocks(true, setup, map);
     let free = count_blocks(false, setup, map);
@@ -290,13 +312,13 @@ pub extern "C" fn l6_list_blocks(state: &[u8], live: u64, list: &mut [u64]) -> u
         return fault;
     }
     let setup = setup_at(state);
-    let map = &state[MAP..MAP_END];
+    let map = &state[MAP..WIDTH];
     if !are_blocks(setup, map) {
-        return 11;
+        return UNSOUND;
     }
     let asked = live != 0;
     if list.len() as u64 != 2 * count_blocks(asked, setup, map) {
-        return 103;
+        return LIST_LENGTH;
     }
     list_blocks(asked, setup, map, list);
     0

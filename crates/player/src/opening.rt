@@ -1,6 +1,7 @@
 // Opening hours for players in C and Rust.
 ghost use mathlib.Core.Path.{_≡_};
 ghost use Rattle.player.specs.Hours.{hoursLeft};
+use crate::CLOSED;
 use hours::Opening;
 use hours::open_at;
 
@@ -22,7 +23,7 @@ pub extern "C" fn l6_hours(
             *row = r;
             0
         }
-        Opening::Closed => 104,
+        Opening::Closed => CLOSED,
         Opening::Refused => 29,
     }
 }

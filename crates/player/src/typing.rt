@@ -1,7 +1,11 @@
 // Tours typed as L6 lines, read for players in C and Rust.
 ghost use mathlib.Core.Path.{_≡_};
 ghost use Rattle.player.specs.Typed.{readLeft};
+use crate::NO_WIDTH;
+use lines::BAD_LABEL;
+use lines::BAD_LINE;
 use lines::Read;
+use lines::TOO_LONG;
 use typed::read;
 
 // The table of a text for words of width bits and how many rows it has, or the line of its fault.
@@ -22,18 +26,18 @@ pub extern "C" fn l6_read(
             *count = n;
             0
         }
-        Read::NoWidth => 31,
+        Read::NoWidth => NO_WIDTH,
         Read::BadLine(n) => {
             *line = n;
-            23
+            BAD_LINE
         }
         Read::BadLabel(n) => {
             *line = n;
-            24
+            BAD_LABEL
         }
         Read::TooLong(n) => {
             *line = n;
-            25
+            TOO_LONG
         }
     }
 }
