@@ -21,7 +21,7 @@ use buddy::sizes::top_of;
 use character::print_into;
 use operands::stores::store;
 use operations::Action;
-use operations::Counts;
+use operations::Known;
 
 // The words of a delivered block: zero, and then those of the block that it copies, if there is one.
 fn fill(s1: u16, storage: &mut [u64], address: u64, n: u64, from: u64)
@@ -53,9 +53,7 @@ fn take_run(setup: SetUp, map: &mut [u8], storage: &mut [u64], address: u64, n: 
 
 // An action: what becomes of the bugs, the entries of the contents stack, the map, the storage and the output.
 pub fn carry_out(
-    b: u64,
-    setup: SetUp,
-    counts: Counts,
+    known: Known,
     bugs: &mut [u64; 26],
     entries: &mut [u64; 128],
     map: &mut [u8],
@@ -63,14 +61,19 @@ pub fn carry_out(
     output: &mut [u8],
     action: Action,
 )
-    requires { ⌜ (b ≤ 48) × (words setup % size (top (setup .d)) ≡ 0) × (keeps setup (now map) ≡ true)
-        × ((given : ℕ) × Feasible b (ground setup (now map) (now storage) counts given (length (now output))) action) ⌝ }
-    ensures { λ _. ⌜ (now (bugs .exit) ≡ bugsAfter b action (now (bugs .entry)))
-        × (now (entries .exit) ≡ entriesAfter (counts .contents) action (now (entries .entry)))
-        × (now (map .exit) ≡ mapAfter setup action (now (map .entry)))
-        × (now (storage .exit) ≡ wordsAfter b (setup .s1) action (now (storage .entry)))
-        × (now (output .exit) ≡ outputAfter (counts .written) action (now (output .entry))) ⌝ }
+    requires { ⌜ (known .b ≤ 48) × (words (known .setup) % size (top (known .setup .d)) ≡ 0)
+        × (keeps (known .setup) (now map) ≡ true)
+        × ((given : ℕ) × Feasible (known .b)
+        (ground (known .setup) (now map) (now storage) (known .counts) given (length (now output))) action) ⌝ }
+    ensures { λ _. ⌜ (now (bugs .exit) ≡ bugsAfter (known .b) action (now (bugs .entry)))
+        × (now (entries .exit) ≡ entriesAfter (known .counts .contents) action (now (entries .entry)))
+        × (now (map .exit) ≡ mapAfter (known .setup) action (now (map .entry)))
+        × (now (storage .exit) ≡ wordsAfter (known .b) (known .setup .s1) action (now (storage .entry)))
+        × (now (output .exit) ≡ outputAfter (known .counts .written) action (now (output .entry))) ⌝ }
 {
+    let b = known.b;
+    let setup = known.setup;
+    let counts = known.counts;
     match action {
         Action::Store(at, v) => store(b, bugs, setup.s1, storage, at, v),
         Action::StoreTwo(a, v, c, x) => {

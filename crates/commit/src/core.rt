@@ -2,7 +2,7 @@
 ghost use mathlib.Core.Path.{_≡_};
 ghost use Prim.Native.Nat.{_-_, _≤_, _<_};
 ghost use lib.ListN.{getD};
-ghost use Rattle.machine.specs.State.{testsOf, theEnd};
+ghost use Rattle.machine.specs.State.{theEnd};
 ghost use Rattle.commit.specs.Carried.{onward};
 ghost use Rattle.commit.specs.Feasible.{Counted};
 use crate::Onward;
@@ -49,18 +49,6 @@ pub fn go_on(action: Action, setup: SetUp, counts: Counts, given: usize, room: u
         setup: next,
         counts: after,
         recorded: recorded,
-    }
-}
-
-// The tests of a line.
-pub fn tests_of(line: u64) -> Place
-    requires { ⌜ line < 65536 ⌝ }
-    ensures { λ r. ⌜ r ≡ testsOf line ⌝ }
-{
-    Place {
-        kind: 0,
-        row: 0,
-        line: line as u16,
     }
 }
 

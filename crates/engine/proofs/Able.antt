@@ -54,8 +54,8 @@ use Rattle.operations.specs.Seen.{sight, Ready, countsOf}
 use Rattle.operations.specs.Plans.{setUpPlan, defining, definePlan, sizeOf, afterDelivery, delivering, getting, freeing}
 use Rattle.operations.specs.Plans.{duplicating, taking, valueBy, storing, acting, twoPlan, swapPlan, printing, printPlan}
 use Rattle.operations.specs.Plans.{contentsPlan, recordPlan, stackPlan, planOf, nameOf}
-use Rattle.plans.specs.Rows.{Two, Three, Operates}
-use Rattle.operations.specs.Answers.{Plan}
+use Rattle.operations.specs.Rows.{Two, Three, Operates}
+use Rattle.plans.specs.Answers.{Plan}
 use Rattle.plans.specs.Steps.{goingTo, testsPlan, orderedPlan, operationPlan, exitPlan, stepPlan}
 use Rattle.plans.proofs.Ready.{ready-is}
 use Rattle.plans.proofs.Shapes.{operates, called-row}
@@ -375,7 +375,7 @@ module _ (b : ℕ) (l : Lent) (e : Engine) (h : Facts b e) (ready : Ready b (sig
       k
 
   module _ (long : 4096 ≤ length (e .state .map)) (lengths : lengthFits (l .table) ≡ true) where
-    ordered-able : (r : ℕ) → usable 3 b (l .table) r ≡ true → (x : Action) → orderedPlan b (sight l e) (l .table) r ≡ passed x → Able b l e x
+    ordered-able : (r : ℕ) → usable 3 b (l .table) r ≡ true → (x : Action) → orderedPlan b (sight l e) (rowAt (l .table) r) ≡ passed x → Able b l e x
     unfolding orderedPlan world
     ordered-able r used x k =
         let row = rowAt (l .table) r in

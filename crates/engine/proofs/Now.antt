@@ -26,14 +26,14 @@ use Rattle.machine.specs.Sound.{lends, Engine, sound}
 use Rattle.machine.specs.Locate.{world}
 use Rattle.operations.specs.declared.Action.{Action}
 use Rattle.operations.specs.declared.Counts.{Counts}
-use Rattle.operations.specs.declared.Planned.{Planned}
-use Rattle.operations.specs.declared.Planned.the-variants.{Does, Stopped}
+use Rattle.plans.specs.declared.Step.{Step}
+use Rattle.plans.specs.declared.Step.the-variants.{Goes, Stopped}
 use Rattle.operands.specs.Packing.{unpackedAll}
-use Rattle.operations.specs.Seen.{Sight, sees, countsOf, Ready}
+use Rattle.operations.specs.Seen.{Sight, countsOf, Ready}
 use Rattle.word.specs.Told.{Told}
-use Rattle.operations.specs.Answers.{Plan, toldPlanned}
+use Rattle.plans.specs.Answers.{Plan, toldStep}
 use Rattle.plans.specs.Steps.{stepPlan}
-use Rattle.plans.proofs.Answers.{plan-is, no-plan-is}
+use Rattle.plans.proofs.Answers.{goes-is, halts-is}
 use Rattle.plans.proofs.Ready.{ready-is}
 use Rattle.commit.specs.declared.Onward.{Onward}
 use Rattle.commit.specs.declared.Records.{Records}
@@ -68,7 +68,7 @@ module _ (b : ℕ) (table input : List ℕ) (start : Walk) (limit count : ℕ) (
   e = engineWith b place bugs records entries counts setup map storage
 
   -- what a plan sees with these definitions
-  abbrev with-fields : List Definition → Sight
+  abbrev pub with-fields : List Definition → Sight
   with-fields ds =
       record {
         world = record { bugs = bugs; definitions = ds; setup = setup; map = map; storage = storage };
@@ -78,7 +78,7 @@ module _ (b : ℕ) (table input : List ℕ) (start : Walk) (limit count : ℕ) (
         room = length output;
       }
 
-  pub ready-now : Ready b (sees bugs fields setup map storage counts entries input (length output))
+  pub ready-now : Ready b (with-fields (unpackedAll fields))
   unfolding world
   ready-now = subst (λ (ds : List Definition). Ready b (with-fields ds)) (sym packed) (ready-is b (lends table input output) e (g .fine) narrow)
 
@@ -87,8 +87,7 @@ module _ (b : ℕ) (table input : List ℕ) (start : Walk) (limit count : ℕ) (
       → t ≡ told (stepPlan b (with-fields (records .definitions)) table place)
   so is = is ∙ ap (λ (ds : List Definition). told (stepPlan b (with-fields ds) table place)) packed
 
-  module _ {answer : Planned} (is : toldPlanned answer
-      ≡ told (stepPlan b (sees bugs fields setup map storage counts entries input (length output)) table place)) where
+  module _ {answer : Step} (is : toldStep answer ≡ told (stepPlan b (with-fields (unpackedAll fields)) table place)) where
     pub refused-now : {q : Refusal} → answer ≡ Stopped q → {report : Report} → report ≡ noReport → {r : Walked}
         → r ≡ record {
           state = record { width = b; core = coreWith place bugs records entries counts setup; map = map };
@@ -98,12 +97,12 @@ module _ (b : ℕ) (table input : List ℕ) (start : Walk) (limit count : ℕ) (
         }
         → returning r storage output ≡ start
     unfolding world
-    refused-now to none same = rw (same, none) (going-refused b table input start limit count output e g wide fits (no-plan-is _ (so is) to))
+    refused-now to none same = rw (same, none) (going-refused b table input start limit count output e g wide fits (halts-is _ (so is) to))
 
-    module _ {to : Place} {x : Action} (made : answer ≡ Does to x) (long : length map ≡ 4096) where
+    module _ {to : Place} {x : Action} (made : answer ≡ Goes to x) (long : length map ≡ 4096) where
       able : Able b (lends table input output) e x
       unfolding world
-      able = plan-able b (lends table input output) e (g .fine) narrow fits (rw long (omega arith)) _ (plan-is _ (so is) made)
+      able = plan-able b (lends table input output) e (g .fine) narrow fits (rw long (omega arith)) _ (goes-is _ (so is) made)
 
       pub feasible-now : Feasible b (ground setup map storage counts (length input) (length output)) x
       feasible-now = able .feasible
@@ -146,7 +145,7 @@ module _ (b : ℕ) (table input : List ℕ) (start : Walk) (limit count : ℕ) (
             rw (same, answers, reports ∙ ap reportOf (turn .same), carried .4)
             (ap (λ (f : Engine). walks (f .state) (cond (eqb (place′ .kind) 3) Finished Running) (reportOf x) (count + 1) (f .storage)
             (outputAfter (counts .written) x output)) (sym then-now)
-            ∙ going-ends b table input start limit count output e g wide fits _ (plan-is _ (so is) made) (able .sure) _ (ends refl) over)
+            ∙ going-ends b table input start limit count output e g wide fits _ (goes-is _ (so is) made) (able .sure) _ (ends refl) over)
 
         pub next-now : (eqb (place′ .kind) 3 || eqb (count + 1) limit) ≡ false → Going b table input start limit (count + 1) output′ f
         unfolding world
@@ -154,7 +153,7 @@ module _ (b : ℕ) (table input : List ℕ) (start : Walk) (limit count : ℕ) (
             let (unfinished, more) = neither _ _ on in
             subst (λ (out : List ℕ). Going b table input start limit (count + 1) out f) (sym (carried .4))
             (subst (Going b table input start limit (count + 1) (outputAfter (counts .written) x output)) then-now
-            (going-next b table input start limit count output e g wide fits _ (plan-is _ (so is) made) (able .sure) (ends unfinished) (eqb-false _ _ more)))
+            (going-next b table input start limit count output e g wide fits _ (goes-is _ (so is) made) (able .sure) (ends unfinished) (eqb-false _ _ more)))
 
 -- what a walk returns, by its core
 pub with-core : {c d : Core} → c ≡ d → {width : ℕ} {map : List ℕ} {answer : Answer} {report : Report} {count : ℕ}

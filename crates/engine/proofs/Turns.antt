@@ -25,7 +25,7 @@ use Rattle.machine.proofs.Steps.{sound-engine, step-is}
 use Rattle.machine.proofs.Soundness.{next, step-keeps-sound}
 use Rattle.operations.specs.Effects.{effects}
 use Rattle.operations.specs.Seen.{sight}
-use Rattle.operations.specs.Answers.{Plan}
+use Rattle.plans.specs.Answers.{Plan}
 use Rattle.plans.specs.Steps.{stepPlan}
 use Rattle.plans.proofs.Meets.{plan-passed, plan-refused}
 use Rattle.commit.specs.Carried.{outputAfter}

@@ -17,7 +17,6 @@ use commit::Records;
 use commit::carry::carry_out;
 use commit::core::go_on;
 use commit::core::returned;
-use commit::core::tests_of;
 use commit::reports::report_of;
 use machine::Answer;
 use machine::CallStack;
@@ -32,7 +31,9 @@ use operands::packing::pack;
 use operands::packing::pack_all;
 use operations::Action;
 use operations::Counts;
-use operations::Planned;
+use operations::Known;
+use operations::places::tests_of;
+use plans::Step;
 use plans::steps::plan_step;
 
 // A report of nothing.
@@ -113,21 +114,14 @@ fn core_of(
 // What a walk returns that ends so.
 fn ended(
     width: u8,
-    place: Place,
-    bugs: [u64; 26],
-    records: Records,
-    entries: [u64; 128],
-    counts: Counts,
-    setup: SetUp,
+    core: Core,
     map: [u8; 4096],
     answer: Answer,
     report: Report,
     count: u64,
 ) -> Walked
-    ensures { λ r. ⌜ r ≡ walkedTo (record { width = width; core = coreWith place bugs records entries counts setup; map = map })
-        answer report count ⌝ }
+    ensures { λ r. ⌜ r ≡ walkedTo (record { width = width; core = core; map = map }) answer report count ⌝ }
 {
-    let core = core_of(place, bugs, records, entries, counts, setup);
     let state = State {
         width: width,
         core: core,
@@ -211,48 +205,38 @@ pub fn walk(
     let mut count: u64 = 0;
     loop {
         count += 1;
+        let known = Known {
+            b: width as u64,
+            setup: setup,
+            counts: counts,
+            room: output.len(),
+            judged: judged,
+        };
         let planned = plan_step(
-            width as u64,
+            known,
             place,
             &bugs,
             &fields,
-            setup,
             &map,
             &*storage,
-            counts,
             &entries,
             input,
-            output.len(),
             table,
-            judged,
         );
         match planned {
-            Planned::Stopped(r) => {
+            Step::Stopped(r) => {
                 let records = Records {
                     definitions: definitions,
                     saved: saved,
                     calls: calls,
                 };
-                return ended(
-                    width,
-                    place,
-                    bugs,
-                    records,
-                    entries,
-                    counts,
-                    setup,
-                    map,
-                    Answer::Refused(r),
-                    no_report(),
-                    count,
-                );
+                let core = core_of(place, bugs, records, entries, counts, setup);
+                return ended(width, core, map, Answer::Refused(r), no_report(), count);
             }
-            Planned::Does(to, action) => {
+            Step::Goes(to, action) => {
                 let next = go_on(action, setup, counts, input.len(), output.len());
                 carry_out(
-                    width as u64,
-                    setup,
-                    counts,
+                    known,
                     &mut bugs,
                     &mut entries,
                     &mut map,
@@ -297,19 +281,8 @@ pub fn walk(
                         saved: saved,
                         calls: calls,
                     };
-                    return ended(
-                        width,
-                        place,
-                        bugs,
-                        records,
-                        entries,
-                        counts,
-                        setup,
-                        map,
-                        answer_at(place),
-                        report_of(action),
-                        count,
-                    );
+                    let core = core_of(place, bugs, records, entries, counts, setup);
+                    return ended(width, core, map, answer_at(place), report_of(action), count);
                 }
             }
         }

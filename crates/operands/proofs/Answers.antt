@@ -10,6 +10,7 @@ use Rattle.machine.proofs.Checks.{bind-passed, passed-same}
 use Rattle.machine.proofs.Numbers.{told-passed, told-refused}
 use Rattle.operands.specs.declared.Linked.{Linked}
 use Rattle.operands.specs.declared.Linked.the-variants as link
+use Rattle.operands.specs.declared.Operand.{Operand}
 use Rattle.operands.specs.declared.Got.{Got}
 use Rattle.operands.specs.declared.Got.the-variants as taken
 use Rattle.operands.specs.declared.Spot.{Spot}
@@ -42,7 +43,7 @@ module _ (f : Location → ℕ) (k : Checked Location) {answer : Linked} (is : t
 
 -- an answer of operand, by its case
 module _ (k : Checked Value) {answer : Got} (is : toldGot answer ≡ told k) where
-  pub value-is : {v n : ℕ} → answer ≡ taken.Value v n → k ≡ passed (valued v n)
+  pub value-is : {x : Operand} → answer ≡ taken.Value x → k ≡ passed (valued (x .value) (x .width))
   unfolding toldGot
   value-is to = told-passed k (sym (ap toldGot to) ∙ is)
 

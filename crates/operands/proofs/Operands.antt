@@ -47,12 +47,12 @@ field-narrow e h = subst Narrow e h
 
 -- an operand by its form
 module _ (b : ℕ) (w : World) (p : Pair) where
-  pub literal : p .form ≡ 1 → toldGot (taken.Value (p .value) b) ≡ told (operand b w p)
+  pub literal : p .form ≡ 1 → toldGot (taken.Value (record { value = p .value; width = b })) ≡ told (operand b w p)
   unfolding operand toldGot told
   literal f = rw (eq-eqb _ _ f)
 
   pub found : (p .form ≡ 1 → ⊥) → {at : Location} → leads b w (p .value) ≡ passed at → {v n : ℕ} → v ≡ contents b w at → n ≡ widthOf b at
-      → toldGot (taken.Value v n) ≡ told (operand b w p)
+      → toldGot (taken.Value (record { value = v; width = n })) ≡ told (operand b w p)
   unfolding operand locate leads toldGot told read _>>=_
   found f k same wide = rw (ne-eqb _ _ f, k, same, wide)
 

@@ -88,5 +88,5 @@ toldLinked (links.At spot) = gives spot
 toldLinked (links.Stopped r) = refuses (refusalNumber r)
 
 unfoldable pub toldGot : Got → Told Value
-toldGot (gets.Value v n) = gives (valued v n)
+toldGot (gets.Value x) = gives (valued (x .value) (x .width))
 toldGot (gets.Stopped r) = refuses (refusalNumber r)

@@ -18,9 +18,15 @@ pub enum Linked {
     Stopped(Refusal),
 }
 
-// An operand's value and its width, or why it is refused.
+// An operand's value and its width.
+pub struct Operand {
+    pub value: u64,
+    pub width: u64,
+}
+
+// An operand, or why it is refused.
 pub enum Got {
-    Value(u64, u64),
+    Value(Operand),
     Stopped(Refusal),
 }
 

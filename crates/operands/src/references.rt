@@ -18,6 +18,7 @@ ghost use Rattle.operands.specs.Through.{through, Deliverable};
 use crate::Delivery;
 use crate::Got;
 use crate::Linked;
+use crate::Operand;
 use crate::Spot;
 use crate::packing::unpack;
 use block::SetUp;
@@ -316,18 +317,28 @@ pub fn operand(
         (now (storage .entry))) p) ⌝ }
 {
     if p.form == codes::LITERAL {
-        return Got::Value(p.value, b);
+        let v = p.value;
+        let literal = Operand { value: v, width: b };
+        return Got::Value(literal);
     }
     if p.value < 64 {
         let bug = bug_before(p.value, 0);
         let i = bug.0 as usize;
-        return Got::Value(bugs[i], b);
+        let word = Operand {
+            value: bugs[i],
+            width: b,
+        };
+        return Got::Value(word);
     }
     let answer = follow(b, bugs, fields, setup, map, storage, p.value);
     match answer {
         Linked::At(spot) => {
             let at = spot.at;
-            Got::Value(spot.holds, width_of(b, at))
+            let field = Operand {
+                value: spot.holds,
+                width: width_of(b, at),
+            };
+            Got::Value(field)
         }
         Linked::Stopped(r) => Got::Stopped(r),
     }

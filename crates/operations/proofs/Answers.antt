@@ -3,7 +3,6 @@ use Prim.Native.Nat.{ℕ}
 use native.Mathlib.Omega.{arith}
 use mathlib.Core.Path.{_≡_, refl, sym, ap, _∙_}
 use Rattle.word.specs.Told.{Told}
-use Rattle.machine.specs.declared.Place.{Place}
 use Rattle.machine.specs.declared.Refusal.{Refusal}
 use Rattle.machine.specs.Answer.{Checked, refused, passed, told}
 use Rattle.machine.proofs.Checks.{passed-same}
@@ -15,20 +14,29 @@ use Rattle.operations.specs.declared.Planned.{Planned}
 use Rattle.operations.specs.declared.Planned.the-variants.{Does, Stopped}
 use Rattle.operations.specs.declared.Fetched.{Fetched}
 use Rattle.operations.specs.declared.Fetched.the-variants as fetching
-use Rattle.operations.specs.Answers.{Plan, toldPlanned, planned, toldComputed, Run, toldFetched, fetched}
+use Rattle.operations.specs.Answers.{toldPlanned, toldComputed, Run, toldFetched, fetched}
 
 -- a plan of an action, by what its checks come to
-module _ (to : Place) {k : Checked Action} where
-  pub does : {x : Action} → k ≡ passed x → toldPlanned (Does to x) ≡ told (planned to k)
-  unfolding toldPlanned planned told
+module _ {k : Checked Action} where
+  pub does : {x : Action} → k ≡ passed x → toldPlanned (Does x) ≡ told k
+  unfolding toldPlanned told
   does e = rw e
 
-  pub stops : {r : Refusal} → k ≡ refused r → toldPlanned (Stopped r) ≡ told (planned to k)
-  unfolding toldPlanned planned told
+  pub stops : {r : Refusal} → k ≡ refused r → toldPlanned (Stopped r) ≡ told k
+  unfolding toldPlanned told
   stops e = rw e
 
-  pub follows : {j : Checked Action} {t : Told Plan} → k ≡ j → t ≡ told (planned to j) → t ≡ told (planned to k)
+  pub follows : {j : Checked Action} {t : Told Action} → k ≡ j → t ≡ told j → t ≡ told k
   follows e is = rw e is
+
+module _ (k : Checked Action) {answer : Planned} (is : toldPlanned answer ≡ told k) where
+  pub plan-is : {x : Action} → answer ≡ Does x → k ≡ passed x
+  unfolding toldPlanned
+  plan-is made = told-passed k (sym (ap toldPlanned made) ∙ is)
+
+  pub no-plan-is : {r : Refusal} → answer ≡ Stopped r → k ≡ refused r
+  unfolding toldPlanned
+  no-plan-is made = told-refused k (sym (ap toldPlanned made) ∙ is)
 
 -- a value that is made, or not
 module _ (k : Checked ℕ) {answer : Computed} (is : toldComputed answer ≡ told k) where

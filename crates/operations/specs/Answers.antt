@@ -1,7 +1,6 @@
 -- What the code answers, in numbers. Assumes nothing.
 use Prim.Native.Nat.{ℕ}
 use Rattle.word.specs.Told.{Told, gives, refuses}
-use Rattle.machine.specs.declared.Place.{Place}
 use Rattle.machine.specs.Answer.{Checked, refused, passed, refusalNumber}
 use Rattle.operations.specs.declared.Action.{Action}
 use Rattle.operations.specs.declared.Computed.{Computed}
@@ -15,19 +14,9 @@ unfoldable pub toldComputed : Computed → Told ℕ
 toldComputed (computing.Made v) = gives v
 toldComputed (computing.Stopped r) = refuses (refusalNumber r)
 
--- what a step that is not refused does: the place to go to, and the action there
-pub record Plan : Type 0 where
-  pub to : Place
-  pub action : Action
-
-unfoldable pub toldPlanned : Planned → Told Plan
-toldPlanned (planning.Does to x) = gives (record { to = to; action = x })
+unfoldable pub toldPlanned : Planned → Told Action
+toldPlanned (planning.Does x) = gives x
 toldPlanned (planning.Stopped r) = refuses (refusalNumber r)
-
--- an action, before going to a place
-unfoldable pub planned : Place → Checked Action → Checked Plan
-planned to (refused r) = refused r
-planned to (passed x) = passed (record { to = to; action = x })
 
 -- a run by its address and its words
 pub record Run : Type 0 where

@@ -1,5 +1,6 @@
 -- What an operation sees, what each plans, and the effects that an action stands for.
 pub mod Seen
 pub mod Plans
+pub mod Rows
 pub mod Effects
 pub mod Answers

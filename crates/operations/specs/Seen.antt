@@ -2,12 +2,12 @@
 use Prim.Native.Nat.{ℕ, _+_, _≤_}
 use mathlib.Core.List.{List}
 use lib.ListN.{length}
-use Rattle.block.specs.declared.SetUp.{SetUp}
 use Rattle.machine.specs.declared.Core.{Core}
 use Rattle.machine.specs.Sound.{Lent, Engine}
 use Rattle.machine.specs.Locate.{World, world}
 use Rattle.operands.specs.Reading.{seen, Readable}
 use Rattle.operations.specs.declared.Counts.{Counts}
+use Rattle.operations.specs.declared.Known.{Known}
 
 -- what references read, how far stacks, input and output are used, the entries of the contents stack, the input, and the output's length
 pub record Sight : Type 0 where
@@ -17,10 +17,20 @@ pub record Sight : Type 0 where
   pub input : List ℕ
   pub room : ℕ
 
+-- what references read of lent slices
+abbrev pub seenBy : Known → List ℕ → List ℕ → List ℕ → List ℕ → World
+seenBy known bugs fields map storage = seen bugs fields (known .setup) map storage
+
 -- of lent slices
-abbrev pub sees : List ℕ → List ℕ → SetUp → List ℕ → List ℕ → Counts → List ℕ → List ℕ → ℕ → Sight
-sees bugs fields setup map storage counts entries input room =
-    record { world = seen bugs fields setup map storage; counts = counts; entries = entries; input = input; room = room }
+abbrev pub sees : Known → List ℕ → List ℕ → List ℕ → List ℕ → List ℕ → List ℕ → Sight
+sees known bugs fields map storage entries input =
+    record {
+      world = seenBy known bugs fields map storage;
+      counts = known .counts;
+      entries = entries;
+      input = input;
+      room = known .room;
+    }
 
 -- of an engine
 abbrev pub countsOf : Core → Counts

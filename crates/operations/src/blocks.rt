@@ -7,14 +7,16 @@ ghost use Rattle.block.specs.SetUp.{top, words};
 ghost use Rattle.block.specs.Map.{keeps, live};
 ghost use Rattle.table.specs.Reference.{isReference};
 ghost use Rattle.machine.specs.Operations.{lowestRun, liesIn};
-ghost use Rattle.operands.specs.Reading.{seen, Readable, Reached};
+ghost use Rattle.operands.specs.Reading.{Readable, Reached};
 ghost use Rattle.operands.specs.Through.{Deliverable};
 ghost use Rattle.operations.specs.Plans.{delivering, getting, freeing, duplicating};
 ghost use Rattle.machine.specs.Answer.{told};
 ghost use Rattle.machine.specs.Locate.{contents};
-ghost use Rattle.operations.specs.Answers.{toldPlanned, planned, toldFetched, fetched};
+ghost use Rattle.operations.specs.Answers.{toldPlanned, toldFetched, fetched};
+ghost use Rattle.operations.specs.Seen.{seenBy};
 use crate::Action;
 use crate::Fetched;
+use crate::Known;
 use crate::Planned;
 use block::SetUp;
 use buddy::Found;
@@ -24,7 +26,6 @@ use buddy::sizes::level_of;
 use buddy::sizes::size_of;
 use buddy::sizes::top_of;
 use machine::Location;
-use machine::Place;
 use machine::Refusal;
 use operands::Delivery;
 use operands::Linked;
@@ -47,41 +48,35 @@ fn fetch(setup: SetUp, map: &[u8], j: u8) -> Fetched
 
 // 3 get, once a run is found: a2 is located after the delivery.
 fn deliver(
-    b: u64,
-    to: Place,
+    known: Known,
     bugs: &[u64; 26],
     fields: &[u32; 36],
-    setup: SetUp,
     map: &[u8],
     storage: &[u64],
     third: Pair,
-    a: Spot,
-    address: u64,
-    n: u64,
+    ahead: Delivery,
+    held: u64,
 ) -> Planned
-    requires { ⌜ Readable b (seen (now bugs) (now fields) setup (now map) (now storage))
-        × Deliverable b (seen (now bugs) (now fields) setup (now map) (now storage)) address n (a .at)
-        × ((third .form ≡ 0 → ⊥) → isReference (third .value) ≡ true)
-        × (a .holds ≡ contents b (seen (now bugs) (now fields) setup (now map) (now storage)) (a .at)) ⌝ }
-    ensures { λ r. ⌜ toldPlanned r ≡ told (planned to
-        (delivering b (seen (now (bugs .entry)) (now (fields .entry)) setup (now (map .entry)) (now (storage .entry)))
-        third (a .at) address n)) ⌝ }
+    requires { ⌜ Readable (known .b) (seenBy known (now bugs) (now fields) (now map) (now storage))
+        × Deliverable (known .b) (seenBy known (now bugs) (now fields) (now map) (now storage)) (ahead .address) (ahead .size)
+        (ahead .at) × ((third .form ≡ 0 → ⊥) → isReference (third .value) ≡ true)
+        × (held ≡ contents (known .b) (seenBy known (now bugs) (now fields) (now map) (now storage)) (ahead .at)) ⌝ }
+    ensures { λ r. ⌜ toldPlanned r ≡ told (delivering (known .b)
+        (seenBy known (now (bugs .entry)) (now (fields .entry)) (now (map .entry)) (now (storage .entry)))
+        third (ahead .at) (ahead .address) (ahead .size)) ⌝ }
 {
-    let at = a.at;
+    let b = known.b;
+    let setup = known.setup;
+    let at = ahead.at;
     if third.form == 0 {
-        return Planned::Does(to, Action::Deliver(address, n, 0, at));
+        return Planned::Does(Action::Deliver(ahead.address, ahead.size, 0, at));
     }
-    let after = bugs_after(b, bugs, at, address);
-    let ahead = Delivery {
-        address: address,
-        size: n,
-        at: at,
-    };
+    let after = bugs_after(b, bugs, at, ahead.address);
     let found = locate_through(b, &after, fields, setup, map, storage, ahead, third.value);
     match found {
         Linked::At(second) => {
             let a2 = second.at;
-            Planned::Does(to, Action::DeliverTwo(address, n, at, a2, a.holds))
+            Planned::Does(Action::DeliverTwo(ahead.address, ahead.size, at, a2, held))
         }
         Linked::Stopped(r) => Planned::Stopped(r),
     }
@@ -89,24 +84,24 @@ fn deliver(
 
 // 3 get, once a is located and the size taken: 8, 17, a2.
 pub fn get(
-    b: u64,
-    to: Place,
+    known: Known,
     bugs: &[u64; 26],
     fields: &[u32; 36],
-    setup: SetUp,
     map: &[u8],
     storage: &[u64],
     third: Pair,
     a: Spot,
     wanted: u64,
 ) -> Planned
-    requires { ⌜ Readable b (seen (now bugs) (now fields) setup (now map) (now storage))
-        × Reached b (setup .s1) (now storage) (a .at) × ((third .form ≡ 0 → ⊥) → isReference (third .value) ≡ true)
-        × (a .holds ≡ contents b (seen (now bugs) (now fields) setup (now map) (now storage)) (a .at)) ⌝ }
-    ensures { λ r. ⌜ toldPlanned r ≡ told (planned to
-        (getting b (seen (now (bugs .entry)) (now (fields .entry)) setup (now (map .entry)) (now (storage .entry)))
-        third (a .at) wanted)) ⌝ }
+    requires { ⌜ Readable (known .b) (seenBy known (now bugs) (now fields) (now map) (now storage))
+        × Reached (known .b) (known .setup .s1) (now storage) (a .at)
+        × ((third .form ≡ 0 → ⊥) → isReference (third .value) ≡ true)
+        × (a .holds ≡ contents (known .b) (seenBy known (now bugs) (now fields) (now map) (now storage)) (a .at)) ⌝ }
+    ensures { λ r. ⌜ toldPlanned r ≡ told (getting (known .b)
+        (seenBy known (now (bugs .entry)) (now (fields .entry)) (now (map .entry)) (now (storage .entry)))
+        third (a .at) wanted) ⌝ }
 {
+    let setup = known.setup;
     if wanted == 0 {
         return Planned::Stopped(Refusal::BlockSize);
     }
@@ -115,19 +110,15 @@ pub fn get(
     }
     let run = fetch(setup, map, level_of(top_of(setup.d), wanted));
     match run {
-        Fetched::Run(address, n) => deliver(
-            b,
-            to,
-            bugs,
-            fields,
-            setup,
-            map,
-            storage,
-            third,
-            a,
-            address,
-            n,
-        ),
+        Fetched::Run(address, n) => {
+            let at = a.at;
+            let ahead = Delivery {
+                address: address,
+                size: n,
+                at: at,
+            };
+            deliver(known, bugs, fields, map, storage, third, ahead, a.holds)
+        }
         Fetched::Stopped(r) => Planned::Stopped(r),
     }
 }
@@ -148,9 +139,9 @@ fn lies_in(address: u64, n: u64, at: Location) -> bool
 }
 
 // 4 free: 15, 18.
-pub fn free(to: Place, setup: SetUp, map: &[u8], at: Location, address: u64, v: u64) -> Planned
+pub fn free(setup: SetUp, map: &[u8], at: Location, address: u64, v: u64) -> Planned
     requires { ⌜ (words setup % size (top (setup .d)) ≡ 0) × (keeps setup (now map) ≡ true) ⌝ }
-    ensures { λ r. ⌜ toldPlanned r ≡ told (planned to (freeing address (sizeAt address (live setup (now (map .entry)))) at v)) ⌝ }
+    ensures { λ r. ⌜ toldPlanned r ≡ told (freeing address (sizeAt address (live setup (now (map .entry)))) at v) ⌝ }
 {
     let n = live_size(setup, map, address);
     if n == 0 {
@@ -159,14 +150,14 @@ pub fn free(to: Place, setup: SetUp, map: &[u8], at: Location, address: u64, v: 
     if lies_in(address, n, at) {
         return Planned::Stopped(Refusal::FieldFreed);
     }
-    Planned::Does(to, Action::Free(address, at, v))
+    Planned::Does(Action::Free(address, at, v))
 }
 
 // 5 duplicate: 15, 17.
-pub fn duplicate(to: Place, setup: SetUp, map: &[u8], at: Location, from: u64) -> Planned
+pub fn duplicate(setup: SetUp, map: &[u8], at: Location, from: u64) -> Planned
     requires { ⌜ (words setup % size (top (setup .d)) ≡ 0) × (keeps setup (now map) ≡ true) ⌝ }
-    ensures { λ r. ⌜ toldPlanned r ≡ told (planned to
-        (duplicating setup (now (map .entry)) at from (sizeAt from (live setup (now (map .entry)))))) ⌝ }
+    ensures { λ r. ⌜ toldPlanned r ≡ told
+        (duplicating setup (now (map .entry)) at from (sizeAt from (live setup (now (map .entry))))) ⌝ }
 {
     let n = live_size(setup, map, from);
     if n == 0 {
@@ -174,7 +165,7 @@ pub fn duplicate(to: Place, setup: SetUp, map: &[u8], at: Location, from: u64) -
     }
     let run = fetch(setup, map, level_of(top_of(setup.d), n));
     match run {
-        Fetched::Run(address, m) => Planned::Does(to, Action::Deliver(address, m, from, at)),
+        Fetched::Run(address, m) => Planned::Does(Action::Deliver(address, m, from, at)),
         Fetched::Stopped(r) => Planned::Stopped(r),
     }
 }

@@ -1,12 +1,13 @@
 // The operations: what each plans, an action or its refusal. A plan is made over lent slices and changes nothing.
 pub mod actions;
 mod blocks;
+pub mod codes;
+pub mod places;
 mod values;
 
 use block::SetUp;
 use machine::Definition;
 use machine::Location;
-use machine::Place;
 use machine::Refusal;
 use table::FieldName;
 
@@ -17,6 +18,16 @@ pub struct Counts {
     pub calls: usize,
     pub taken: usize,
     pub written: usize,
+}
+
+// What a plan knows besides what it is lent: the bits of a word, the set-up numbers, how far stacks, input and output are used, how long
+// the output is, and whether the table is judged well-formed.
+pub struct Known {
+    pub b: u64,
+    pub setup: SetUp,
+    pub counts: Counts,
+    pub room: usize,
+    pub judged: bool,
 }
 
 // What a step does besides going to a place.
@@ -46,9 +57,9 @@ pub enum Action {
     Return,
 }
 
-// What a step that is not refused does: the place to go to, and the action there.
+// What an operation plans: an action, or why it is refused.
 pub enum Planned {
-    Does(Place, Action),
+    Does(Action),
     Stopped(Refusal),
 }
 

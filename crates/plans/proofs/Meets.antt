@@ -38,7 +38,7 @@ use Rattle.operations.specs.Seen.{sight}
 use Rattle.operations.specs.Plans.{setUpPlan, defining, definePlan, sizeOf, afterDelivery, delivering, getting, freeing}
 use Rattle.operations.specs.Plans.{duplicating, taking, valueOf, valueBy, Computes, storing, acting, twoPlan, swapPlan, printing}
 use Rattle.operations.specs.Plans.{printPlan, contentsPlan, recordPlan, stackPlan, planOf}
-use Rattle.operations.specs.Answers.{Plan}
+use Rattle.plans.specs.Answers.{Plan}
 use Rattle.plans.specs.Steps.{testsPlan, orderedPlan, operationPlan, exitPlan, stepPlan}
 use Rattle.operations.specs.Effects.{effects}
 use Rattle.plans.proofs.Shapes.{allBelow, at-below, operates}
@@ -363,7 +363,7 @@ module _ (b : ℕ) (l : Lent) (e : Engine) (h : Facts b e) where
       }
 
   ordered-as : usable 3 b (l .table) (e .state .core .place .row) ≡ true
-      → (orderedPlan b (sight l e) (l .table) (e .state .core .place .row) >>= λ x. passed (effects b x (after .state)))
+      → (orderedPlan b (sight l e) (rowAt (l .table) (e .state .core .place .row)) >>= λ x. passed (effects b x (after .state)))
       ≡ (inTurn (rowAt (l .table) (e .state .core .place .row) .code) e >> meaning (rowAt (l .table) (e .state .core .place .row) .code) b (given l e))
   unfolding orderedPlan inTurn isSetUp given world onCore movedTo
   ordered-as u =
@@ -387,7 +387,7 @@ module _ (b : ℕ) (l : Lent) (e : Engine) (h : Facts b e) where
       let row = rowAt (l .table) (e .state .core .place .row) in
       need-bind _ _ _ (moved b e)
       ∙ need-when _ _
-      (λ u. bind-bind (orderedPlan b (sight l e) (l .table) (e .state .core .place .row))
+      (λ u. bind-bind (orderedPlan b (sight l e) (rowAt (l .table) (e .state .core .place .row)))
       (λ x. passed (record { to = operationOrExit (row .next) (e .state .core .place .line); action = x })) (moved b e)
       ∙ ordered-as u)
 

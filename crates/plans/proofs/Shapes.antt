@@ -21,7 +21,7 @@ use Rattle.table.specs.Table.{usable, shaped, isOperation, shapeOf, fits, fitPa
 use Rattle.machine.proofs.Checks.{or-parts, clash}
 use Rattle.operands.specs.Reading.{Taken}
 use Rattle.operations.specs.Plans.{Acts}
-use Rattle.plans.specs.Rows.{Stacked, Two, Three, Operates}
+use Rattle.operations.specs.Rows.{Stacked, Two, Three, Operates}
 use Rattle.plans.proofs.Rows.{used, ref-taken, either-taken}
 
 -- a test that holds of each number below n holds of each of them

@@ -1,4 +1,3 @@
--- The operands of a row, and what a step plans at its place.
-pub mod Rows
-pub mod Steps
+-- What a step plans at its place.
 pub mod Answers
+pub mod Steps

@@ -4,6 +4,7 @@ use mathlib.Core.Bool.{Bool, not, cond}
 use mathlib.Core.List.{List}
 use lib.Dec.{eqb, ltb}
 use lib.ListN.{length}
+use Rattle.table.specs.declared.Row.{Row}
 use Rattle.table.specs.Row.{lengthFits, rows, rowAt, firstTest, firstOperation, goTo, done}
 use Rattle.table.specs.Table.{usable}
 use Rattle.machine.specs.declared.Place.{Place}
@@ -14,10 +15,10 @@ use Rattle.machine.specs.Locate.{World}
 use Rattle.machine.specs.Test.{satisfied}
 use Rattle.machine.specs.Step.{nextLine, operationOrExit}
 use Rattle.operations.specs.declared.Action.{Action}
-use Rattle.operations.specs.Answers.{Plan}
 use Rattle.operations.specs.declared.Action.the-variants.{Nothing, Return}
 use Rattle.operations.specs.Seen.{Sight}
 use Rattle.operations.specs.Plans.{setUpPlan, planOf}
+use Rattle.plans.specs.Answers.{Plan}
 
 -- going to a place and nothing else
 abbrev pub goingTo : Place → Plan
@@ -32,16 +33,16 @@ testsPlan b w table line = do
   passed (goingTo (cond holds (operationOrExit (firstOperation row) line) (nextLine (row .next))))
 
 -- a set-up happens once (13) and precedes every other operation (12)
-unfoldable pub orderedPlan : ℕ → Sight → List ℕ → ℕ → Checked Action
-orderedPlan b s table r =
-    cond (eqb (rowAt table r .code) 1) (need (eqb (s .world .setup .d) 0) SecondSetUp >> setUpPlan (length (s .world .storage)) (rowAt table r))
-    (need (not (eqb (s .world .setup .d) 0)) BeforeSetUp >> planOf b s (rowAt table r))
+unfoldable pub orderedPlan : ℕ → Sight → Row → Checked Action
+orderedPlan b s row =
+    cond (eqb (row .code) 1) (need (eqb (s .world .setup .d) 0) SecondSetUp >> setUpPlan (length (s .world .storage)) row)
+    (need (not (eqb (s .world .setup .d) 0)) BeforeSetUp >> planOf b s row)
 
 -- the step of an operation
 unfoldable pub operationPlan : ℕ → Sight → List ℕ → Place → Checked Plan
 operationPlan b s table place = do
   need (usable 3 b table (place .row)) BadRow
-  x ← orderedPlan b s table (place .row)
+  x ← orderedPlan b s (rowAt table (place .row))
   passed (record { to = operationOrExit (rowAt table (place .row) .next) (place .line); action = x })
 
 -- the step at a line's exit, with so many calls to return from

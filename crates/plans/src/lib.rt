@@ -3,7 +3,9 @@ mod places;
 pub mod steps;
 mod tests;
 
+use machine::Place;
 use machine::Refusal;
+use operations::Action;
 
 // Whether a test holds and the row of the next one, or why it is refused.
 pub enum Tested {
@@ -14,5 +16,11 @@ pub enum Tested {
 // Whether a line is satisfied, or why that is not told.
 pub enum Settled {
     Holds(bool),
+    Stopped(Refusal),
+}
+
+// What a step does: the place to go to and the action there, or why it is refused.
+pub enum Step {
+    Goes(Place, Action),
     Stopped(Refusal),
 }

@@ -1,21 +1,10 @@
-// Places: the tests of a line, the next line, an operation or an exit.
+// Places: the next line, an operation or an exit.
 ghost use mathlib.Core.Path.{_≡_};
 ghost use Prim.Native.Nat.{_<_};
 ghost use Rattle.machine.specs.State.{testsOf};
 ghost use Rattle.machine.specs.Step.{nextLine, operationOrExit};
 use machine::Place;
-
-// The tests of a line.
-pub fn tests_of(line: u64) -> Place
-    requires { ⌜ line < 65536 ⌝ }
-    ensures { λ r. ⌜ r ≡ testsOf line ⌝ }
-{
-    Place {
-        kind: 0,
-        row: 0,
-        line: line as u16,
-    }
-}
+use operations::places::tests_of;
 
 // The next line, or finished.
 pub fn next_line(next: u64) -> Place

@@ -6,15 +6,16 @@ ghost use Rattle.table.specs.declared.TableCheck.the-variants.{Lowest};
 ghost use Rattle.table.specs.Row.{rows};
 ghost use Rattle.table.specs.Table.{usable, checked};
 ghost use Rattle.machine.specs.Test.{compared as comparedBy, settling as settlingOf, settledAs, testing, satisfied as satisfiedBy};
-ghost use Rattle.operands.specs.Reading.{seen, Readable};
+ghost use Rattle.operands.specs.Reading.{Readable};
+ghost use Rattle.operations.specs.Seen.{seenBy};
 ghost use Rattle.machine.specs.Answer.{told};
 ghost use Rattle.plans.specs.Answers.{toldTested, toldSettled};
 use crate::Settled;
 use crate::Tested;
-use block::SetUp;
 use machine::Refusal;
 use operands::Got;
 use operands::references::operand;
+use operations::Known;
 use table::check::is_usable;
 use table::rows::row_at;
 
@@ -68,24 +69,23 @@ fn compared(b: u64, code: u64, c: u64, cd: u64) -> bool
 
 // The test in a row: its 2, then its operands.
 fn test_at(
-    b: u64,
+    known: Known,
     bugs: &[u64; 26],
     fields: &[u32; 36],
-    setup: SetUp,
     map: &[u8],
     storage: &[u64],
     table: &[u64],
-    judged: bool,
     r: u64,
 ) -> Tested
-    requires { ⌜ Readable b (seen (now bugs) (now fields) setup (now map) (now storage))
-        × (judged ≡ true → checked b (now table) ≡ Lowest 0) ⌝ }
-    ensures { λ x. ⌜ toldTested x ≡ told
-        (testing b (now (table .entry))
-        (seen (now (bugs .entry)) (now (fields .entry)) setup (now (map .entry)) (now (storage .entry))) r) ⌝ }
+    requires { ⌜ Readable (known .b) (seenBy known (now bugs) (now fields) (now map) (now storage))
+        × (known .judged ≡ true → checked (known .b) (now table) ≡ Lowest 0) ⌝ }
+    ensures { λ x. ⌜ toldTested x ≡ told (testing (known .b) (now (table .entry))
+        (seenBy known (now (bugs .entry)) (now (fields .entry)) (now (map .entry)) (now (storage .entry))) r) ⌝ }
 {
+    let b = known.b;
+    let setup = known.setup;
     let i = r as usize;
-    if !can_use(2, b, table, i, judged) {
+    if !can_use(2, b, table, i, known.judged) {
         return Tested::Stopped(Refusal::BadRow);
     }
     let row = row_at(table, i);
@@ -93,34 +93,31 @@ fn test_at(
     let second = row.second;
     let x = operand(b, bugs, fields, setup, map, storage, first);
     let c = match x {
-        Got::Value(v, _) => v,
+        Got::Value(v) => v.value,
         Got::Stopped(q) => return Tested::Stopped(q),
     };
     let y = operand(b, bugs, fields, setup, map, storage, second);
     match y {
-        Got::Value(cd, _) => Tested::Outcome(compared(b, row.code, c, cd), row.next),
+        Got::Value(cd) => Tested::Outcome(compared(b, row.code, c, cd.value), row.next),
         Got::Stopped(q) => Tested::Stopped(q),
     }
 }
 
 // Whether a line is satisfied: its tests from a row on, left at the first that settles it.
 pub fn satisfied(
-    b: u64,
+    known: Known,
     bugs: &[u64; 26],
     fields: &[u32; 36],
-    setup: SetUp,
     map: &[u8],
     storage: &[u64],
     table: &[u64],
-    judged: bool,
     mode: u64,
     first: u64,
 ) -> Settled
-    requires { ⌜ Readable b (seen (now bugs) (now fields) setup (now map) (now storage))
-        × (judged ≡ true → checked b (now table) ≡ Lowest 0) × (1 ≤ rows (now table)) ⌝ }
-    ensures { λ x. ⌜ toldSettled x ≡ told
-        (satisfiedBy b (now (table .entry))
-        (seen (now (bugs .entry)) (now (fields .entry)) setup (now (map .entry)) (now (storage .entry)))
+    requires { ⌜ Readable (known .b) (seenBy known (now bugs) (now fields) (now map) (now storage))
+        × (known .judged ≡ true → checked (known .b) (now table) ≡ Lowest 0) × (1 ≤ rows (now table)) ⌝ }
+    ensures { λ x. ⌜ toldSettled x ≡ told (satisfiedBy (known .b) (now (table .entry))
+        (seenBy known (now (bugs .entry)) (now (fields .entry)) (now (map .entry)) (now (storage .entry)))
         mode (rows (now (table .entry))) first) ⌝ }
 {
     let mut r = first;
@@ -128,7 +125,7 @@ pub fn satisfied(
         if r == 0 {
             break Settled::Holds(!settled_as(mode));
         }
-        let answer = test_at(b, bugs, fields, setup, map, storage, table, judged, r);
+        let answer = test_at(known, bugs, fields, map, storage, table, r);
         match answer {
             Tested::Outcome(holds, next) => {
                 if holds == settling(mode) {

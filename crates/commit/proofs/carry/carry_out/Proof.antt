@@ -18,7 +18,7 @@ enum-known-action c = search needs
 store-requires : tie.Need-store-requires
 store-requires c κs =
     let at-action = c .before .before .before in
-    let start = at-action .before .before .before .before .before in
+    let start = at-action .before .before .before .before .before .before .before in
     (start .pre .0, store-asks _ _ (start .pre .3 .1) (at-action .action .given .1))
 
 enum-known-action-2 : tie.Need-enum-known-action-2
@@ -27,14 +27,14 @@ enum-known-action-2 c = search needs
 store-requires-2 : tie.Need-store-requires-2
 store-requires-2 c κs =
     let at-action2 = c .before .before .before in
-    let start = at-action2 .before .before .before .before .before in
+    let start = at-action2 .before .before .before .before .before .before .before in
     (start .pre .0, two-asks _ _ (start .pre .3 .1) (at-action2 .action2 .given .1) .0)
 
 store-requires-3 : tie.Need-store-requires-3
 store-requires-3 c κs =
     let at-storage2 = c .before .before .before in
     let at-action2 = at-storage2 .before .before .before .before .before in
-    let start = at-action2 .before .before .before .before .before in
+    let start = at-action2 .before .before .before .before .before .before .before in
     (start .pre .0, still-reached _ _ _ _ _ (at-storage2 .storage2 .given) (two-asks _ _ (start .pre .3 .1) (at-action2 .action2 .given .1) .1))
 
 enum-known-action-3 : tie.Need-enum-known-action-3
@@ -42,7 +42,7 @@ enum-known-action-3 c = search needs
 
 set-up-requires : tie.Need-set-up-requires
 set-up-requires c κs =
-    let start = c .before .before .before .before .before .before .before in
+    let start = c .before .before .before .before .before .before .before .before .before in
     let h = set-up-asks _ _ (start .pre .3 .1) (c .before .before .action3 .given .1) in
     (words-whole _ _ (h .0), h .1)
 
@@ -52,7 +52,7 @@ words-of-requires c κs = search needs
 zero-words-requires : tie.Need-zero-words-requires
 zero-words-requires c κs =
     let at-action3 = c .before .before .before .before .before .before .before in
-    let start = at-action3 .before .before .before .before .before in
+    let start = at-action3 .before .before .before .before .before .before .before in
     let h = set-up-asks _ _ (start .pre .3 .1) (at-action3 .action3 .given .1) in
     omega (arith, c .words-of .ensures, fitting-facts _ _ (h .0) .lies)
 
@@ -62,7 +62,7 @@ enum-known-action-4 c = search needs
 take-run-requires : tie.Need-take-run-requires
 take-run-requires c κs =
     let at-action4 = c .before .before .before in
-    let start = at-action4 .before .before .before .before .before in
+    let start = at-action4 .before .before .before .before .before .before .before in
     let h = deliver-asks _ _ (start .pre .3 .1) (at-action4 .action4 .given .1) in
     (start .pre .1, start .pre .2, same-run _ (h .0), λ some. same-copy _ (h .1 some))
 
@@ -70,7 +70,7 @@ store-requires-4 : tie.Need-store-requires-4
 store-requires-4 c κs =
     let at-storage5 = c .before .before .before in
     let at-action4 = at-storage5 .before .before .before .before .before .before .before in
-    let start = at-action4 .before .before .before .before .before in
+    let start = at-action4 .before .before .before .before .before .before .before in
     (start .pre .0, still-reached _ _ _ _ _ (at-storage5 .storage5 .given) (deliver-asks _ _ (start .pre .3 .1) (at-action4 .action4 .given .1) .2))
 
 enum-known-action-5 : tie.Need-enum-known-action-5
@@ -79,7 +79,7 @@ enum-known-action-5 c = search needs
 take-run-requires-2 : tie.Need-take-run-requires-2
 take-run-requires-2 c κs =
     let at-action5 = c .before .before .before in
-    let start = at-action5 .before .before .before .before .before in
+    let start = at-action5 .before .before .before .before .before .before .before in
     let h = deliver-two-asks _ _ (start .pre .3 .1) (at-action5 .action5 .given .1) in
     (start .pre .1, start .pre .2, same-run _ (h .0), λ some. absurd (some refl))
 
@@ -87,7 +87,7 @@ store-requires-5 : tie.Need-store-requires-5
 store-requires-5 c κs =
     let at-storage7 = c .before .before .before in
     let at-action5 = at-storage7 .before .before .before .before .before .before .before in
-    let start = at-action5 .before .before .before .before .before in
+    let start = at-action5 .before .before .before .before .before .before .before in
     (start .pre .0, still-reached _ _ _ _ _ (at-storage7 .storage7 .given) (deliver-two-asks _ _ (start .pre .3 .1) (at-action5 .action5 .given .1) .1))
 
 store-requires-6 : tie.Need-store-requires-6
@@ -95,7 +95,7 @@ store-requires-6 c κs =
     let at-storage8 = c .before .before .before in
     let at-storage7 = at-storage8 .before .before .before .before .before in
     let at-action5 = at-storage7 .before .before .before .before .before .before .before in
-    let start = at-action5 .before .before .before .before .before in (
+    let start = at-action5 .before .before .before .before .before .before .before in (
       start .pre .0,
       still-reached _ _ _ _ _ (at-storage8 .storage8 .given ∙ at-storage7 .storage7 .given)
           (deliver-two-asks _ _ (start .pre .3 .1) (at-action5 .action5 .given .1) .2),
@@ -106,14 +106,14 @@ enum-known-action-6 c = search needs
 
 free-block-requires : tie.Need-free-block-requires
 free-block-requires c κs =
-    let start = c .before .before .before .before .before .before .before in
+    let start = c .before .before .before .before .before .before .before .before .before in
     let h = free-asks _ _ (start .pre .3 .1) (c .before .before .action6 .given .1) in
     (start .pre .1, start .pre .2, h .1)
 
 store-requires-7 : tie.Need-store-requires-7
 store-requires-7 c κs =
     let at-action6 = c .before .before .before .before .before .before .before in
-    let start = at-action6 .before .before .before .before .before in
+    let start = at-action6 .before .before .before .before .before .before .before in
     (start .pre .0, free-asks _ _ (start .pre .3 .1) (at-action6 .action6 .given .1) .0)
 
 enum-known-action-7 : tie.Need-enum-known-action-7
@@ -122,7 +122,7 @@ enum-known-action-7 c = search needs
 store-requires-8 : tie.Need-store-requires-8
 store-requires-8 c κs =
     let at-action7 = c .before .before .before in
-    let start = at-action7 .before .before .before .before .before in
+    let start = at-action7 .before .before .before .before .before .before .before in
     (start .pre .0, input-asks _ _ (start .pre .3 .1) (at-action7 .action7 .given .1) .0)
 
 enum-known-action-8 : tie.Need-enum-known-action-8
@@ -130,7 +130,7 @@ enum-known-action-8 c = search needs
 
 print-into-requires : tie.Need-print-into-requires
 print-into-requires c κs =
-    let start = c .before .before .before .before .before .before .before in
+    let start = c .before .before .before .before .before .before .before .before .before in
     let (narrow, room) = print-asks _ _ (start .pre .3 .1) (c .before .before .action8 .given .1) in
     (narrow, omega arith)
 
@@ -139,11 +139,11 @@ enum-known-action-9 c = search needs
 
 mul-entries : tie.Need-mul-entries
 mul-entries c =
-    let start = c .before .before .before .before .before .before in
+    let start = c .before .before .before .before .before .before .before .before in
     let h = save-asks _ _ (start .pre .3 .1) (c .before .action9 .given .1) in search needs
 
 element-write-entries : tie.Need-element-write-entries
-element-write-entries c = save-asks _ _ (c .before .before .before .before .before .before .pre .3 .1) (c .before .action9 .given .1)
+element-write-entries c = save-asks _ _ (c .before .before .before .before .before .before .before .before .pre .3 .1) (c .before .action9 .given .1)
 
 enum-known-action-10 : tie.Need-enum-known-action-10
 enum-known-action-10 c = search needs
@@ -151,7 +151,7 @@ enum-known-action-10 c = search needs
 store-requires-9 : tie.Need-store-requires-9
 store-requires-9 c κs =
     let at-action10 = c .before .before .before in
-    let start = at-action10 .before .before .before .before .before in
+    let start = at-action10 .before .before .before .before .before .before .before in
     (start .pre .0, restore-asks _ _ (start .pre .3 .1) (at-action10 .action10 .given .1) .0)
 
 same-length : tie.Need-same-length

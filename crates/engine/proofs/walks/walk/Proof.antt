@@ -27,7 +27,7 @@ use Rattle.machine.specs.Sound.{lends}
 use Rattle.engine.proofs.First.{first-goes, first-stops}
 use Rattle.engine.proofs.Turns.{Going}
 use Rattle.engine.proofs.Now.{started, starts, ready-now, refused-now, feasible-now, countable-now, counted-now}
-use Rattle.engine.proofs.Now.{reportable-now, ended-now, next-now}
+use Rattle.engine.proofs.Now.{reportable-now, ended-now, next-now, with-core}
 use borrow.Author.Needs.{needs}
 use Rattle.engine.proofs.walks.walk.Statement.{statement}
 use Rattle.engine.proofs.walks.walk.Tie as tie
@@ -138,8 +138,8 @@ loop-holds c =
 add-count : tie.Need-add-count Inv-loop μ-loop
 add-count c = let few = c .loop .inv .3 .few in omega arith
 
-cast-plan-step : tie.Need-cast-plan-step Inv-loop μ-loop
-cast-plan-step c = search needs
+cast-t51 : tie.Need-cast-t51 Inv-loop μ-loop
+cast-t51 c = search needs
 
 slice-aggregate-plan-step : tie.Need-slice-aggregate-plan-step Inv-loop μ-loop
 slice-aggregate-plan-step c = search needs
@@ -161,25 +161,30 @@ enum-known-planned c = search needs
 no-report-requires : tie.Need-no-report-requires Inv-loop μ-loop
 no-report-requires c κs = search needs
 
+core-of-requires : tie.Need-core-of-requires Inv-loop μ-loop
+core-of-requires c κs = search needs
+
 ended-requires : tie.Need-ended-requires Inv-loop μ-loop
 ended-requires c κs = search needs
 
 same-length : tie.Need-same-length Inv-loop μ-loop
-same-length c = c .before .before .before .before .before .before .before .before .before .before .before .loop .inv .0
+same-length c = c .before .before .before .before .before .before .before .before .before .before .before .before .loop .inv .0
 
 same-length-2 : tie.Need-same-length-2 Inv-loop μ-loop
-same-length-2 c = c .before .before .before .before .before .before .before .before .before .before .before .loop .inv .1
+same-length-2 c = c .before .before .before .before .before .before .before .before .before .before .before .before .loop .inv .1
 
 returns-2 : tie.Need-returns-2 Inv-loop μ-loop
 returns-2 c =
     let at-no-report = c .before in
-    let at-planned = at-no-report .before .before in
+    let at-core-of = at-no-report .before in
+    let at-planned = at-core-of .before .before in
     let at-plan-step = at-planned .before .before in
     let turn = at-plan-step .before .before .before .before .before .before in
     let at-counts-of = turn .before .before .before .before in
     let at-state = at-counts-of .before .before .before .before .before .before .before .before .before .before .before .before .before in
     let ready = judged (at-state) in refused-now _ _ _ _ _ _ _ _ _ _ _ _ _ _ _ _ (turn .loop .inv .3) (turn .loop .inv .4) (ready .wide) (ready .fits)
-    (at-plan-step .plan-step .ensures) (at-planned .planned .given .1) (at-no-report .no-report .ensures) (c .ended .ensures) ∙ started _ _ _ _ _ _ _
+    (at-plan-step .plan-step .ensures) (at-planned .planned .given .1) (at-no-report .no-report .ensures) (c .ended .ensures
+    ∙ with-core (at-core-of .core-of .ensures)) ∙ started _ _ _ _ _ _ _
     _ refl (at-counts-of .counts-of .ensures)
 
 enum-known-planned-2 : tie.Need-enum-known-planned-2 Inv-loop μ-loop
@@ -194,12 +199,6 @@ go-on-requires c κs =
     .before .before in
     let ready = judged (at-state) in counted-now _ _ _ _ _ _ _ _ _ _ _ _ _ _ _ _ (turn .loop .inv .3) (turn .loop .inv .4) (ready .wide) (ready .fits)
     (at-plan-step .plan-step .ensures) (at-planned2 .planned2 .given .1) (turn .loop .inv .2)
-
-cast-carry-out : tie.Need-cast-carry-out Inv-loop μ-loop
-cast-carry-out c =
-    let at-state = c .before .before .before .before .before .before .before .before .before .before .before .before .before .before .before .before
-    .before .before .before .before .before .before .before .before .before .before .before in
-    let range = width-range _ (judged (at-state) .wide) in omega (arith, range .1)
 
 slice-aggregate-carry-out : tie.Need-slice-aggregate-carry-out Inv-loop μ-loop
 slice-aggregate-carry-out c = search needs
@@ -349,32 +348,34 @@ enum-told-2 c = search needs
 
 returned-requires : tie.Need-returned-requires Inv-loop μ-loop
 returned-requires c κs =
-    let at-state = c .before .before .before .before .before .before .before .before .before .before .before .before .before .before .before .before
-    in
-    return-room (countable (at-state)) (c .enum-told2 .given .1)
+    let at-planned2 = c .before .before .before .before .before .before .before .before .before .before .before .before .before .before .before .before in
+    return-room (countable (at-planned2)) (c .enum-told2 .given .1)
 
 answer-at-requires : tie.Need-answer-at-requires Inv-loop μ-loop
 answer-at-requires c κs = search needs
 
 report-of-requires : tie.Need-report-of-requires Inv-loop μ-loop
 report-of-requires c κs =
-    let at-state = c .before .before .before .before .before in
+    let at-state = c .before .before .before .before .before .before in
     let at-state2 = at-state .before .before .before .before .before .before .before .before .before .before .before .before .before .before in
     subst Reportable (sym (turn-of (at-state) .same)) (reportable (at-state2))
+
+core-of-requires-2 : tie.Need-core-of-requires-2 Inv-loop μ-loop
+core-of-requires-2 c κs = search needs
 
 ended-requires-2 : tie.Need-ended-requires-2 Inv-loop μ-loop
 ended-requires-2 c κs = search needs
 
 same-length-3 : tie.Need-same-length-3 Inv-loop μ-loop
 same-length-3 c =
-    let at-storage = c .before .before .before .before .before .before .before .before .before .before .before in
+    let at-storage = c .before .before .before .before .before .before .before .before .before .before .before .before in
     let turn = at-storage .before .before .before .before .before .before .before .before .before .before .before .before .before .before .before
     .before .before .before in
     at-storage .storage .given ∙ turn .loop .inv .0
 
 same-length-4 : tie.Need-same-length-4 Inv-loop μ-loop
 same-length-4 c =
-    let at-output = c .before .before .before .before .before .before .before .before .before in
+    let at-output = c .before .before .before .before .before .before .before .before .before .before in
     let turn = at-output .before .before .before .before .before .before .before .before .before .before .before .before .before .before .before
     .before .before .before .before .before in
     at-output .output .given ∙ turn .loop .inv .1
@@ -383,7 +384,8 @@ returns-3 : tie.Need-returns-3 Inv-loop μ-loop
 returns-3 c =
     let at-report-of = c .before in
     let at-answer-at = at-report-of .before in
-    let at-if2 = at-answer-at .before in
+    let at-core-of = at-answer-at .before in
+    let at-if2 = at-core-of .before in
     let at-state = at-if2 .before .before .before .before in
     let at-carry-out = at-state .before .before .before .before .before .before in
     let at-go-on = at-carry-out .before .before .before .before .before .before in
@@ -394,7 +396,8 @@ returns-3 c =
     let at-state2 = at-counts-of .before .before .before .before .before .before .before .before .before .before .before .before .before in
     let ready = judged (at-state2) in ended-now _ _ _ _ _ _ _ _ _ _ _ _ _ _ _ _ (turn .loop .inv .3) (turn .loop .inv .4) (ready .wide) (ready .fits)
     (at-plan-step .plan-step .ensures) (at-planned2 .planned2 .given .1) (turn .loop .inv .2) (turn-of (at-state)) (at-carry-out .carry-out .ensures)
-    (at-go-on .go-on .ensures) (at-if2 .if2 .taken) (at-answer-at .answer-at .ensures) (at-report-of .report-of .ensures) (c .ended2 .ensures) ∙
+    (at-go-on .go-on .ensures) (at-if2 .if2 .taken) (at-answer-at .answer-at .ensures) (at-report-of .report-of .ensures) (c .ended2 .ensures
+    ∙ with-core (at-core-of .core-of2 .ensures)) ∙
     started _ _ _ _ _ _ _ _ refl (at-counts-of .counts-of .ensures)
 
 loop-less : tie.Need-loop-less Inv-loop μ-loop
@@ -440,10 +443,11 @@ walk-spec =
     pack-all-requires
     loop-holds
     add-count
-    cast-plan-step
+    cast-t51
     slice-aggregate-plan-step
     plan-step-requires
     enum-known-planned
+    core-of-requires
     no-report-requires
     ended-requires
     same-length
@@ -451,7 +455,6 @@ walk-spec =
     returns-2
     enum-known-planned-2
     go-on-requires
-    cast-carry-out
     slice-aggregate-carry-out
     carry-out-requires
     enum-known-action
@@ -483,6 +486,7 @@ walk-spec =
     tests-of-requires
     enum-told-2
     returned-requires
+    core-of-requires-2
     answer-at-requires
     report-of-requires
     ended-requires-2

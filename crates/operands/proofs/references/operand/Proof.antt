@@ -19,11 +19,11 @@ bug-before-requires c κs =
     let start = at-if .before .before .before .before in
     (start .pre .1 .reference (at-if .if1 .left), no-field _ (start .pre .1 .reference (at-if .if1 .left)) (c .if2 .taken))
 
-mul-t15 : tie.Need-mul-t15
-mul-t15 c = search needs
+mul-t19 : tie.Need-mul-t19
+mul-t19 c = search needs
 
-element-copy-out-t18 : tie.Need-element-copy-out-t18
-element-copy-out-t18 c = c .bug-before .ensures .1
+element-copy-out-t22 : tie.Need-element-copy-out-t22
+element-copy-out-t22 c = c .bug-before .ensures .1
 
 returns-2 : tie.Need-returns-2
 unfolding contentsOf widthOf
@@ -72,8 +72,8 @@ operand-spec =
     (tie.spec
     returns
     bug-before-requires
-    mul-t15
-    element-copy-out-t18
+    mul-t19
+    element-copy-out-t22
     returns-2
     follow-requires
     enum-known-answer

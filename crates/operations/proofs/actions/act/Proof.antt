@@ -10,32 +10,32 @@ use Rattle.operations.proofs.actions.act.Tie as tie
 
 get-requires : tie.Need-get-requires
 get-requires c κs =
-    let start = c .before .before .before .before in
+    let start = c .before .before .before .before .before .before .before in
     (start .pre .0, start .pre .2, start .pre .6, start .pre .7)
 
 free-requires : tie.Need-free-requires
 free-requires c κs =
-    let start = c .before .before .before .before in
+    let start = c .before .before .before .before .before .before .before in
     (start .pre .0 .whole, start .pre .0 .kept)
 
 duplicate-requires : tie.Need-duplicate-requires
 duplicate-requires c κs =
-    let start = c .before .before .before .before in
+    let start = c .before .before .before .before .before .before .before in
     (start .pre .0 .whole, start .pre .0 .kept)
 
 take-requires : tie.Need-take-requires
 take-requires c κs =
-    let start = c .before .before .before .before in
+    let start = c .before .before .before .before .before .before .before in
     (start .pre .0 .width, start .pre .1)
 
 width-of-requires : tie.Need-width-of-requires
 width-of-requires c κs =
-    let start = c .before .before .before .before in
+    let start = c .before .before .before .before .before .before .before in
     reached-narrow _ _ _ _ (start .pre .0 .width) (start .pre .2)
 
 make-requires : tie.Need-make-requires
 make-requires c κs =
-    let start = c .before .before .before .before .before in
+    let start = c .before .before .before .before .before .before .before .before in
     let r = c .before .match .rest in (
       start .pre .0 .width,
       rw (start .pre .7) (contents-small _ _ (start .pre .0) _ (start .pre .2)),
@@ -46,24 +46,24 @@ make-requires c κs =
     )
 
 returns : tie.Need-returns
-returns c = follows _ (act-get _ _ _ _ _ _ _ _ (c .before .match .keys1)) (c .get .ensures)
+returns c = follows (act-get _ _ _ _ _ _ _ _ (c .before .match .keys1)) (c .get .ensures)
 
 returns-2 : tie.Need-returns-2
 returns-2 c =
-    let start = c .before .before .before .before .before in
-    follows _ (act-free _ _ _ _ _ _ _ _ (c .before .match .keys2) (start .pre .7)) (c .free .ensures)
+    let start = c .before .before .before .before .before .before .before .before in
+    follows (act-free _ _ _ _ _ _ _ _ (c .before .match .keys2) (start .pre .7)) (c .free .ensures)
 
 returns-3 : tie.Need-returns-3
-returns-3 c = follows _ (act-copy _ _ _ _ _ _ _ _ (c .before .match .keys3)) (c .duplicate .ensures)
+returns-3 c = follows (act-copy _ _ _ _ _ _ _ _ (c .before .match .keys3)) (c .duplicate .ensures)
 
 returns-4 : tie.Need-returns-4
-returns-4 c = follows _ (act-take _ _ _ _ _ _ _ _ (c .before .match .keys4)) (c .take .ensures)
+returns-4 c = follows (act-take _ _ _ _ _ _ _ _ (c .before .match .keys4)) (c .take .ensures)
 
 returns-5 : tie.Need-returns-5
 returns-5 c =
-    let start = c .before .before .before .before .before .before in
+    let start = c .before .before .before .before .before .before .before .before .before in
     let r = c .before .before .match .rest in
-    follows _ (act-make _ _ _ _ _ _ _ _ (r .0 .0 .0 .1) (r .0 .0 .1) (r .0 .1) (r .1) (start .pre .7) (c .before .width-of .ensures)) (c .make .ensures)
+    follows (act-make _ _ _ _ _ _ _ _ (r .0 .0 .0 .1) (r .0 .0 .1) (r .0 .1) (r .1) (start .pre .7) (c .before .width-of .ensures)) (c .make .ensures)
 
 pub act-spec : {M : Type 1} → statement M
 act-spec =

@@ -12,37 +12,37 @@ use Rattle.operations.proofs.actions.define.Tie as tie
 
 returns : tie.Need-returns
 unfolding defining inRange
-returns c = stops _ (need-no _ _ _ (not-true _ (c .if1 .taken)))
+returns c = stops (need-no _ _ _ (not-true _ (c .if1 .taken)))
 
-cast-t15 : tie.Need-cast-t15
-cast-t15 c = search needs
+cast-t14 : tie.Need-cast-t14
+cast-t14 c = search needs
 
-cast-t15-2 : tie.Need-cast-t15-2
-cast-t15-2 c =
+cast-t14-2 : tie.Need-cast-t14-2
+cast-t14-2 c =
     let fits = in-range (c .before .args .b) (c .before .args .word) (c .before .args .left) (c .before .args .right) (not-false _ (c .if1 .left)) in
     omega (arith, fits .0)
 
-cast-t16 : tie.Need-cast-t16
-cast-t16 c =
+cast-t15 : tie.Need-cast-t15
+cast-t15 c =
     let fits = in-range (c .before .args .b) (c .before .args .word) (c .before .args .left) (c .before .args .right) (not-false _ (c .if1 .left)) in
     omega (arith, fits .1, c .before .pre .0)
 
-cast-t17 : tie.Need-cast-t17
-cast-t17 c =
+cast-t16 : tie.Need-cast-t16
+cast-t16 c =
     let fits = in-range (c .before .args .b) (c .before .args .word) (c .before .args .left) (c .before .args .right) (not-false _ (c .if1 .left)) in
     omega (arith, fits .2, c .before .pre .0)
 
 returns-2 : tie.Need-returns-2
 unfolding defining inRange
-returns-2 c = does _ (need-yes _ _ _ (not-false _ (c .if1 .left)))
+returns-2 c = does (need-yes _ _ _ (not-false _ (c .if1 .left)))
 
 pub define-spec : {M : Type 1} → statement M
 define-spec =
     tie.close
     (tie.spec
     returns
+    cast-t14
+    cast-t14-2
     cast-t15
-    cast-t15-2
     cast-t16
-    cast-t17
     returns-2)

@@ -15,10 +15,10 @@ enum-known-made-2 : tie.Need-enum-known-made-2
 enum-known-made-2 c = search needs
 
 returns : tie.Need-returns
-returns c = does _ (store-made _ _ (c .before .before .before .compute .ensures) (c .before .made .given .1))
+returns c = does (store-made _ _ (c .before .before .before .compute .ensures) (c .before .made .given .1))
 
 returns-2 : tie.Need-returns-2
-returns-2 c = stops _ (store-stopped _ _ (c .before .before .before .compute .ensures) (c .before .made2 .given .1))
+returns-2 c = stops (store-stopped _ _ (c .before .before .before .compute .ensures) (c .before .made2 .given .1))
 
 pub make-spec : {M : Type 1} → statement M
 make-spec =

@@ -13,7 +13,7 @@ use Rattle.operations.proofs.actions.plan_contents.Tie as tie
 
 locate-requires : tie.Need-locate-requires
 locate-requires c κs =
-    let start = c .before .before .before in
+    let start = c .before .before .before .before .before in
     (start .pre .0, start .pre .2)
 
 enum-known-found : tie.Need-enum-known-found
@@ -24,26 +24,26 @@ enum-known-found-2 c = search needs
 
 returns : tie.Need-returns
 unfolding contentsPlan
-returns c = stops _ (bind-no _ _ (stopped-is _ _ (c .before .before .before .locate .ensures) (c .before .found2 .given .1)))
+returns c = stops (bind-no _ _ (stopped-is _ _ (c .before .before .before .locate .ensures) (c .before .found2 .given .1)))
 
 returns-2 : tie.Need-returns-2
 returns-2 c =
     let at-found = c .before .before .before .before in
     let at-locate = at-found .before .before in
-    stops _ (save-full _ _ _ _ _ (at-is _ _ (at-locate .locate .ensures) (at-found .found .given .1)) (c .before .if1 .taken) (c .if2 .taken))
+    stops (save-full _ _ _ _ _ (at-is _ _ (at-locate .locate .ensures) (at-found .found .given .1)) (c .before .if1 .taken) (c .if2 .taken))
 
 returns-3 : tie.Need-returns-3
 returns-3 c =
     let at-found = c .before .before .before .before in
     let at-locate = at-found .before .before in
-    does _ (save-done _ _ _ _ _ (at-is _ _ (at-locate .locate .ensures) (at-found .found .given .1)) (c .before .if1 .taken) (c .if2 .left)
+    does (save-done _ _ _ _ _ (at-is _ _ (at-locate .locate .ensures) (at-found .found .given .1)) (c .before .if1 .taken) (c .if2 .left)
     (holds-is _ _ (at-locate .locate .ensures) (at-found .found .given .1)))
 
 returns-4 : tie.Need-returns-4
 returns-4 c =
     let at-found = c .before .before .before .before in
     let at-locate = at-found .before .before in
-    stops _ (restore-empty _ _ _ _ _ (at-is _ _ (at-locate .locate .ensures) (at-found .found .given .1)) (c .before .if1 .left) (c .if3 .taken))
+    stops (restore-empty _ _ _ _ _ (at-is _ _ (at-locate .locate .ensures) (at-found .found .given .1)) (c .before .if1 .left) (c .if3 .taken))
 
 sub-i : tie.Need-sub-i
 sub-i c = search needs
@@ -58,7 +58,7 @@ returns-5 : tie.Need-returns-5
 returns-5 c =
     let at-found = c .before .before .before .before .before in
     let at-locate = at-found .before .before in
-    does _ (restore-done _ _ _ _ _ (at-is _ _ (at-locate .locate .ensures) (at-found .found .given .1)) (c .before .before .if1 .left) (c .before .if3 .left))
+    does (restore-done _ _ _ _ _ (at-is _ _ (at-locate .locate .ensures) (at-found .found .given .1)) (c .before .before .if1 .left) (c .before .if3 .left))
 
 pub plan-contents-spec : {M : Type 1} → statement M
 plan-contents-spec =

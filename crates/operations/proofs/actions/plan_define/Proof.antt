@@ -21,7 +21,7 @@ enum-known-x-2 c = search needs
 
 returns : tie.Need-returns
 unfolding definePlan
-returns c = stops _ (bind-no _ _ (no-value-is _ (c .before .before .before .operand .ensures) (c .before .x2 .given .1)))
+returns c = stops (bind-no _ _ (no-value-is _ (c .before .before .before .operand .ensures) (c .before .x2 .given .1)))
 
 operand-requires-2 : tie.Need-operand-requires-2
 operand-requires-2 c κs =
@@ -40,7 +40,7 @@ returns-2 c =
     let at-operand = c .before .before .before in
     let at-x = at-operand .before .before in
     let at-operand-2 = at-x .before .before in
-    stops _ (bind-yes _ _ (value-is _ (at-operand-2 .operand .ensures) (at-x .x .given .1))
+    stops (bind-yes _ _ (value-is _ (at-operand-2 .operand .ensures) (at-x .x .given .1))
     ∙ bind-no _ _ (no-value-is _ (at-operand .operand2 .ensures) (c .before .y2 .given .1)))
 
 operand-requires-3 : tie.Need-operand-requires-3
@@ -67,7 +67,7 @@ returns-3 c =
     let at-operand2 = at-y .before .before in
     let at-x = at-operand2 .before .before in
     let at-operand = at-x .before .before in
-    follows _ (bind-yes _ _ (value-is _ (at-operand .operand .ensures) (at-x .x .given .1))
+    follows (bind-yes _ _ (value-is _ (at-operand .operand .ensures) (at-x .x .given .1))
     ∙ bind-yes _ _ (value-is _ (at-operand2 .operand2 .ensures) (at-y .y .given .1))
     ∙ bind-yes _ _ (value-is _ (at-operand3 .operand3 .ensures) (c .before .before .z .given .1))) (c .define .ensures)
 
@@ -79,7 +79,7 @@ returns-4 c =
     let at-operand2 = at-y .before .before in
     let at-x = at-operand2 .before .before in
     let at-operand = at-x .before .before in
-    stops _ (bind-yes _ _ (value-is _ (at-operand .operand .ensures) (at-x .x .given .1))
+    stops (bind-yes _ _ (value-is _ (at-operand .operand .ensures) (at-x .x .given .1))
     ∙ bind-yes _ _ (value-is _ (at-operand2 .operand2 .ensures) (at-y .y .given .1))
     ∙ bind-no _ _ (no-value-is _ (at-operand3 .operand3 .ensures) (c .before .z2 .given .1)))
 

@@ -10,7 +10,7 @@ use Rattle.operations.proofs.actions.plan_print.Tie as tie
 
 operand-requires : tie.Need-operand-requires
 operand-requires c κs =
-    let start = c .before .before .before .before in
+    let start = c .before .before .before .before .before .before in
     (start .pre .0, start .pre .2)
 
 enum-known-x : tie.Need-enum-known-x
@@ -21,18 +21,18 @@ enum-known-x-2 c = search needs
 
 returns : tie.Need-returns
 unfolding printPlan
-returns c = stops _ (bind-no _ _ (no-value-is _ (c .before .before .before .operand .ensures) (c .before .x2 .given .1)))
+returns c = stops (bind-no _ _ (no-value-is _ (c .before .before .before .operand .ensures) (c .before .x2 .given .1)))
 
 operand-requires-2 : tie.Need-operand-requires-2
 operand-requires-2 c κs =
-    let start = c .before .before .before .before .before .before .before .before in
+    let start = c .before .before .before .before .before .before .before .before .before .before in
     (start .pre .0, start .pre .3)
 
 enum-known-y : tie.Need-enum-known-y
 enum-known-y c = search needs
 
 print-requires : tie.Need-print-requires
-print-requires c κs = c .before .before .before .before .before .before .before .before .before .before .before .before .pre .1
+print-requires c κs = c .before .before .before .before .before .before .before .before .before .before .before .before .before .before .pre .1
 
 enum-known-y-2 : tie.Need-enum-known-y-2
 enum-known-y-2 c = search needs
@@ -43,7 +43,7 @@ returns-2 c =
     let at-operand2 = c .before .before .before .before in
     let at-x = at-operand2 .before .before in
     let at-operand = at-x .before .before in
-    follows _ (bind-yes _ _ (value-is _ (at-operand .operand .ensures) (at-x .x .given .1))
+    follows (bind-yes _ _ (value-is _ (at-operand .operand .ensures) (at-x .x .given .1))
     ∙ bind-yes _ _ (value-is _ (at-operand2 .operand2 .ensures) (c .before .before .y .given .1))) (c .print .ensures)
 
 returns-3 : tie.Need-returns-3
@@ -52,7 +52,7 @@ returns-3 c =
     let at-operand = c .before .before .before in
     let at-x = at-operand .before .before in
     let at-operand-2 = at-x .before .before in
-    stops _ (bind-yes _ _ (value-is _ (at-operand-2 .operand .ensures) (at-x .x .given .1))
+    stops (bind-yes _ _ (value-is _ (at-operand-2 .operand .ensures) (at-x .x .given .1))
     ∙ bind-no _ _ (no-value-is _ (at-operand .operand2 .ensures) (c .before .y2 .given .1)))
 
 pub plan-print-spec : {M : Type 1} → statement M

@@ -7,32 +7,32 @@ use borrow.Author.Needs.{needs}
 use Rattle.operations.proofs.actions.plan_records.Statement.{statement}
 use Rattle.operations.proofs.actions.plan_records.Tie as tie
 
-cast-t7 : tie.Need-cast-t7
-cast-t7 c = search needs
+cast-t6 : tie.Need-cast-t6
+cast-t6 c = search needs
 
 returns : tie.Need-returns
-returns c = stops _ (save-definition-full _ _ _ (c .before .if1 .taken) (c .if2 .taken))
+returns c = stops (save-definition-full _ _ _ (c .before .if1 .taken) (c .if2 .taken))
 
 returns-2 : tie.Need-returns-2
-returns-2 c = does _ (save-definition _ _ _ (c .before .if1 .taken) (c .if2 .left))
+returns-2 c = does (save-definition _ _ _ (c .before .if1 .taken) (c .if2 .left))
 
 returns-3 : tie.Need-returns-3
-returns-3 c = stops _ (restore-definition-empty _ _ _ (c .before .before .if1 .left) (c .before .if3 .taken) (c .if4 .taken))
+returns-3 c = stops (restore-definition-empty _ _ _ (c .before .before .if1 .left) (c .before .if3 .taken) (c .if4 .taken))
 
 returns-4 : tie.Need-returns-4
-returns-4 c = does _ (restore-definition _ _ _ (c .before .before .if1 .left) (c .before .if3 .taken) (c .if4 .left))
+returns-4 c = does (restore-definition _ _ _ (c .before .before .if1 .left) (c .before .if3 .taken) (c .if4 .left))
 
 returns-5 : tie.Need-returns-5
-returns-5 c = stops _ (call-full _ _ _ (c .before .before .if1 .left) (c .before .if3 .left) (c .if5 .taken))
+returns-5 c = stops (call-full _ _ _ (c .before .before .if1 .left) (c .before .if3 .left) (c .if5 .taken))
 
 returns-6 : tie.Need-returns-6
-returns-6 c = does _ (call _ _ _ (c .before .before .if1 .left) (c .before .if3 .left) (c .if5 .left))
+returns-6 c = does (call _ _ _ (c .before .before .if1 .left) (c .before .if3 .left) (c .if5 .left))
 
 pub plan-records-spec : {M : Type 1} → statement M
 plan-records-spec =
     tie.close
     (tie.spec
-    cast-t7
+    cast-t6
     returns
     returns-2
     returns-3

@@ -1,7 +1,6 @@
 -- `operations::actions::plan_set_up` meets its contract: numbers that fit are small. Assumes nothing.
 use native.Mathlib.Omega.{arith}
-use mathlib.Core.Path.{_∙_, sym}
-use borrow.Author.Tests.{not-true, not-false}
+use Rattle.word.proofs.Tests.{known-false, known-true}
 use Rattle.machine.specs.Operations.{asked}
 use Rattle.machine.proofs.Checks.{need-yes, need-no}
 use Rattle.operations.specs.Plans.{setUpPlan}
@@ -16,26 +15,26 @@ fits-requires c κs = search needs
 
 returns : tie.Need-returns
 unfolding setUpPlan asked
-returns c = stops _ (need-no _ _ _ (sym (c .before .fits2 .ensures) ∙ not-true _ (c .if1 .taken)))
+returns c = stops (need-no _ _ _ (known-false (c .before .fits2 .ensures) (c .if1 .taken)))
+
+cast-t10 : tie.Need-cast-t10
+cast-t10 c =
+    let small = numbers-small _ _ (known-true (c .before .fits2 .ensures) (c .if1 .left)) in
+    omega (arith, small .0)
 
 cast-t11 : tie.Need-cast-t11
 cast-t11 c =
-    let small = numbers-small _ _ (sym (c .before .fits2 .ensures) ∙ not-false _ (c .if1 .left)) in
-    omega (arith, small .0)
+    let small = numbers-small _ _ (known-true (c .before .fits2 .ensures) (c .if1 .left)) in
+    omega (arith, small .1)
 
 cast-t12 : tie.Need-cast-t12
 cast-t12 c =
-    let small = numbers-small _ _ (sym (c .before .fits2 .ensures) ∙ not-false _ (c .if1 .left)) in
-    omega (arith, small .1)
-
-cast-t13 : tie.Need-cast-t13
-cast-t13 c =
-    let small = numbers-small _ _ (sym (c .before .fits2 .ensures) ∙ not-false _ (c .if1 .left)) in
+    let small = numbers-small _ _ (known-true (c .before .fits2 .ensures) (c .if1 .left)) in
     omega (arith, small .2)
 
 returns-2 : tie.Need-returns-2
 unfolding setUpPlan asked
-returns-2 c = does _ (need-yes _ _ _ (sym (c .before .fits2 .ensures) ∙ not-false _ (c .if1 .left)))
+returns-2 c = does (need-yes _ _ _ (known-true (c .before .fits2 .ensures) (c .if1 .left)))
 
 pub plan-set-up-spec : {M : Type 1} → statement M
 plan-set-up-spec =
@@ -43,7 +42,7 @@ plan-set-up-spec =
     (tie.spec
     fits-requires
     returns
+    cast-t10
     cast-t11
     cast-t12
-    cast-t13
     returns-2)

@@ -23,7 +23,7 @@ enum-known-found-2 c = search needs
 
 returns : tie.Need-returns
 unfolding swapPlan
-returns c = stops _ (bind-no _ _ (stopped-is _ _ (c .before .before .before .locate .ensures) (c .before .found2 .given .1)))
+returns c = stops (bind-no _ _ (stopped-is _ _ (c .before .before .before .locate .ensures) (c .before .found2 .given .1)))
 
 locate-requires-2 : tie.Need-locate-requires-2
 locate-requires-2 c κs =
@@ -42,7 +42,7 @@ returns-2 c =
     let at-locate = c .before .before .before in
     let at-found = at-locate .before .before in
     let at-locate-2 = at-found .before .before in
-    stops _ (bind-yes _ _ (at-is _ _ (at-locate-2 .locate .ensures) (at-found .found .given .1))
+    stops (bind-yes _ _ (at-is _ _ (at-locate-2 .locate .ensures) (at-found .found .given .1))
     ∙ bind-no _ _ (stopped-is _ _ (at-locate .locate2 .ensures) (c .before .other2 .given .1)))
 
 returns-3 : tie.Need-returns-3
@@ -50,7 +50,7 @@ returns-3 c =
     let at-locate = c .before .before .before in
     let at-found = at-locate .before .before in
     let at-locate-2 = at-found .before .before in
-    does _ (swaps _ _ _ (at-is _ _ (at-locate-2 .locate .ensures) (at-found .found .given .1))
+    does (swaps _ _ _ (at-is _ _ (at-locate-2 .locate .ensures) (at-found .found .given .1))
     (at-is _ _ (at-locate .locate2 .ensures) (c .before .other .given .1))
     (holds-is _ _ (at-locate .locate2 .ensures) (c .before .other .given .1)) (holds-is _ _ (at-locate-2 .locate .ensures) (at-found .found .given .1)))
 

@@ -23,7 +23,7 @@ enum-known-found-2 c = search needs
 
 returns : tie.Need-returns
 unfolding twoPlan
-returns c = stops _ (bind-no _ _ (stopped-is _ _ (c .before .before .before .locate .ensures) (c .before .found2 .given .1)))
+returns c = stops (bind-no _ _ (stopped-is _ _ (c .before .before .before .locate .ensures) (c .before .found2 .given .1)))
 
 operand-requires : tie.Need-operand-requires
 operand-requires c κs =
@@ -60,7 +60,7 @@ returns-2 c =
     let at-operand = c .before .before .before .before in
     let at-found = at-operand .before .before in
     let at-locate = at-found .before .before in
-    follows _ (bind-yes _ _ (at-is _ _ (at-locate .locate .ensures) (at-found .found .given .1))
+    follows (bind-yes _ _ (at-is _ _ (at-locate .locate .ensures) (at-found .found .given .1))
     ∙ bind-yes _ _ (value-is _ (at-operand .operand .ensures) (c .before .before .got .given .1))) (c .act .ensures)
 
 returns-3 : tie.Need-returns-3
@@ -69,7 +69,7 @@ returns-3 c =
     let at-operand = c .before .before .before in
     let at-found = at-operand .before .before in
     let at-locate = at-found .before .before in
-    stops _ (bind-yes _ _ (at-is _ _ (at-locate .locate .ensures) (at-found .found .given .1))
+    stops (bind-yes _ _ (at-is _ _ (at-locate .locate .ensures) (at-found .found .given .1))
     ∙ bind-no _ _ (no-value-is _ (at-operand .operand .ensures) (c .before .got2 .given .1)))
 
 pub plan-two-spec : {M : Type 1} → statement M

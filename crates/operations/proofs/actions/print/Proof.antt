@@ -7,7 +7,7 @@ use Rattle.operations.proofs.actions.print.Statement.{statement}
 use Rattle.operations.proofs.actions.print.Tie as tie
 
 returns : tie.Need-returns
-returns c = stops _ (print-many _ _ _ _ (c .if1 .taken))
+returns c = stops (print-many _ _ _ _ (c .if1 .taken))
 
 sub-if2 : tie.Need-sub-if2
 sub-if2 c = search needs
@@ -16,13 +16,13 @@ returns-2 : tie.Need-returns-2
 returns-2 c =
     let room = c .before .before .pre in
     let full = c .if2 .taken in
-    stops _ (print-full _ _ _ _ (c .before .if1 .left) (omega arith))
+    stops (print-full _ _ _ _ (c .before .if1 .left) (omega arith))
 
 returns-3 : tie.Need-returns-3
 returns-3 c =
     let room = c .before .before .pre in
     let there = c .if2 .left in
-    does _ (print-done _ _ _ _ (c .before .if1 .left) (omega arith))
+    does (print-done _ _ _ _ (c .before .if1 .left) (omega arith))
 
 pub print-spec : {M : Type 1} → statement M
 print-spec =

@@ -7,7 +7,7 @@ use Rattle.operations.proofs.actions.take.Statement.{statement}
 use Rattle.operations.proofs.actions.take.Tie as tie
 
 returns : tie.Need-returns
-returns c = stops _ (take-many _ _ _ _ _ (c .if1 .taken))
+returns c = stops (take-many _ _ _ _ _ (c .if1 .taken))
 
 line-ends-requires : tie.Need-line-ends-requires
 line-ends-requires c κs = let few = c .before .if1 .left in omega (arith, c .before .before .before .pre .0)
@@ -15,7 +15,7 @@ line-ends-requires c κs = let few = c .before .if1 .left in omega (arith, c .be
 returns-2 : tie.Need-returns-2
 returns-2 c =
     let start = c .before .before .before .before in
-    does _ (take-none _ _ _ _ _ (c .before .before .if1 .left) (c .before .if2 .taken) (start .pre .1) (c .line-ends .ensures))
+    does (take-none _ _ _ _ _ (c .before .before .if1 .left) (c .before .if2 .taken) (start .pre .1) (c .line-ends .ensures))
 
 sub-if3 : tie.Need-sub-if3
 sub-if3 c = search needs
@@ -24,7 +24,7 @@ returns-3 : tie.Need-returns-3
 returns-3 c =
     let room = c .before .before .before .before .pre .1 in
     let short = c .if3 .taken in
-    stops _ (take-short _ _ _ _ _ (c .before .before .if1 .left) (c .before .if2 .left) (omega arith))
+    stops (take-short _ _ _ _ _ (c .before .before .if1 .left) (c .before .if2 .left) (omega arith))
 
 pack-input-requires : tie.Need-pack-input-requires
 pack-input-requires c κs =
@@ -47,7 +47,7 @@ returns-4 c =
     let at-if-2 = at-if .before in
     let room = at-if-2 .before .before .pre .1 in
     let there = at-pack-input .before .if3 .left in
-    does _ (take-value _ _ _ _ _ (at-if-2 .if1 .left) (at-if .if2 .left) (omega arith) (at-pack-input .pack-input .ensures) (c .before .packed .given .1))
+    does (take-value _ _ _ _ _ (at-if-2 .if1 .left) (at-if .if2 .left) (omega arith) (at-pack-input .pack-input .ensures) (c .before .packed .given .1))
 
 returns-5 : tie.Need-returns-5
 returns-5 c =
@@ -55,7 +55,7 @@ returns-5 c =
     let at-if-2 = at-if .before in
     let room = at-if-2 .before .before .pre .1 in
     let there = c .before .before .before .if3 .left in
-    stops _ (take-byte _ _ _ _ _ (at-if-2 .if1 .left) (at-if .if2 .left) (omega arith) (c .before .before .pack-input .ensures) (c .enum-told .given .1))
+    stops (take-byte _ _ _ _ _ (at-if-2 .if1 .left) (at-if .if2 .left) (omega arith) (c .before .before .pack-input .ensures) (c .enum-told .given .1))
 
 pub take-spec : {M : Type 1} → statement M
 take-spec =

@@ -7,16 +7,16 @@ use Rattle.operations.proofs.blocks.deliver.Statement.{statement}
 use Rattle.operations.proofs.blocks.deliver.Tie as tie
 
 returns : tie.Need-returns
-returns c = does _ (delivers-one _ _ _ _ _ _ (c .if1 .taken))
+returns c = does (delivers-one _ _ _ _ _ _ (c .if1 .taken))
 
 bugs-after-requires : tie.Need-bugs-after-requires
 bugs-after-requires c κs =
-    let start = c .before .before .before .before in
+    let start = c .before .before .before .before .before in
     (start .pre .0 .width, reached-bugs _ _ _ _ (start .pre .1 .reached))
 
 locate-through-requires : tie.Need-locate-through-requires
 locate-through-requires c κs =
-    let start = c .before .before .before .before .before .before in (
+    let start = c .before .before .before .before .before .before .before in (
       stored-readable _ _ _ _ (start .pre .0) (c .before .bugs-after .ensures),
       stored-deliverable _ _ (c .before .bugs-after .result) _ _ _ (start .pre .1),
       start .pre .2 (c .before .before .if1 .left),
@@ -33,8 +33,8 @@ returns-2 c =
     let at-locate-through = c .before .before .before in
     let at-bugs-after = at-locate-through .before .before in
     let at-if = at-bugs-after .before in
-    let start = at-if .before .before .before .before in
-    does _ (delivers-two _ _ _ _ _ _ (at-if .if1 .left) (at-bugs-after .bugs-after .ensures) (at-locate-through .locate-through .ensures)
+    let start = at-if .before .before .before .before .before in
+    does (delivers-two _ _ _ _ _ _ (at-if .if1 .left) (at-bugs-after .bugs-after .ensures) (at-locate-through .locate-through .ensures)
     (c .before .found .given .1) (start .pre .3))
 
 returns-3 : tie.Need-returns-3
@@ -42,7 +42,7 @@ returns-3 c =
     let at-locate-through = c .before .before .before in
     let at-bugs-after = at-locate-through .before .before in
     let at-if = at-bugs-after .before in
-    stops _ (delivers-stopped _ _ _ _ _ _ (at-if .if1 .left) (at-bugs-after .bugs-after .ensures) (at-locate-through .locate-through .ensures)
+    stops (delivers-stopped _ _ _ _ _ _ (at-if .if1 .left) (at-bugs-after .bugs-after .ensures) (at-locate-through .locate-through .ensures)
     (c .before .found2 .given .1))
 
 pub deliver-spec : {M : Type 1} → statement M

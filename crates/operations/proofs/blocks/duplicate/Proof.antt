@@ -11,7 +11,7 @@ live-size-requires : tie.Need-live-size-requires
 live-size-requires c κs = (c .before .pre .0, c .before .pre .1)
 
 returns : tie.Need-returns
-returns c = stops _ (copy-none _ _ _ _ (c .before .live-size .ensures) (c .if1 .taken))
+returns c = stops (copy-none _ _ _ _ (c .before .live-size .ensures) (c .if1 .taken))
 
 top-of-requires : tie.Need-top-of-requires
 top-of-requires c κs = search needs
@@ -37,7 +37,7 @@ returns-2 c =
     let at-top-of = at-level-of .before in
     let at-if1 = at-top-of .before in
     let at-live-size = at-if1 .before in
-    does _ (copy-run _ _ _ _ (at-live-size .live-size .ensures) (at-if1 .if1 .left) (at-top-of .top-of .ensures) (at-level-of .level-of .ensures)
+    does (copy-run _ _ _ _ (at-live-size .live-size .ensures) (at-if1 .if1 .left) (at-top-of .top-of .ensures) (at-level-of .level-of .ensures)
     (at-fetch .fetch .ensures) (c .before .run .given .1))
 
 returns-3 : tie.Need-returns-3
@@ -47,7 +47,7 @@ returns-3 c =
     let at-top-of = at-level-of .before in
     let at-if1 = at-top-of .before in
     let at-live-size = at-if1 .before in
-    stops _ (copy-no-run _ _ _ _ (at-live-size .live-size .ensures) (at-if1 .if1 .left) (at-top-of .top-of .ensures) (at-level-of .level-of .ensures)
+    stops (copy-no-run _ _ _ _ (at-live-size .live-size .ensures) (at-if1 .if1 .left) (at-top-of .top-of .ensures) (at-level-of .level-of .ensures)
     (at-fetch .fetch .ensures) (c .before .run2 .given .1))
 
 pub duplicate-spec : {M : Type 1} → statement M

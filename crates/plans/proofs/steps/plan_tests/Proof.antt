@@ -1,6 +1,5 @@
 -- `plans::steps::plan_tests` meets its contract: 2, then the tests. Assumes nothing.
-use mathlib.Core.Path.{_∙_, sym}
-use borrow.Author.Tests.{not-true, not-false}
+use Rattle.word.proofs.Tests.{known-false, known-true}
 use Rattle.machine.proofs.Checks.{need-no}
 use Rattle.plans.specs.Steps.{testsPlan}
 use Rattle.plans.proofs.Answers.{goes, halts, holds-is, not-settled-is}
@@ -16,10 +15,10 @@ can-use-requires c κs = c .before .before .before .pre .2
 
 returns : tie.Need-returns
 unfolding testsPlan
-returns c = halts (need-no _ _ _ (sym (c .before .can-use .ensures) ∙ not-true _ (c .if1 .taken)))
+returns c = halts (need-no _ _ _ (known-false (c .before .can-use .ensures) (c .if1 .taken)))
 
 row-at-requires : tie.Need-row-at-requires
-row-at-requires c κs = used 1 _ _ _ (sym (c .before .can-use .ensures) ∙ not-false _ (c .if1 .left)) .room
+row-at-requires c κs = used 1 _ _ _ (known-true (c .before .can-use .ensures) (c .if1 .left)) .room
 
 satisfied-requires : tie.Need-satisfied-requires
 satisfied-requires c κs =
@@ -35,7 +34,7 @@ operation-or-exit-requires c κs =
     let at-if1 = at-row-at .before in
     let at-can-use = at-if1 .before in
     let start = at-can-use .before .before .before .before in
-    operation-few _ _ _ (start .pre .1) (at-row-at .row-at .ensures) (sym (at-can-use .can-use .ensures) ∙ not-false _ (at-if1 .if1 .left))
+    operation-few _ _ _ (start .pre .1) (at-row-at .row-at .ensures) (known-true (at-can-use .can-use .ensures) (at-if1 .if1 .left))
 
 returns-2 : tie.Need-returns-2
 returns-2 c =
@@ -44,7 +43,7 @@ returns-2 c =
     let at-row-at = at-satisfied .before .before in
     let at-if1 = at-row-at .before in
     let at-can-use = at-if1 .before in
-    goes (tests-hold _ _ _ _ (sym (at-can-use .can-use .ensures) ∙ not-false _ (at-if1 .if1 .left)) (at-row-at .row-at .ensures)
+    goes (tests-hold _ _ _ _ (known-true (at-can-use .can-use .ensures) (at-if1 .if1 .left)) (at-row-at .row-at .ensures)
     (holds-is _ (at-satisfied .satisfied .ensures) (at-held .held .given .1)) (c .before .if2 .taken) (c .operation-or-exit .ensures))
 
 next-line-requires : tie.Need-next-line-requires
@@ -53,7 +52,7 @@ next-line-requires c κs =
     let at-if1 = at-row-at .before in
     let at-can-use = at-if1 .before in
     let start = at-can-use .before .before .before .before in
-    next-few _ _ _ (start .pre .1) (at-row-at .row-at .ensures) 1 (sym (at-can-use .can-use .ensures) ∙ not-false _ (at-if1 .if1 .left))
+    next-few _ _ _ (start .pre .1) (at-row-at .row-at .ensures) 1 (known-true (at-can-use .can-use .ensures) (at-if1 .if1 .left))
 
 enum-known-held-2 : tie.Need-enum-known-held-2
 enum-known-held-2 c = search needs
@@ -65,7 +64,7 @@ returns-3 c =
     let at-row-at = at-satisfied .before .before in
     let at-if1 = at-row-at .before in
     let at-can-use = at-if1 .before in
-    goes (tests-fail _ _ _ _ (sym (at-can-use .can-use .ensures) ∙ not-false _ (at-if1 .if1 .left)) (at-row-at .row-at .ensures)
+    goes (tests-fail _ _ _ _ (known-true (at-can-use .can-use .ensures) (at-if1 .if1 .left)) (at-row-at .row-at .ensures)
     (holds-is _ (at-satisfied .satisfied .ensures) (at-held .held .given .1)) (c .before .if2 .left) (c .next-line .ensures))
 
 returns-4 : tie.Need-returns-4
@@ -74,7 +73,7 @@ returns-4 c =
     let at-row-at = at-satisfied .before .before in
     let at-if1 = at-row-at .before in
     let at-can-use = at-if1 .before in
-    halts (tests-stopped _ _ _ _ (sym (at-can-use .can-use .ensures) ∙ not-false _ (at-if1 .if1 .left)) (at-row-at .row-at .ensures)
+    halts (tests-stopped _ _ _ _ (known-true (at-can-use .can-use .ensures) (at-if1 .if1 .left)) (at-row-at .row-at .ensures)
     (not-settled-is _ (at-satisfied .satisfied .ensures) (c .before .held2 .given .1)))
 
 pub plan-tests-spec : {M : Type 1} → statement M

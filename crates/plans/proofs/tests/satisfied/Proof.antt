@@ -1,7 +1,7 @@
 -- `plans::tests::satisfied` meets its contract. The loop's invariant: the tests so far have not settled the line. The measure is how many
 -- tests can follow. Assumes nothing.
 use Rattle.table.specs.Row.{rows}
-use Rattle.operands.specs.Reading.{seen}
+use Rattle.operations.specs.Seen.{seenBy}
 use Rattle.plans.proofs.Answers.{outcome-is, no-outcome-is}
 use Rattle.plans.proofs.Testing.{Open, testsLeft, open-first, open-ends, open-stopped, open-settles, open-next, fewer-left}
 use Rattle.plans.proofs.Testing.{against}
@@ -10,10 +10,10 @@ use Rattle.plans.proofs.tests.satisfied.Statement.{statement}
 use Rattle.plans.proofs.tests.satisfied.Tie as tie
 
 abbrev Inv-loop : tie.InvT-loop
-Inv-loop b bugs fields setup map storage table judged mode first r₀ r = Open b (seen bugs fields setup map storage) table mode first r
+Inv-loop known bugs fields map storage table mode first r₀ r = Open (known .b) (seenBy known bugs fields map storage) table mode first r
 
 abbrev μ-loop : tie.MeasureT-loop
-μ-loop b bugs fields setup map storage table judged mode first r₀ r = testsLeft (rows table) r
+μ-loop known bugs fields map storage table mode first r₀ r = testsLeft (rows table) r
 
 loop-holds : tie.Need-loop-holds Inv-loop μ-loop
 loop-holds c = open-first _ _ _ _ _ (c .before .before .before .pre .2)

@@ -1,9 +1,9 @@
--- `plans::places::tests_of` meets its contract. Assumes nothing.
+-- `operations::places::tests_of` meets its contract. Assumes nothing.
 use mathlib.Core.Path.{refl}
 use Rattle.machine.specs.State.{testsOf}
 use borrow.Author.Needs.{needs}
-use Rattle.plans.proofs.places.tests_of.Statement.{statement}
-use Rattle.plans.proofs.places.tests_of.Tie as tie
+use Rattle.operations.proofs.places.tests_of.Statement.{statement}
+use Rattle.operations.proofs.places.tests_of.Tie as tie
 
 cast-t2 : tie.Need-cast-t2
 cast-t2 c = search needs

@@ -1,0 +1,72 @@
+// An operation but the set-up, by its code.
+ghost use mathlib.Core.Path.{_≡_};
+ghost use Prim.Native.Nat.{_≤_};
+ghost use Rattle.operands.specs.Reading.{Readable};
+ghost use Rattle.machine.specs.Answer.{told};
+ghost use Rattle.operations.specs.Answers.{toldPlanned};
+ghost use Rattle.operations.specs.Seen.{seenBy, sees, Ready};
+ghost use Rattle.operations.specs.Plans.{planOf, stackPlan};
+ghost use Rattle.operations.specs.Rows.{Stacked, Operates};
+use crate::Known;
+use crate::Planned;
+use crate::actions::plan_contents;
+use crate::actions::plan_define;
+use crate::actions::plan_print;
+use crate::actions::plan_records;
+use crate::actions::plan_swap;
+use crate::actions::plan_two;
+use table::Row;
+
+// The stacks: 32 to 36.
+fn plan_stacks(
+    known: Known,
+    bugs: &[u64; 26],
+    fields: &[u32; 36],
+    map: &[u8],
+    storage: &[u64],
+    entries: &[u64; 128],
+    row: Row,
+) -> Planned
+    requires { ⌜ Readable (known .b) (seenBy known (now bugs) (now fields) (now map) (now storage))
+        × (known .counts .contents ≤ 128) × Stacked row ⌝ }
+    ensures { λ r. ⌜ toldPlanned r ≡ told (stackPlan (known .b)
+        (seenBy known (now (bugs .entry)) (now (fields .entry)) (now (map .entry)) (now (storage .entry)))
+        (known .counts) (now (entries .entry)) row) ⌝ }
+{
+    let counts = known.counts;
+    if 33 < row.code {
+        return plan_records(counts.saved, counts.calls, row);
+    }
+    plan_contents(known, bugs, fields, map, storage, entries, row)
+}
+
+// By the code.
+pub fn plan_by_code(
+    known: Known,
+    bugs: &[u64; 26],
+    fields: &[u32; 36],
+    map: &[u8],
+    storage: &[u64],
+    entries: &[u64; 128],
+    input: &[u8],
+    row: Row,
+) -> Planned
+    requires { ⌜ Ready (known .b)
+        (sees known (now bugs) (now fields) (now map) (now storage) (now entries) (now input)) × Operates (known .b) row ⌝ }
+    ensures { λ r. ⌜ toldPlanned r ≡ told (planOf (known .b)
+        (sees known (now (bugs .entry)) (now (fields .entry)) (now (map .entry)) (now (storage .entry))
+        (now (entries .entry)) (now (input .entry))) row) ⌝ }
+{
+    let b = known.b;
+    let setup = known.setup;
+    let code = row.code;
+    if 31 < code {
+        return plan_stacks(known, bugs, fields, map, storage, entries, row);
+    }
+    match code {
+        2 => plan_define(b, bugs, fields, setup, map, storage, row),
+        7 => plan_swap(b, bugs, fields, setup, map, storage, row),
+        25 => plan_print(known, bugs, fields, map, storage, row),
+        _ => plan_two(known, bugs, fields, map, storage, input, row),
+    }
+}
