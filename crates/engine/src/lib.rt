@@ -32,6 +32,7 @@ use machine::Stepped;
 use soundness::is_sound;
 use table::check::has_length;
 use table::check::lowest_ill_formed;
+use table::rows::NUMBERS;
 use walks::walk;
 use word::is_width;
 
@@ -48,7 +49,7 @@ pub fn fresh_state(width: u8) -> State
     ensures { λ r. ⌜ r ≡ freshState width ⌝ }
 {
     let place = Place {
-        kind: 0,
+        kind: machine::AT_TESTS,
         row: 0,
         line: 1,
     };
@@ -59,22 +60,22 @@ pub fn fresh_state(width: u8) -> State
         right: 0,
     };
     let contents = ContentsStack {
-        entries: [0; 128],
+        entries: [0; machine::STACK],
         count: 0,
     };
     let saved = DefinitionStack {
-        entries: [undefined; 128],
+        entries: [undefined; machine::STACK],
         count: 0,
     };
     let calls = CallStack {
-        entries: [place; 128],
+        entries: [place; machine::STACK],
         count: 0,
     };
     let setup = SetUp { d: 0, s1: 0, s2: 0 };
     let core = Core {
         place: place,
-        bugs: [0; 26],
-        definitions: [undefined; 36],
+        bugs: [0; machine::BUGS],
+        definitions: [undefined; machine::FIELDS],
         contents: contents,
         saved: saved,
         calls: calls,
@@ -85,7 +86,7 @@ pub fn fresh_state(width: u8) -> State
     State {
         width: width,
         core: core,
-        map: [0; 4096],
+        map: [0; machine::MAP],
     }
 }
 
@@ -117,7 +118,7 @@ pub fn fresh(b: u64) -> Fresh
 fn judge(b: u64, table: &[u64], limit: u64) -> bool
     ensures { λ r. ⌜ (r ≡ true → checked b (now (table .entry)) ≡ Lowest 0) ⌝ }
 {
-    if limit < (table.len() / 10) as u64 {
+    if limit < (table.len() / NUMBERS) as u64 {
         return false;
     }
     if !has_length(table) {
@@ -154,7 +155,7 @@ fn begin(
     if !is_sound(b, core, map, storage, input, output) {
         return Start::Stops(Answer::Refused(Refusal::Unsound));
     }
-    if place.kind == 3 {
+    if place.kind == machine::FINISHED {
         return Start::Stops(Answer::Finished);
     }
     if !has_length(table) {

@@ -139,7 +139,7 @@ fn ended(
 fn answer_at(place: Place) -> Answer
     ensures { λ r. ⌜ r ≡ cond (isFinished place) Finished Running ⌝ }
 {
-    if place.kind == 3 {
+    if place.kind == machine::FINISHED {
         Answer::Finished
     } else {
         Answer::Running
@@ -275,7 +275,7 @@ pub fn walk(
                 }
                 counts = next.counts;
                 setup = next.setup;
-                if (place.kind == 3) | (count == limit) {
+                if (place.kind == machine::FINISHED) | (count == limit) {
                     let records = Records {
                         definitions: definitions,
                         saved: saved,

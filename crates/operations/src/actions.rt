@@ -26,6 +26,7 @@ use character::pack_input;
 use machine::Definition;
 use machine::Location;
 use machine::Refusal;
+use machine::STACK;
 use operands::Got;
 use operands::Linked;
 use operands::Operand;
@@ -35,6 +36,7 @@ use operands::references::operand;
 use operands::references::width_of;
 use table::FieldName;
 use table::Row;
+use table::codes;
 
 // 1 set up: 3.
 pub fn plan_set_up(lent: usize, row: Row) -> Planned
@@ -170,10 +172,10 @@ fn act(
     let third = row.third;
     let at = a.at;
     match code {
-        3 => get(known, bugs, fields, map, storage, third, a, x.value),
-        4 => free(setup, map, at, a.holds, x.value),
-        5 => duplicate(setup, map, at, x.value),
-        24 => take(b, at, counts.taken, input, x.value),
+        codes::GET => get(known, bugs, fields, map, storage, third, a, x.value),
+        codes::FREE => free(setup, map, at, a.holds, x.value),
+        codes::DUPLICATE => duplicate(setup, map, at, x.value),
+        codes::INPUT => take(b, at, counts.taken, input, x.value),
         _ => make(b, code, at, a.holds, width_of(b, at), x.value, x.width),
     }
 }
@@ -248,7 +250,7 @@ fn print(written: usize, room: usize, n: u64, v: u64, width: u64) -> Planned
     requires { ⌜ written ≤ room ⌝ }
     ensures { λ r. ⌜ toldPlanned r ≡ told (printing written room n (valued v width)) ⌝ }
 {
-    if 120 < n {
+    if machine::PRINTED < n {
         return Planned::Stopped(Refusal::CharacterCount);
     }
     if ((room - written) as u64) < n {
@@ -314,8 +316,8 @@ pub fn plan_contents(
         Linked::Stopped(r) => return Planned::Stopped(r),
     };
     let count = counts.contents;
-    if row.code == 32 {
-        if 128 <= count {
+    if row.code == codes::SAVE {
+        if STACK <= count {
             return Planned::Stopped(Refusal::StackFull);
         }
         return Planned::Does(Action::Save(a.holds));
@@ -335,19 +337,19 @@ pub fn plan_records(saved: usize, calls: usize, row: Row) -> Planned
 {
     let field = FieldName(row.name as u8);
     let code = row.code;
-    if code == 34 {
-        if 128 <= saved {
+    if code == codes::SAVE_DEFINITION {
+        if STACK <= saved {
             return Planned::Stopped(Refusal::StackFull);
         }
         return Planned::Does(Action::SaveDefinition(field));
     }
-    if code == 35 {
+    if code == codes::RESTORE_DEFINITION {
         if saved == 0 {
             return Planned::Stopped(Refusal::StackEmpty);
         }
         return Planned::Does(Action::RestoreDefinition(field));
     }
-    if 128 <= calls {
+    if STACK <= calls {
         return Planned::Stopped(Refusal::StackFull);
     }
     Planned::Does(Action::Call(row.first.value))

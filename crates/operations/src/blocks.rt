@@ -33,6 +33,7 @@ use operands::Spot;
 use operands::references::locate_through;
 use operands::stores::bugs_after;
 use table::Pair;
+use table::codes;
 
 // The lowest aligned run of the j-th size: 17.
 fn fetch(setup: SetUp, map: &[u8], j: u8) -> Fetched
@@ -68,7 +69,7 @@ fn deliver(
     let b = known.b;
     let setup = known.setup;
     let at = ahead.at;
-    if third.form == 0 {
+    if third.form == codes::ABSENT {
         return Planned::Does(Action::Deliver(ahead.address, ahead.size, 0, at));
     }
     let after = bugs_after(b, bugs, at, ahead.address);

@@ -16,6 +16,7 @@ use crate::actions::plan_records;
 use crate::actions::plan_swap;
 use crate::actions::plan_two;
 use table::Row;
+use table::codes;
 
 // The stacks: 32 to 36.
 fn plan_stacks(
@@ -34,7 +35,7 @@ fn plan_stacks(
         (known .counts) (now (entries .entry)) row) ⌝ }
 {
     let counts = known.counts;
-    if 33 < row.code {
+    if codes::RESTORE < row.code {
         return plan_records(counts.saved, counts.calls, row);
     }
     plan_contents(known, bugs, fields, map, storage, entries, row)
@@ -60,13 +61,13 @@ pub fn plan_by_code(
     let b = known.b;
     let setup = known.setup;
     let code = row.code;
-    if 31 < code {
+    if codes::ZEROS_TO_BLANKS < code {
         return plan_stacks(known, bugs, fields, map, storage, entries, row);
     }
     match code {
-        2 => plan_define(b, bugs, fields, setup, map, storage, row),
-        7 => plan_swap(b, bugs, fields, setup, map, storage, row),
-        25 => plan_print(known, bugs, fields, map, storage, row),
+        codes::DEFINE => plan_define(b, bugs, fields, setup, map, storage, row),
+        codes::INTERCHANGE => plan_swap(b, bugs, fields, setup, map, storage, row),
+        codes::PRINT => plan_print(known, bugs, fields, map, storage, row),
         _ => plan_two(known, bugs, fields, map, storage, input, row),
     }
 }

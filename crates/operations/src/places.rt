@@ -10,7 +10,7 @@ pub fn tests_of(line: u64) -> Place
     ensures { λ r. ⌜ r ≡ testsOf line ⌝ }
 {
     Place {
-        kind: 0,
+        kind: machine::AT_TESTS,
         row: 0,
         line: line as u16,
     }

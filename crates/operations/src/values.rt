@@ -11,6 +11,7 @@ ghost use Rattle.operations.specs.Answers.{toldComputed};
 use crate::Computed;
 use character::Converted;
 use machine::Refusal;
+use table::codes;
 
 // 9 subtract: 22.
 fn subtracted(b: u64, x: u64, y: u64) -> Computed
@@ -51,10 +52,10 @@ fn arithmetic(b: u64, code: u64, a: u64, aw: u64, x: u64, xw: u64) -> Computed
     ensures { λ r. ⌜ toldComputed r ≡ told (valueBy code b (valued a aw) (valued x xw)) ⌝ }
 {
     match code {
-        6 => Computed::Made(x),
-        8 => Computed::Made(word::arithmetic::add(b, a, x)),
-        9 => subtracted(b, a, x),
-        10 => Computed::Made(word::arithmetic::multiply(b, a, x)),
+        codes::COPY => Computed::Made(x),
+        codes::ADD => Computed::Made(word::arithmetic::add(b, a, x)),
+        codes::SUBTRACT => subtracted(b, a, x),
+        codes::MULTIPLY => Computed::Made(word::arithmetic::multiply(b, a, x)),
         _ => divided(a, x),
     }
 }
@@ -65,9 +66,9 @@ fn logic(b: u64, code: u64, a: u64, aw: u64, x: u64, xw: u64) -> Computed
     ensures { λ r. ⌜ toldComputed r ≡ told (valueBy code b (valued a aw) (valued x xw)) ⌝ }
 {
     match code {
-        12 => Computed::Made(word::logic::or(b, a, x)),
-        13 => Computed::Made(word::logic::and(b, a, x)),
-        14 => Computed::Made(word::logic::exclusive_or(b, a, x)),
+        codes::OR => Computed::Made(word::logic::or(b, a, x)),
+        codes::AND => Computed::Made(word::logic::and(b, a, x)),
+        codes::EXCLUSIVE_OR => Computed::Made(word::logic::exclusive_or(b, a, x)),
         _ => Computed::Made(word::logic::complement(b, x)),
     }
 }
@@ -78,11 +79,11 @@ fn bits(b: u64, code: u64, a: u64, aw: u64, x: u64, xw: u64) -> Computed
     ensures { λ r. ⌜ toldComputed r ≡ told (valueBy code b (valued a aw) (valued x xw)) ⌝ }
 {
     match code {
-        16 => Computed::Made(word::count::count_ones(xw, x)),
-        17 => Computed::Made(word::count::count_zeros(xw, x)),
-        18 => Computed::Made(word::count::leftmost_one(xw, x)),
-        19 => Computed::Made(word::count::rightmost_one(xw, x)),
-        20 => Computed::Made(word::count::leftmost_zero(xw, x)),
+        codes::COUNT_ONES => Computed::Made(word::count::count_ones(xw, x)),
+        codes::COUNT_ZEROS => Computed::Made(word::count::count_zeros(xw, x)),
+        codes::LEFTMOST_ONE => Computed::Made(word::count::leftmost_one(xw, x)),
+        codes::RIGHTMOST_ONE => Computed::Made(word::count::rightmost_one(xw, x)),
+        codes::LEFTMOST_ZERO => Computed::Made(word::count::leftmost_zero(xw, x)),
         _ => Computed::Made(word::count::rightmost_zero(xw, x)),
     }
 }
@@ -93,7 +94,7 @@ fn shifts(b: u64, code: u64, a: u64, aw: u64, x: u64, xw: u64) -> Computed
     ensures { λ r. ⌜ toldComputed r ≡ told (valueBy code b (valued a aw) (valued x xw)) ⌝ }
 {
     match code {
-        22 => Computed::Made(word::shifts::left_shift(aw, a, x)),
+        codes::LEFT_SHIFT => Computed::Made(word::shifts::left_shift(aw, a, x)),
         _ => Computed::Made(word::shifts::right_shift(aw, a, x)),
     }
 }
@@ -105,11 +106,11 @@ fn conversions(b: u64, code: u64, a: u64, aw: u64, x: u64, xw: u64) -> Computed
 {
     let n = (b / 6) as usize;
     match code {
-        26 => Computed::Made(character::blanks_to_zeros(n, xw as usize, x)),
-        27 => binary(10, n, x),
-        28 => binary(8, n, x),
-        29 => Computed::Made(character::from_binary_decimal(n, x)),
-        30 => Computed::Made(character::from_binary_octal(n, x)),
+        codes::BLANKS_TO_ZEROS => Computed::Made(character::blanks_to_zeros(n, xw as usize, x)),
+        codes::DECIMAL_TO_BINARY => binary(10, n, x),
+        codes::OCTAL_TO_BINARY => binary(8, n, x),
+        codes::BINARY_TO_DECIMAL => Computed::Made(character::from_binary_decimal(n, x)),
+        codes::BINARY_TO_OCTAL => Computed::Made(character::from_binary_octal(n, x)),
         _ => Computed::Made(character::zeros_to_blanks(n, x)),
     }
 }
@@ -119,16 +120,16 @@ pub fn compute(b: u64, code: u64, a: u64, aw: u64, x: u64, xw: u64) -> Computed
     requires { ⌜ (b ≤ 48) × (a < 2 ^ b) × (x < 2 ^ b) × (aw ≤ b) × (xw ≤ b) × Computes code ⌝ }
     ensures { λ r. ⌜ toldComputed r ≡ told (valueBy code b (valued a aw) (valued x xw)) ⌝ }
 {
-    if code < 12 {
+    if code < codes::OR {
         return arithmetic(b, code, a, aw, x, xw);
     }
-    if code < 16 {
+    if code < codes::COUNT_ONES {
         return logic(b, code, a, aw, x, xw);
     }
-    if code < 22 {
+    if code < codes::LEFT_SHIFT {
         return bits(b, code, a, aw, x, xw);
     }
-    if code < 24 {
+    if code < codes::INPUT {
         return shifts(b, code, a, aw, x, xw);
     }
     conversions(b, code, a, aw, x, xw)

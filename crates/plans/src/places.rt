@@ -13,7 +13,7 @@ pub fn next_line(next: u64) -> Place
 {
     if next == 0 {
         return Place {
-            kind: 3,
+            kind: machine::FINISHED,
             row: 0,
             line: 0,
         };
@@ -28,13 +28,13 @@ pub fn operation_or_exit(row: u64, line: u16) -> Place
 {
     if row == 0 {
         return Place {
-            kind: 2,
+            kind: machine::AT_EXIT,
             row: 0,
             line: line,
         };
     }
     Place {
-        kind: 1,
+        kind: machine::AT_OPERATION,
         row: row as u16,
         line: line,
     }

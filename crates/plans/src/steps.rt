@@ -26,6 +26,7 @@ use operations::actions::plan_set_up;
 use operations::codes::plan_by_code;
 use operations::places::tests_of;
 use table::Row;
+use table::codes;
 use table::rows::row_at;
 
 // The step at a line's tests.
@@ -45,7 +46,7 @@ fn plan_tests(
         (now (table .entry)) line) ⌝ }
 {
     let i = line as usize;
-    if !can_use(1, known.b, table, i, known.judged) {
+    if !can_use(codes::LINE, known.b, table, i, known.judged) {
         return Step::Stopped(Refusal::BadRow);
     }
     let row = row_at(table, i);
@@ -89,7 +90,7 @@ fn plan_ordered(
         (now (entries .entry)) (now (input .entry))) row) ⌝ }
 {
     let setup = known.setup;
-    if row.code == 1 {
+    if row.code == codes::SET_UP {
         if setup.d != 0 {
             return Planned::Stopped(Refusal::SecondSetUp);
         }
@@ -120,7 +121,7 @@ fn plan_operation(
         (now (entries .entry)) (now (input .entry))) (now (table .entry)) place) ⌝ }
 {
     let i = place.row as usize;
-    if !can_use(3, known.b, table, i, known.judged) {
+    if !can_use(codes::OPERATION, known.b, table, i, known.judged) {
         return Step::Stopped(Refusal::BadRow);
     }
     let row = row_at(table, i);
@@ -139,13 +140,13 @@ fn plan_exit(known: Known, line: u16, table: &[u64]) -> Step
 {
     let counts = known.counts;
     let i = line as usize;
-    if !can_use(1, known.b, table, i, known.judged) {
+    if !can_use(codes::LINE, known.b, table, i, known.judged) {
         return Step::Stopped(Refusal::BadRow);
     }
     let row = row_at(table, i);
     let second = row.second;
     let goes = second.form;
-    if goes == 65535 {
+    if goes == codes::DONE {
         if counts.calls == 0 {
             return Step::Stopped(Refusal::StackEmpty);
         }
@@ -177,8 +178,8 @@ pub fn plan_step(
 {
     let kind = place.kind;
     match kind {
-        0 => plan_tests(known, place.line, bugs, fields, map, storage, table),
-        1 => plan_operation(
+        machine::AT_TESTS => plan_tests(known, place.line, bugs, fields, map, storage, table),
+        machine::AT_OPERATION => plan_operation(
             known,
             place,
             bugs,

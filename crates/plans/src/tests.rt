@@ -17,6 +17,8 @@ use operands::Got;
 use operands::references::operand;
 use operations::Known;
 use table::check::is_usable;
+use table::codes;
+use table::rows::NUMBERS;
 use table::rows::row_at;
 
 // Row r can be used as this kind. Where the whole table is judged well-formed, its kind alone tells.
@@ -30,7 +32,7 @@ pub fn can_use(kind: u64, b: u64, table: &[u64], r: usize, judged: bool) -> bool
     if r < 1 {
         return false;
     }
-    if table.len() / 10 <= r {
+    if table.len() / NUMBERS <= r {
         return false;
     }
     let row = row_at(table, r);
@@ -41,14 +43,14 @@ pub fn can_use(kind: u64, b: u64, table: &[u64], r: usize, judged: bool) -> bool
 fn settling(mode: u64) -> bool
     ensures { λ r. ⌜ r ≡ settlingOf mode ⌝ }
 {
-    (mode == 2) | (mode == 3)
+    (mode == codes::IFANY) | (mode == codes::IFNONE)
 }
 
 // Whether a line that is settled so is satisfied.
 fn settled_as(mode: u64) -> bool
     ensures { λ r. ⌜ r ≡ settledAs mode ⌝ }
 {
-    (mode == 2) | (mode == 4)
+    (mode == codes::IFANY) | (mode == codes::IFNALL)
 }
 
 // The seven tests.
@@ -57,12 +59,12 @@ fn compared(b: u64, code: u64, c: u64, cd: u64) -> bool
     ensures { λ r. ⌜ r ≡ comparedBy b code c cd ⌝ }
 {
     match code {
-        1 => c == cd,
-        2 => c != cd,
-        3 => cd < c,
-        4 => c < cd,
-        5 => c == cd,
-        6 => word::logic::and(b, c, cd) == cd,
+        codes::EQUAL => c == cd,
+        codes::UNEQUAL => c != cd,
+        codes::GREATER => cd < c,
+        codes::LESS => c < cd,
+        codes::SAME_POINTER => c == cd,
+        codes::ONES => word::logic::and(b, c, cd) == cd,
         _ => word::logic::and(b, c, cd) == 0,
     }
 }
@@ -85,7 +87,7 @@ fn test_at(
     let b = known.b;
     let setup = known.setup;
     let i = r as usize;
-    if !can_use(2, b, table, i, known.judged) {
+    if !can_use(codes::TEST, b, table, i, known.judged) {
         return Tested::Stopped(Refusal::BadRow);
     }
     let row = row_at(table, i);
