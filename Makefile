@@ -47,7 +47,7 @@ test:
 fmt:
 	rt fmt
 
-# Tries the wrong answers that stand apart from the gate, crates/NAME/wrong: the prover must refuse each.
+# Tries the wrong answers that stand apart from the gate, crates/NAME/wrong: the prover must refuse each (half an hour once all is proved).
 wrong:
 	bash .ci/wrong
 
