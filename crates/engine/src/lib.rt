@@ -90,8 +90,8 @@ pub fn fresh_state(width: u8) -> State
     }
 }
 
-// A fresh engine of words of b bits: 31. The second promise, as in the calls below, gives the answer in the papers' numbers, which its
-// definition has beside the enum; the first gives what a caller in Rattle takes apart.
+// A fresh engine of words of b bits: refusal 31. The second promise, as in the calls below, gives the answer in the papers' numbers,
+// which its definition has beside the enum; the first gives what a caller in Rattle takes apart.
 pub fn fresh(b: u64) -> Fresh
     ensures { λ r. ⌜ r ≡ freshOf b ⌝ }
     ensures numbered { λ r. ⌜ toldFresh (r .answer) ≡ cond (isWidth b) (gives tt) (refuses 31) ⌝ }
@@ -133,7 +133,8 @@ pub enum Start {
     Stops(Answer),
 }
 
-// What is judged once, before a walk: 31, 11, finished and 1. The map is lent: handed over in the state, it would be copied once more.
+// What is judged once, before a walk: refusals 31 and 11, finished, and refusal 1. The map is lent: handed over in the state, it would
+// be copied once more.
 fn begin(
     width: u8,
     core: Core,

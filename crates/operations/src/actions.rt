@@ -38,7 +38,7 @@ use table::FieldName;
 use table::Row;
 use table::codes;
 
-// 1 set up: 3.
+// Operation 1, set up: refusal 3.
 pub fn plan_set_up(lent: usize, row: Row) -> Planned
     ensures { λ r. ⌜ toldPlanned r ≡ told (setUpPlan lent row) ⌝ }
 {
@@ -56,7 +56,7 @@ pub fn plan_set_up(lent: usize, row: Row) -> Planned
     Planned::Does(Action::SetUpWords(setup))
 }
 
-// 2 define, once its numbers are taken: 7.
+// 2, define, once its numbers are taken: refusal 7.
 fn define(b: u64, name: u64, word: u64, left: u64, right: u64) -> Planned
     requires { ⌜ (b ≤ 48) × (name < 36) ⌝ }
     ensures { λ r. ⌜ toldPlanned r ≡ told (defining b name word left right) ⌝ }
@@ -75,7 +75,7 @@ fn define(b: u64, name: u64, word: u64, left: u64, right: u64) -> Planned
     Planned::Does(Action::Define(field, definition))
 }
 
-// 2 define.
+// 2, define.
 pub fn plan_define(
     b: u64,
     bugs: &[u64; 26],
@@ -110,7 +110,7 @@ pub fn plan_define(
     }
 }
 
-// 24 input: 10, 5, 4. Where the input has length 0, its characters are octal 77 and nothing is taken.
+// 24, input: refusals 10, 5, 4. Where the input has length 0, its characters are octal 77 and nothing is taken.
 fn take(b: u64, at: Location, taken: usize, input: &[u8], n: u64) -> Planned
     requires { ⌜ (b ≤ 48) × (taken ≤ length (now input)) ⌝ }
     ensures { λ r. ⌜ toldPlanned r ≡ told (taking b taken (now (input .entry)) at n) ⌝ }
@@ -213,7 +213,7 @@ pub fn plan_two(
     }
 }
 
-// 7 interchange: both located, and then each gets what the other held.
+// 7, interchange: both located, and then each gets what the other held.
 pub fn plan_swap(
     b: u64,
     bugs: &[u64; 26],
@@ -245,7 +245,7 @@ pub fn plan_swap(
     Planned::Does(Action::StoreTwo(at, c.holds, other_at, a.holds))
 }
 
-// 25 print, once its operands are taken: 10, 21.
+// 25, print, once its operands are taken: refusals 10, 21.
 fn print(written: usize, room: usize, n: u64, v: u64, width: u64) -> Planned
     requires { ⌜ written ≤ room ⌝ }
     ensures { λ r. ⌜ toldPlanned r ≡ told (printing written room n (valued v width)) ⌝ }
@@ -259,7 +259,7 @@ fn print(written: usize, room: usize, n: u64, v: u64, width: u64) -> Planned
     Planned::Does(Action::Print(n, width, v))
 }
 
-// 25 print.
+// 25, print.
 pub fn plan_print(
     known: Known,
     bugs: &[u64; 26],
@@ -291,7 +291,7 @@ pub fn plan_print(
     }
 }
 
-// 32 save contents: 19. 33 restore contents: 20. a is located before the stack is looked at.
+// 32, save contents: refusal 19. 33, restore contents: refusal 20. a is located before the stack is looked at.
 pub fn plan_contents(
     known: Known,
     bugs: &[u64; 26],
@@ -330,7 +330,7 @@ pub fn plan_contents(
     Planned::Does(Action::Restore(at, entries[i]))
 }
 
-// 34 save a definition: 19. 35 restore it: 20. 36 DO: 19.
+// 34, save a definition: refusal 19. 35, restore it: refusal 20. 36, DO: refusal 19.
 pub fn plan_records(saved: usize, calls: usize, row: Row) -> Planned
     requires { ⌜ row .name < 36 ⌝ }
     ensures { λ r. ⌜ toldPlanned r ≡ told (recordPlan saved calls row) ⌝ }

@@ -35,7 +35,7 @@ use operands::stores::bugs_after;
 use table::Pair;
 use table::codes;
 
-// The lowest aligned run of the j-th size: 17.
+// The lowest aligned run of the j-th size: refusal 17.
 fn fetch(setup: SetUp, map: &[u8], j: u8) -> Fetched
     requires { ⌜ (words setup % size (top (setup .d)) ≡ 0) × (keeps setup (now map) ≡ true) × (j ≤ top (setup .d)) ⌝ }
     ensures { λ r. ⌜ toldFetched r ≡ told (fetched (size j) (lowestRun setup (now (map .entry)) (size j))) ⌝ }
@@ -47,7 +47,7 @@ fn fetch(setup: SetUp, map: &[u8], j: u8) -> Fetched
     }
 }
 
-// 3 get, once a run is found: a2 is located after the delivery.
+// 3, get, once a run is found: a2 is located after the delivery.
 fn deliver(
     known: Known,
     bugs: &[u64; 26],
@@ -83,7 +83,7 @@ fn deliver(
     }
 }
 
-// 3 get, once a is located and the size taken: 8, 17, a2.
+// 3, get, once a is located and the size taken: refusals 8, 17, and then those of a2.
 pub fn get(
     known: Known,
     bugs: &[u64; 26],
@@ -139,7 +139,7 @@ fn lies_in(address: u64, n: u64, at: Location) -> bool
     }
 }
 
-// 4 free: 15, 18.
+// 4, free: refusals 15, 18.
 pub fn free(setup: SetUp, map: &[u8], at: Location, address: u64, v: u64) -> Planned
     requires { ⌜ (words setup % size (top (setup .d)) ≡ 0) × (keeps setup (now map) ≡ true) ⌝ }
     ensures { λ r. ⌜ toldPlanned r ≡ told (freeing address (sizeAt address (live setup (now (map .entry)))) at v) ⌝ }
@@ -154,7 +154,7 @@ pub fn free(setup: SetUp, map: &[u8], at: Location, address: u64, v: u64) -> Pla
     Planned::Does(Action::Free(address, at, v))
 }
 
-// 5 duplicate: 15, 17.
+// 5, duplicate: refusals 15, 17.
 pub fn duplicate(setup: SetUp, map: &[u8], at: Location, from: u64) -> Planned
     requires { ⌜ (words setup % size (top (setup .d)) ≡ 0) × (keeps setup (now map) ≡ true) ⌝ }
     ensures { λ r. ⌜ toldPlanned r ≡ told

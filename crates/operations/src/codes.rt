@@ -18,7 +18,7 @@ use crate::actions::plan_two;
 use table::Row;
 use table::codes;
 
-// The stacks: 32 to 36.
+// The stacks: operations 32 to 36.
 fn plan_stacks(
     known: Known,
     bugs: &[u64; 26],

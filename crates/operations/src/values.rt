@@ -13,7 +13,7 @@ use character::Converted;
 use machine::Refusal;
 use table::codes;
 
-// 9 subtract: 22.
+// 9, subtract: refusal 22.
 fn subtracted(b: u64, x: u64, y: u64) -> Computed
     requires { ⌜ (b ≤ 48) × (x < 2 ^ b) ⌝ }
     ensures { λ r. ⌜ toldComputed r ≡ told (difference 0 (valued x 0) (valued y 0)) ⌝ }
@@ -24,7 +24,7 @@ fn subtracted(b: u64, x: u64, y: u64) -> Computed
     Computed::Made(word::arithmetic::subtract(b, x, y))
 }
 
-// 11 divide: 9.
+// 11, divide: refusal 9.
 fn divided(x: u64, y: u64) -> Computed
     ensures { λ r. ⌜ toldComputed r ≡ told (quotient 0 (valued x 0) (valued y 0)) ⌝ }
 {
@@ -34,7 +34,7 @@ fn divided(x: u64, y: u64) -> Computed
     Computed::Made(word::arithmetic::divide(x, y))
 }
 
-// 27 decimal, 28 octal to binary: 6.
+// 27, decimal, and 28, octal to binary: refusal 6.
 fn binary(base: u64, n: usize, v: u64) -> Computed
     requires { ⌜ (base ≤ 64) × (n ≤ 10) ⌝ }
     ensures { λ r. ⌜ toldComputed r ≡ told (orRefuse (toBinary base n v) NotADigit) ⌝ }
@@ -46,7 +46,7 @@ fn binary(base: u64, n: usize, v: u64) -> Computed
     }
 }
 
-// 6 copy, and 8 to 11.
+// Operation 6, copy, and 8 to 11, arithmetic.
 fn arithmetic(b: u64, code: u64, a: u64, aw: u64, x: u64, xw: u64) -> Computed
     requires { ⌜ (b ≤ 48) × (6 ≤ code) × (code ≤ 11) × (code ≡ 7 → ⊥) × (a < 2 ^ b) × (x < 2 ^ b) ⌝ }
     ensures { λ r. ⌜ toldComputed r ≡ told (valueBy code b (valued a aw) (valued x xw)) ⌝ }
@@ -60,7 +60,7 @@ fn arithmetic(b: u64, code: u64, a: u64, aw: u64, x: u64, xw: u64) -> Computed
     }
 }
 
-// 12 to 15.
+// 12 to 15, logic.
 fn logic(b: u64, code: u64, a: u64, aw: u64, x: u64, xw: u64) -> Computed
     requires { ⌜ (b ≤ 48) × (12 ≤ code) × (code ≤ 15) × (x < 2 ^ b) ⌝ }
     ensures { λ r. ⌜ toldComputed r ≡ told (valueBy code b (valued a aw) (valued x xw)) ⌝ }
@@ -73,7 +73,7 @@ fn logic(b: u64, code: u64, a: u64, aw: u64, x: u64, xw: u64) -> Computed
     }
 }
 
-// 16 to 21.
+// 16 to 21, counts and places of bits.
 fn bits(b: u64, code: u64, a: u64, aw: u64, x: u64, xw: u64) -> Computed
     requires { ⌜ (16 ≤ code) × (code ≤ 21) × (xw ≤ 48) ⌝ }
     ensures { λ r. ⌜ toldComputed r ≡ told (valueBy code b (valued a aw) (valued x xw)) ⌝ }
@@ -88,7 +88,7 @@ fn bits(b: u64, code: u64, a: u64, aw: u64, x: u64, xw: u64) -> Computed
     }
 }
 
-// 22 and 23.
+// 22 and 23, shifts.
 fn shifts(b: u64, code: u64, a: u64, aw: u64, x: u64, xw: u64) -> Computed
     requires { ⌜ (22 ≤ code) × (code ≤ 23) × (aw ≤ 48) ⌝ }
     ensures { λ r. ⌜ toldComputed r ≡ told (valueBy code b (valued a aw) (valued x xw)) ⌝ }
@@ -99,7 +99,7 @@ fn shifts(b: u64, code: u64, a: u64, aw: u64, x: u64, xw: u64) -> Computed
     }
 }
 
-// 26 to 31.
+// 26 to 31, conversions.
 fn conversions(b: u64, code: u64, a: u64, aw: u64, x: u64, xw: u64) -> Computed
     requires { ⌜ (b ≤ 48) × (26 ≤ code) × (code ≤ 31) × (x < 2 ^ b) × (xw ≤ b) ⌝ }
     ensures { λ r. ⌜ toldComputed r ≡ told (valueBy code b (valued a aw) (valued x xw)) ⌝ }

@@ -72,7 +72,7 @@ fn plan_tests(
     }
 }
 
-// An operation: 13 or 12, and then by its code.
+// An operation: refusal 13 or 12, and then by its code.
 fn plan_ordered(
     known: Known,
     bugs: &[u64; 26],
@@ -102,7 +102,7 @@ fn plan_ordered(
     plan_by_code(known, bugs, fields, map, storage, entries, input, row)
 }
 
-// The step of an operation: 2, then its action and the place after it.
+// The step of an operation: refusal 2, then its action and the place after it.
 fn plan_operation(
     known: Known,
     place: Place,

@@ -69,7 +69,7 @@ fn compared(b: u64, code: u64, c: u64, cd: u64) -> bool
     }
 }
 
-// The test in a row: its 2, then its operands.
+// The test in a row: refusal 2, then its operands.
 fn test_at(
     known: Known,
     bugs: &[u64; 26],
