@@ -47,7 +47,7 @@ test:
 fmt:
 	rt fmt
 
-# Tries the wrong answers that stand apart from the gate, crates/NAME/wrong: the prover must refuse each (half an hour once all is proved).
+# Tries the wrong answers that stand apart from the gate, crates/NAME/wrong: the prover must refuse each (seconds each once all is proved, up to a minute in engine).
 wrong:
 	bash .ci/wrong
 
