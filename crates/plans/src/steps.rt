@@ -39,8 +39,8 @@ fn plan_tests(
     storage: &[u64],
     table: &[u64],
 ) -> Step
-    requires { ⌜ Readable (known .b) (seenBy known (now bugs) (now fields) (now map) (now storage)) × (lengthFits (now table) ≡ true)
-        × (known .judged ≡ true → checked (known .b) (now table) ≡ Lowest 0) ⌝ }
+    requires { ⌜ Readable (known .b) (seenBy known (now bugs) (now fields) (now map) (now storage))
+        × (lengthFits (now table) ≡ true) × (known .judged ≡ true → checked (known .b) (now table) ≡ Lowest 0) ⌝ }
     ensures { λ r. ⌜ toldStep r ≡ told (testsPlan (known .b)
         (seenBy known (now (bugs .entry)) (now (fields .entry)) (now (map .entry)) (now (storage .entry)))
         (now (table .entry)) line) ⌝ }
@@ -135,7 +135,8 @@ fn plan_operation(
 
 // The step at a line's exit: DONE, the go-to, or the next line.
 fn plan_exit(known: Known, line: u16, table: &[u64]) -> Step
-    requires { ⌜ (lengthFits (now table) ≡ true) × (known .judged ≡ true → checked (known .b) (now table) ≡ Lowest 0) ⌝ }
+    requires { ⌜ (lengthFits (now table) ≡ true)
+        × (known .judged ≡ true → checked (known .b) (now table) ≡ Lowest 0) ⌝ }
     ensures { λ r. ⌜ toldStep r ≡ told (exitPlan (known .b) (known .counts .calls) (now (table .entry)) line) ⌝ }
 {
     let counts = known.counts;
