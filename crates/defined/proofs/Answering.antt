@@ -13,10 +13,11 @@ use Rattle.defined.specs.declared.FieldsCheck.the-variants.{Yes, No, NoW
 use Rattle.defined.specs.declared.FirstUse.{FirstUse}
 use Rattle.defined.specs.declared.FirstUse.the-variants.{At, Nowhere}
 use Rattle.defined.specs.Kinds.{wrongRow}
-use Rattle.defined.specs.Search.{firstUse}
-use Rattle.word.specs.Told.{tells, gives, refuses}
-use Rattle.defined.specs.Answer.{Accepted, illFormedRow, saying, fieldsChecked, Meant, toldFields, useTold, fieldsTold}
+use Rattle.defined.specs.Search.{firstUse, toldFirstUse}
+use Rattle.word.specs.Told.{Told, tells, gives, refuses}
+use Rattle.defined.specs.Answer.{Accepted, illFormedRow, saying, fieldsChecked, Meant, toldFields, fieldsTold}
 use Rattle.defined.proofs.Decides.{meant}
+use Rattle.defined.proofs.Telling.{first-use-told}
 
 -- no width
 pub no-width : (b : ℕ) (table : List ℕ) → isWidth b ≡ false → NoWidth ≡ fieldsChecked b table
@@ -56,18 +57,19 @@ module _ (b : ℕ) (table : List ℕ) (wide : isWidth b ≡ true) where
 -- the promises: equality with what is computed, what it means, and the papers' numbers
 pub promised : (b : ℕ) (table : List ℕ) {x : FieldsCheck} → x ≡ fieldsChecked b table
     → (x ≡ fieldsChecked b table) × (Meant b table x × (toldFields x ≡ fieldsTold b table))
-unfolding fieldsChecked toldFields useTold fieldsTold saying
+unfolding fieldsChecked toldFields toldFirstUse fieldsTold saying
 promised b table {x} is =
     let ill = illFormedRow b table in
     let wrong = wrongRow table in
-    (is, (meant b table x is, ap toldFields is ∙ tell (isWidth b) (lengthFits table) (eqb ill 0) (eqb wrong 0) (firstUse table) ill wrong))
+    let so = tell (isWidth b) (lengthFits table) (eqb ill 0) (eqb wrong 0) (firstUse table) ill wrong (first-use-told table) in
+    (is, (meant b table x is, ap toldFields is ∙ so))
   where
-    tell : (w x y z : Bool) (u : FirstUse) (ill wrong : ℕ)
+    tell : (w x y z : Bool) (u : FirstUse) (ill wrong : ℕ) {t : Told ℕ} → toldFirstUse u ≡ t
         → toldFields (cond w (cond x (cond y (cond z (saying u) (WrongKind wrong)) (IllFormed ill)) BadLength) NoWidth)
-        ≡ cond w (cond x (cond y (cond z (useTold u) (tells 30 (wrong ∷ []))) (gives ill)) (refuses 1)) (refuses 31)
-    tell true true true true (At r n) ill wrong = refl
-    tell true true true true Nowhere ill wrong = refl
-    tell true true true false u ill wrong = refl
-    tell true true false z u ill wrong = refl
-    tell true false y z u ill wrong = refl
-    tell false x y z u ill wrong = refl
+        ≡ cond w (cond x (cond y (cond z t (tells 30 (wrong ∷ []))) (gives ill)) (refuses 1)) (refuses 31)
+    tell true true true true (At r n) ill wrong k = k
+    tell true true true true Nowhere ill wrong k = k
+    tell true true true false u ill wrong k = refl
+    tell true true false z u ill wrong k = refl
+    tell true false y z u ill wrong k = refl
+    tell false x y z u ill wrong k = refl

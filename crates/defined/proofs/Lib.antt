@@ -15,5 +15,6 @@ pub mod Witness
 pub mod Decides
 pub mod Reading
 pub mod Loops
+pub mod Telling
 pub mod Answering
 pub mod Theorem

@@ -16,7 +16,7 @@ use Rattle.defined.specs.declared.FirstUse.{FirstUse}
 use Rattle.defined.specs.declared.FirstUse.the-variants.{At, Nowhere}
 use Rattle.defined.specs.Kinds.{wrongRow}
 use Rattle.defined.specs.Paths.{SomeUse, ToldUse}
-use Rattle.defined.specs.Search.{firstUse}
+use Rattle.defined.specs.Search.{firstUse, firstUseTold}
 
 -- the table check's own answer for a table whose length fits: the lowest ill-formed row, 0 if there is none
 abbrev pub illFormedRow : ℕ → List ℕ → ℕ
@@ -62,17 +62,13 @@ toldFields BadLength = refuses 1
 toldFields (IllFormed r) = gives r
 toldFields (WrongKind r) = tells 30 (r ∷ [])
 
-unfoldable pub useTold : FirstUse → Told ℕ
-useTold (At r n) = tells 0 (r ∷ n ∷ [])
-useTold Nowhere = tells 0 []
-
 -- what the check tells, in the order 31, 1, the table check's own row, 30, no or yes
 unfoldable pub fieldsTold : ℕ → List ℕ → Told ℕ
 fieldsTold b table =
     cond (isWidth b)
     (cond (lengthFits table)
     (cond (eqb (illFormedRow b table) 0)
-    (cond (eqb (wrongRow table) 0) (useTold (firstUse table)) (tells 30 (wrongRow table ∷ [])))
+    (cond (eqb (wrongRow table) 0) (firstUseTold table) (tells 30 (wrongRow table ∷ [])))
     (gives (illFormedRow b table)))
     (refuses 1))
     (refuses 31)

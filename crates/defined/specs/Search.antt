@@ -9,6 +9,7 @@ use mathlib.Core.Bool.{Bool, cond}
 use mathlib.Core.List.{List, [], _∷_}
 use lib.Dec.{eqb}
 use lib.ListN.{getD, set, replicate}
+use Rattle.word.specs.Told.{Told, tells, gives}
 use Rattle.word.specs.Word.{either, both, differing}
 use Rattle.table.specs.declared.FieldName.{FieldName}
 use Rattle.table.specs.declared.Row.{Row}
@@ -195,3 +196,36 @@ lowestUse table marks = lowestUsing (rows table - 1) table 1 marks
 -- the lowest row that uses a field that is not defined on some path to it, and its first such field
 unfoldable pub firstUse : List ℕ → FirstUse
 firstUse table = lowestUse table (finalMarks table)
+
+-- what the search answers in numbers: 0 and the field, 0 and no value where there is none. The papers give these answers no other number
+unfoldable pub toldUsed : Used → Told ℕ
+toldUsed (Field n) = gives n
+toldUsed Nothing = tells 0 []
+
+-- the same of the lowest row: 0, the row and the field, or no values
+unfoldable pub toldFirstUse : FirstUse → Told ℕ
+toldFirstUse (At r n) = tells 0 (r ∷ n ∷ [])
+toldFirstUse Nowhere = tells 0 []
+
+-- what the definitions above tell: the first of these fields, that of row r, the lowest row's of count rows from row r on, of all rows, and with the
+-- sets that the search finds
+unfoldable pub firstTold : List FieldName → ℕ → Told ℕ
+firstTold [] x = tells 0 []
+firstTold (f ∷ fs) x = cond (has x (f .0)) (gives (f .0)) (firstTold fs x)
+
+unfoldable pub useTold : List ℕ → ℕ → ℕ → Told ℕ
+useTold table r x = cond (isKind table 1 r) (tells 0 []) (firstTold (fieldsOf (rowAt table r)) x)
+
+unfoldable pub laterTold : ℕ → Used → Told ℕ → Told ℕ
+laterTold r (Field n) t = tells 0 (r ∷ n ∷ [])
+laterTold r Nothing t = t
+
+unfoldable pub usingTold : ℕ → List ℕ → ℕ → Sets → Told ℕ
+usingTold zero table r marks = tells 0 []
+usingTold (suc count) table r marks = laterTold r (useAt table r (setAt marks r)) (usingTold count table (suc r) marks)
+
+unfoldable pub lowestTold : List ℕ → Sets → Told ℕ
+lowestTold table marks = usingTold (rows table - 1) table 1 marks
+
+unfoldable pub firstUseTold : List ℕ → Told ℕ
+firstUseTold table = lowestTold table (finalMarks table)

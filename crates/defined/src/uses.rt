@@ -7,7 +7,7 @@ ghost use Rattle.table.specs.Reference.{isReference, namesOf};
 ghost use Rattle.table.specs.Row.{rows};
 ghost use Rattle.defined.specs.Answer.{Accepted};
 ghost use Rattle.defined.specs.Paths.{pairFields, fieldsOf};
-ghost use Rattle.defined.specs.Search.{firstIn, useAt, lowestUse, firstUse};
+ghost use Rattle.defined.specs.Search.{toldUsed, toldFirstUse, firstTold, useTold, lowestTold, firstUseTold};
 use super::kinds::kind_at;
 use super::marks::marks;
 use super::sets::contains;
@@ -32,7 +32,7 @@ fn wide(n: u8) -> u64
 // The first of these names that is in the set.
 fn name_in(names: Names, x: u64) -> Used
     requires { ⌜ length (names .fields) ≡ 5 ⌝ }
-    ensures { λ r. ⌜ r ≡ firstIn (namesOf names .fields) x ⌝ }
+    ensures { λ r. ⌜ toldUsed r ≡ firstTold (namesOf names .fields) x ⌝ }
 {
     let mut i = names.from;
     while i < 5 {
@@ -48,7 +48,7 @@ fn name_in(names: Names, x: u64) -> Used
 // That of a pair, which may be a reference.
 fn pair_use(p: Pair, x: u64) -> Used
     requires { ⌜ (p .form ≡ 2 → isReference (p .value) ≡ true) ⌝ }
-    ensures { λ r. ⌜ r ≡ firstIn (pairFields p) x ⌝ }
+    ensures { λ r. ⌜ toldUsed r ≡ firstTold (pairFields p) x ⌝ }
 {
     if p.form != codes::REFERENCE {
         return Used::Nothing;
@@ -61,7 +61,7 @@ fn row_use(row: Row, x: u64) -> Used
     requires { ⌜ (row .first .form ≡ 2 → isReference (row .first .value) ≡ true)
         × (row .second .form ≡ 2 → isReference (row .second .value) ≡ true)
         × (row .third .form ≡ 2 → isReference (row .third .value) ≡ true) ⌝ }
-    ensures { λ r. ⌜ r ≡ firstIn (fieldsOf row) x ⌝ }
+    ensures { λ r. ⌜ toldUsed r ≡ firstTold (fieldsOf row) x ⌝ }
 {
     let first = pair_use(row.first, x);
     if let Used::Field(n) = first {
@@ -77,7 +77,7 @@ fn row_use(row: Row, x: u64) -> Used
 // That of a row that is a test or an operation.
 fn use_at(table: &[u64], r: u64, x: u64) -> Used
     requires { ⌜ Accepted (now table) × (0 < r) × (r < rows (now table)) ⌝ }
-    ensures { λ u. ⌜ u ≡ useAt (now (table .entry)) r x ⌝ }
+    ensures { λ u. ⌜ toldUsed u ≡ useTold (now (table .entry)) r x ⌝ }
 {
     if kind_at(table, r) == codes::LINE {
         return Used::Nothing;
@@ -88,7 +88,7 @@ fn use_at(table: &[u64], r: u64, x: u64) -> Used
 // The lowest row that uses a field in its set.
 fn lowest_use(table: &[u64], marks: &[u64; MOST]) -> FirstUse
     requires { ⌜ Accepted (now table) ⌝ }
-    ensures { λ u. ⌜ u ≡ lowestUse (now (table .entry)) (now (marks .entry)) ⌝ }
+    ensures { λ u. ⌜ toldFirstUse u ≡ lowestTold (now (table .entry)) (now (marks .entry)) ⌝ }
 {
     let rows = (table.len() / NUMBERS) as u64;
     let mut r = 1;
@@ -106,7 +106,7 @@ fn lowest_use(table: &[u64], marks: &[u64; MOST]) -> FirstUse
 // The lowest row that some path reaches with a reference to a field that is not defined there.
 pub fn first_use(table: &[u64]) -> FirstUse
     requires { ⌜ Accepted (now table) ⌝ }
-    ensures { λ u. ⌜ u ≡ firstUse (now (table .entry)) ⌝ }
+    ensures { λ u. ⌜ toldFirstUse u ≡ firstUseTold (now (table .entry)) ⌝ }
 {
     let at = marks(table);
     lowest_use(table, &at)

@@ -3,6 +3,7 @@ use mathlib.Core.Path.{sym, _∙_}
 use Rattle.word.proofs.Tests.{known-true, known-false}
 use Rattle.defined.proofs.Answering.{no-width, bad-length, ill-formed, wrong-kind, accepted, answers-no, answers-yes}
 use Rattle.defined.proofs.Answering.{promised}
+use Rattle.defined.proofs.Telling.{first-use-is}
 use borrow.Author.Needs.{needs}
 use Rattle.defined.proofs.check_fields.Statement.{statement}
 use Rattle.defined.proofs.check_fields.Tie as tie
@@ -70,7 +71,7 @@ returns-5 c =
     let wide = known-true (at-if1 .before .is-width .ensures) (at-if1 .if1 .left) in
     let long = known-true (at-if2 .before .has-length .ensures) (at-if2 .if2 .left) in
     promised _ _ (answers-yes _ _ wide long (at-if3 .before .lowest-ill-formed .ensures) (at-if3 .if3 .left)
-    (sym (at-if4 .before .wrong-row .ensures) ∙ at-if4 .if4 .left) (rw (c .enum-told .given .1) at (at-first-use .first-use .ensures)))
+    (sym (at-if4 .before .wrong-row .ensures) ∙ at-if4 .if4 .left) (rw (c .enum-told .given .1) at (first-use-is _ (at-first-use .first-use .ensures))))
 
 returns-6 : tie.Need-returns-6
 returns-6 c =
@@ -84,7 +85,7 @@ returns-6 c =
     let long = known-true (at-if2 .before .has-length .ensures) (at-if2 .if2 .left) in
     promised _ _ (answers-no _ _ wide long (at-if3 .before .lowest-ill-formed .ensures) (at-if3 .if3 .left)
     (sym (at-if4 .before .wrong-row .ensures) ∙ at-if4 .if4 .left) _ _
-    (rw (at-first .first .given .1) at (at-first-use .first-use .ensures)))
+    (rw (at-first .first .given .1) at (first-use-is _ (at-first-use .first-use .ensures))))
 
 pub check-fields-spec : {M : Type 1} → statement M
 check-fields-spec =

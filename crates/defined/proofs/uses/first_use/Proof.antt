@@ -1,6 +1,6 @@
 -- `defined::uses::first_use` meets its contract. Assumes nothing.
 use mathlib.Core.Path.{_≡_, ap, _∙_}
-use Rattle.defined.specs.Search.{lowestUse, firstUse}
+use Rattle.defined.specs.Search.{lowestTold, firstUseTold}
 use borrow.Author.Needs.{needs}
 use Rattle.defined.proofs.uses.first_use.Statement.{statement}
 use Rattle.defined.proofs.uses.first_use.Tie as tie
@@ -12,12 +12,12 @@ lowest-use-requires : tie.Need-lowest-use-requires
 lowest-use-requires c κs = c .before .before .before .pre
 
 returns : tie.Need-returns
-unfolding firstUse
+unfolding firstUseTold
 returns c =
     let at-lowest-use = c .lowest-use in
     let at-args = c .before .before .before .before .args in
     let at-marks = c .before .before .marks in
-    at-lowest-use .ensures ∙ ap (lowestUse (at-args .table .now)) (at-marks .ensures)
+    at-lowest-use .ensures ∙ ap (lowestTold (at-args .table .now)) (at-marks .ensures)
 
 pub first-use-spec : {M : Type 1} → statement M
 first-use-spec =

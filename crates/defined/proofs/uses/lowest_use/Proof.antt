@@ -1,5 +1,6 @@
 -- `defined::uses::lowest_use` meets its contract. The invariant: what is left of the rows gives what all give. Assumes nothing.
 use Rattle.defined.proofs.Loops.{lowest-here, lowest-later, lowest-none, rows-inside}
+use Rattle.defined.proofs.Telling.{use-is, lowest-tells}
 use native.Mathlib.Omega.{arith}
 use mathlib.Core.Path.{_≡_, refl, sym, _∙_}
 use Rattle.defined.specs.Search.{lowestUsing, lowestUse}
@@ -51,8 +52,8 @@ returns c =
     let at-loop = c .before .before .before .before .before .before .loop in
     let at-used = c .before .used in
     let at-use-at = c .before .before .before .use-at in
-    lowest-here (at-args .table .now) (at-loop .r) (at-args .marks .now) _ (omega arith) (rw (at-used .given .1) at (at-use-at .ensures)) ∙ sym
-    (at-loop .inv .1)
+    lowest-tells _ _ (lowest-here (at-args .table .now) (at-loop .r) (at-args .marks .now) _ (omega arith)
+    (rw (at-used .given .1) at (use-is _ _ _ (at-use-at .ensures))) ∙ sym (at-loop .inv .1))
 
 enum-told : tie.Need-enum-told Inv-loop μ-loop
 enum-told c = search needs
@@ -71,7 +72,7 @@ loop-again c =
     let at-use-at = c .before .before .use-at in (
       omega arith,
       rw add-one (at-loop .inv .1 ∙ lowest-later (at-args .table .now) (at-loop .r) (at-args .marks .now) (omega arith)
-          (rw (at-enum-told .given .1) at (at-use-at .ensures))),
+          (rw (at-enum-told .given .1) at (use-is _ _ _ (at-use-at .ensures)))),
     )
 
 returns-2 : tie.Need-returns-2 Inv-loop μ-loop
@@ -79,7 +80,7 @@ unfolding lowestUse
 returns-2 c =
     let at-args = c .before .before .before .args in
     let at-loop = c .before .loop in
-    lowest-none (at-args .table .now) (at-loop .r) (at-args .marks .now) (omega arith) ∙ sym (at-loop .inv .1)
+    lowest-tells _ _ (lowest-none (at-args .table .now) (at-loop .r) (at-args .marks .now) (omega arith) ∙ sym (at-loop .inv .1))
 
 pub lowest-use-spec : {M : Type 1} → statement M
 lowest-use-spec =

@@ -1,5 +1,6 @@
 -- `defined::uses::name_in` meets its contract. The invariant: the names that are left give what all give. Assumes nothing.
 use Rattle.defined.proofs.Loops.{first-here, first-later, first-none}
+use Rattle.defined.proofs.Telling.{first-tells}
 use native.Mathlib.Omega.{arith}
 use mathlib.Core.Path.{_≡_, refl, ap, sym, _∙_}
 use Rattle.defined.specs.declared.Used.the-variants.{Field}
@@ -45,9 +46,9 @@ returns c =
     let at-contains = c .before .before .contains in
     let at-if1 = c .before .if1 in
     let names = at-args .t1 in
-    ap Field (at-wide2 .ensures)
+    first-tells _ _ (ap Field (at-wide2 .ensures)
     ∙ first-here (names .fields) (at-args .x) (at-loop .i) (at-pre) (record { 0 = 0 }) (omega arith)
-    (ap (λ n. has (at-args .x) n) (sym (at-wide .ensures)) ∙ sym (at-contains .ensures) ∙ at-if1 .taken) ∙ sym (at-loop .inv)
+    (ap (λ n. has (at-args .x) n) (sym (at-wide .ensures)) ∙ sym (at-contains .ensures) ∙ at-if1 .taken) ∙ sym (at-loop .inv))
 
 add-i : tie.Need-add-i Inv-loop μ-loop
 add-i c = omega arith
@@ -75,7 +76,7 @@ returns-2 c =
     let at-args = start .args in
     let at-loop = c .before .loop in
     let at-pre = start .pre in
-    first-none (at-args .t1 .fields) (at-args .x) (at-loop .i) (at-pre) (record { 0 = 0 }) (omega arith) ∙ sym (at-loop .inv)
+    first-tells _ _ (first-none (at-args .t1 .fields) (at-args .x) (at-loop .i) (at-pre) (record { 0 = 0 }) (omega arith) ∙ sym (at-loop .inv))
 
 pub name-in-spec : {M : Type 1} → statement M
 name-in-spec =

@@ -1,12 +1,13 @@
 -- `defined::uses::pair_use` meets its contract. Assumes nothing.
 use Rattle.defined.proofs.Reading.{pair-not, pair-is}
+use Rattle.defined.proofs.Telling.{first-tells, first-is}
 use native.Mathlib.Omega.{arith}
 use borrow.Author.Needs.{needs}
 use Rattle.defined.proofs.uses.pair_use.Statement.{statement}
 use Rattle.defined.proofs.uses.pair_use.Tie as tie
 
 returns : tie.Need-returns
-returns c = pair-not _ _ (omega arith)
+returns c = first-tells _ _ (pair-not _ _ (omega arith))
 
 names-in-requires : tie.Need-names-in-requires
 names-in-requires c κs = c .before .before .pre (omega arith)
@@ -18,7 +19,7 @@ returns-2 : tie.Need-returns-2
 returns-2 c =
     let at-names-in = c .before .names-in in
     let at-name-in = c .name-in in
-    pair-is _ _ (at-names-in .result) (omega arith) (at-names-in .ensures .0) (at-name-in .ensures)
+    first-tells _ _ (pair-is _ _ (at-names-in .result) (omega arith) (at-names-in .ensures .0) (first-is _ _ (at-name-in .ensures)))
 
 pub pair-use-spec : {M : Type 1} → statement M
 pair-use-spec =

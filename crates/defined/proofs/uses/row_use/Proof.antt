@@ -1,5 +1,6 @@
 -- `defined::uses::row_use` meets its contract. Assumes nothing.
 use Rattle.defined.proofs.Reading.{first-uses, second-uses, third-uses}
+use Rattle.defined.proofs.Telling.{first-tells, first-is}
 use mathlib.Core.Path.{_≡_, sym, _∙_}
 use borrow.Author.Needs.{needs}
 use Rattle.defined.proofs.uses.row_use.Statement.{statement}
@@ -15,7 +16,7 @@ returns : tie.Need-returns
 returns c =
     let at-first = c .before .first in
     let at-pair-use = c .before .before .before .pair-use in
-    first-uses _ _ _ (rw (at-first .given .1) at (at-pair-use .ensures))
+    first-tells _ _ (first-uses _ _ _ (rw (at-first .given .1) at (first-is _ _ (at-pair-use .ensures))))
 
 enum-told : tie.Need-enum-told
 enum-told c = search needs
@@ -32,7 +33,8 @@ returns-2 c =
     let at-pair-use = c .before .before .before .before .before .before .pair-use in
     let at-second = c .before .second in
     let at-pair-use2 = c .before .before .before .pair-use2 in
-    second-uses _ _ _ (rw (at-enum-told .given .1) at (at-pair-use .ensures)) (rw (at-second .given .1) at (at-pair-use2 .ensures))
+    first-tells _ _ (second-uses _ _ _ (rw (at-enum-told .given .1) at (first-is _ _ (at-pair-use .ensures)))
+    (rw (at-second .given .1) at (first-is _ _ (at-pair-use2 .ensures))))
 
 enum-told-2 : tie.Need-enum-told-2
 enum-told-2 c = search needs
@@ -47,7 +49,8 @@ returns-3 c =
     let at-enum-told2 = c .before .enum-told2 in
     let at-pair-use2 = c .before .before .before .pair-use2 in
     let at-pair-use3 = c .pair-use3 in
-    third-uses _ _ (rw (at-enum-told .given .1) at (at-pair-use .ensures)) (rw (at-enum-told2 .given .1) at (at-pair-use2 .ensures)) (at-pair-use3 .ensures)
+    first-tells _ _ (third-uses _ _ (rw (at-enum-told .given .1) at (first-is _ _ (at-pair-use .ensures)))
+    (rw (at-enum-told2 .given .1) at (first-is _ _ (at-pair-use2 .ensures))) (first-is _ _ (at-pair-use3 .ensures)))
 
 pub row-use-spec : {M : Type 1} → statement M
 row-use-spec =

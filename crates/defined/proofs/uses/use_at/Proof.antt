@@ -1,5 +1,6 @@
 -- `defined::uses::use_at` meets its contract. Assumes nothing.
 use Rattle.defined.proofs.Loops.{row-taken, row-passed, row-there, references-at}
+use Rattle.defined.proofs.Telling.{use-tells, first-is}
 use mathlib.Core.Path.{_≡_, refl, ap, sym, _∙_}
 use Rattle.defined.specs.Paths.{fieldsOf}
 use Rattle.defined.specs.Search.{firstIn, useAt}
@@ -12,7 +13,7 @@ kind-at-requires c κs = c .before .pre .0 .passes .long
 
 returns : tie.Need-returns
 unfolding useAt
-returns c = row-taken _ _ _ _ (sym (c .before .kind-at .ensures) ∙ c .if1 .taken) refl
+returns c = use-tells _ _ _ (row-taken _ _ _ _ (sym (c .before .kind-at .ensures) ∙ c .if1 .taken) refl)
 
 row-of-requires : tie.Need-row-of-requires
 row-of-requires c κs =
@@ -39,8 +40,8 @@ returns-2 c =
     let at-row-use = c .row-use in
     let at-args = c .before .before .before .before .before .args in
     let at-row-of = c .before .row-of in
-    row-passed _ _ _ _ (λ e. at-if1 .left (at-kind-at .ensures ∙ e))
-    (at-row-use .ensures ∙ ap (λ row. firstIn (fieldsOf row) (at-args .x)) (at-row-of .ensures))
+    use-tells _ _ _ (row-passed _ _ _ _ (λ e. at-if1 .left (at-kind-at .ensures ∙ e))
+    (first-is _ _ (at-row-use .ensures) ∙ ap (λ row. firstIn (fieldsOf row) (at-args .x)) (at-row-of .ensures)))
 
 pub use-at-spec : {M : Type 1} → statement M
 use-at-spec =
