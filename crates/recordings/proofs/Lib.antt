@@ -4,6 +4,7 @@ pub mod Chain
 pub mod Standing
 pub mod Pairs
 pub mod Stops
+pub mod Telling
 pub mod Loops
 pub mod Held
 pub mod Links

@@ -12,9 +12,9 @@ use lib.Seq.{take-length}
 use Rattle.recordings.specs.declared.Least.{Least}
 use Rattle.recordings.specs.declared.Least.the-variants.{Nothing}
 use Rattle.recordings.specs.Recordings.{rowCount, numberOf, nextOf, stopOf, zerosAfter, nextsInside, isList, chain}
-use Rattle.recordings.specs.Walking.{stops, lesser, LeastOf}
+use Rattle.recordings.specs.Walking.{stops, lesser}
 use Rattle.recordings.proofs.Chain.{At, at-passed}
-use Rattle.recordings.proofs.Stops.{least-none, least-more}
+use Rattle.recordings.proofs.Stops.{LeastOf, least-none, least-more}
 
 -- the next index of the rows below a row, by that of the row before it
 module _ (xs : List ℕ) (row next : ℕ) (some : 0 < row) (is : next ≡ numberOf xs (row - 1) 0) where

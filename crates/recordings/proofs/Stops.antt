@@ -11,10 +11,15 @@ use Rattle.word.proofs.Tests.{by-test, by-eqb, by-leb}
 use Rattle.recordings.specs.declared.Least.{Least}
 use Rattle.recordings.specs.declared.Least.the-variants.{Stop, Nothing}
 use Rattle.recordings.specs.Recordings.{stopOf, member, hasTwice, standing, standingRows, chain, allStanding}
-use Rattle.recordings.specs.Walking.{stops, from, lesser, LeastOf}
+use Rattle.recordings.specs.Walking.{stops, from, lesser}
 use Rattle.recordings.proofs.Counting.{member-first, member-last, each-last, no-both, above, above-all, above-same}
 use Rattle.recordings.proofs.Counting.{above-none, above-once}
 use Rattle.recordings.proofs.Standing.{standing-stop, no-more}
+
+-- the least of these numbers that is not below a bound, or that there is none
+unfoldable pub LeastOf : ℕ → List ℕ → Least → Type 0
+LeastOf low l Nothing = (x : ℕ) → member x l ≡ true → x < low
+LeastOf low l (Stop found) = (low ≤ found) × (member found l ≡ true) × ((x : ℕ) → member x l ≡ true → low ≤ x → found ≤ x)
 
 module _ (xs : List ℕ) where
   -- a stop seen before is not among those of the standing rows

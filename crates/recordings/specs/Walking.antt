@@ -1,17 +1,18 @@
 -- What the contracts of inner functions name besides: the chain walked, rows entered one after the other, the chains of places by which a
 -- stop is found again, the least stop from a bound on. Assumes nothing.
 use Prim.Native.Nat.{ℕ, zero, suc, _+_, _*_, _/_, _%_, _<_, _≤_}
-use mathlib.Core.Bool.{true, false, _&&_, cond}
+use mathlib.Core.Bool.{Bool, true, false, _&&_, cond}
 use mathlib.Core.List.{List, [], _∷_, map}
 use mathlib.Core.Path.{_≡_}
 use lib.Dec.{eqb, leb, ltb}
 use lib.ListN.{length, drop, getD, set}
+use Rattle.word.specs.Told.{Told, tells, gives}
 use Rattle.recordings.specs.declared.Written.{Written}
 use Rattle.recordings.specs.declared.Few.{Few}
-use Rattle.recordings.specs.declared.Few.the-variants.{Told, Many}
+use Rattle.recordings.specs.declared.Few.the-variants as few
 use Rattle.recordings.specs.declared.Least.{Least}
 use Rattle.recordings.specs.declared.Least.the-variants.{Stop, Nothing}
-use Rattle.recordings.specs.Recordings.{numberOf, stopOf, dayOf, recordingOf, rowCount, isList, chain, member, hasTwice, allStanding, pairs}
+use Rattle.recordings.specs.Recordings.{numberOf, stopOf, dayOf, recordingOf, rowCount, isList, chain, hasTwice, allStanding, pairs}
 use Rattle.recordings.specs.Recordings.{correcting, toldWritten, correctingTold}
 
 -- a list that is not refused by 26, with the length of its chain
@@ -170,10 +171,21 @@ pub record FewNoted (xs : List ℕ) (n : ℕ) (after : List ℕ) : Type 0 where
   pub noted : n ≤ 1023 → Noted (allStanding xs) n after after
   pub many : 1023 < n → ManyStops xs
 
--- an answer for few stops, or an output as it was
-unfoldable pub FewWritten : List ℕ → List ℕ → List ℕ → Few → Type 0
-FewWritten xs before after (Told answer) = Answered xs before answer after
-FewWritten xs before after Many = (after ≡ before) × ManyStops xs
+-- a chain that ends, with so few stops
+unfoldable pub hasFew : List ℕ → Bool
+hasFew xs = ltb (length (chain xs)) (rowCount xs) && leb (length (allStanding xs)) 1023
+
+-- an answer for few stops in numbers: the call's own, or 0 and no value where there are more. The papers give that case no number
+unfoldable pub toldFew : Few → Told ℕ
+toldFew (few.Told answer) = toldWritten answer
+toldFew few.Many = tells 0 []
+
+-- what is told of few stops, and the output with these written, or as it was
+unfoldable pub fewTold : List ℕ → List ℕ → Told ℕ
+fewTold xs output = cond (hasFew xs) (correctingTold xs output) (tells 0 [])
+
+unfoldable pub fewOutput : List ℕ → List ℕ → List ℕ
+fewOutput xs output = cond (hasFew xs) (correcting xs output .output) output
 
 -- the least number that is greater than what was found before, where there was something
 unfoldable pub from : Least → ℕ
@@ -185,7 +197,20 @@ unfoldable pub lesser : ℕ → Least → ℕ → Least
 lesser low Nothing stop = cond (leb low stop) (Stop stop) Nothing
 lesser low (Stop found) stop = cond (leb low stop && ltb stop found) (Stop stop) (Stop found)
 
--- the least of these numbers that is not below a bound, or that there is none
-unfoldable pub LeastOf : ℕ → List ℕ → Least → Type 0
-LeastOf low l Nothing = (x : ℕ) → member x l ≡ true → x < low
-LeastOf low l (Stop found) = (low ≤ found) × (member found l ≡ true) × ((x : ℕ) → member x l ≡ true → low ≤ x → found ≤ x)
+-- the least of these numbers that is not below a bound, and of what was found before them
+unfoldable pub leastFrom : ℕ → Least → List ℕ → Least
+leastFrom low found [] = found
+leastFrom low found (x ∷ xs) = leastFrom low (lesser low found x) xs
+
+-- a least stop in numbers: 0 and the stop, 0 and no value where there is none. The papers give this answer no other number
+unfoldable pub toldLeast : Least → Told ℕ
+toldLeast (Stop x) = gives x
+toldLeast Nothing = tells 0 []
+
+-- what is told of the lesser, and of the least of these numbers that is not below a bound
+unfoldable pub lesserTold : ℕ → Least → ℕ → Told ℕ
+lesserTold low Nothing stop = cond (leb low stop) (gives stop) (tells 0 [])
+lesserTold low (Stop found) stop = cond (leb low stop && ltb stop found) (gives stop) (gives found)
+
+unfoldable pub leastTold : ℕ → List ℕ → Told ℕ
+leastTold low xs = toldLeast (leastFrom low Nothing xs)

@@ -7,8 +7,8 @@ ghost use lib.Dec.{leb};
 ghost use lib.ListN.{length, drop};
 ghost use Rattle.recordings.specs.Recordings.{rowCount, numberOf, zerosAfter, nextsInside, isList, chain};
 ghost use Rattle.recordings.specs.Recordings.{allStanding, correcting, toldWritten, correctingTold};
-ghost use Rattle.recordings.specs.Walking.{Walked, Noted, Fresh, stops, from, lesser, LeastOf};
-ghost use Rattle.recordings.specs.Walking.{withRow, allWritten, Answered, FewNoted, FewWritten, ManyStops};
+ghost use Rattle.recordings.specs.Walking.{Walked, Noted, Fresh, stops, from, toldLeast, lesserTold, leastTold};
+ghost use Rattle.recordings.specs.Walking.{withRow, allWritten, Answered, FewNoted, ManyStops, toldFew, fewTold, fewOutput};
 use places::enter;
 use places::first_of;
 use places::grow;
@@ -127,7 +127,7 @@ fn is_after(last: Least, stop: u64) -> bool
 
 // The lesser of what was found and a stop, unless the stop is no greater than the last one.
 fn lesser_of(last: Least, found: Least, stop: u64) -> Least
-    ensures { λ r. ⌜ r ≡ lesser (from last) found stop ⌝ }
+    ensures { λ r. ⌜ toldLeast r ≡ lesserTold (from last) found stop ⌝ }
 {
     if !is_after(last, stop) {
         return found;
@@ -141,7 +141,7 @@ fn lesser_of(last: Least, found: Least, stop: u64) -> Least
 // The least stop of the chain that is greater than the last one.
 fn next_stop(list: &[u64], steps: usize, last: Least) -> Least
     requires { ⌜ Walked (now list) steps ⌝ }
-    ensures { λ r. ⌜ LeastOf (from last) (stops (now (list .entry)) (chain (now (list .entry)))) r ⌝ }
+    ensures { λ r. ⌜ toldLeast r ≡ leastTold (from last) (stops (now (list .entry)) (chain (now (list .entry)))) ⌝ }
 {
     let mut found = Least::Nothing;
     let mut row = number_of(list, 0, NEXT);
@@ -292,7 +292,8 @@ fn put_few(list: &[u64], count: usize, pairs: &[u64], output: &mut [u64])
 // Answers for a list with few stops by one walk along its chain.
 fn write_few(list: &[u64], output: &mut [u64]) -> Few
     requires { ⌜ isList (now list) ≡ true ⌝ }
-    ensures { λ r. ⌜ FewWritten (now (list .entry)) (now (output .entry)) (now (output .exit)) r ⌝ }
+    ensures { λ r. ⌜ (toldFew r ≡ fewTold (now (list .entry)) (now (output .entry)))
+        × (now (output .exit) ≡ fewOutput (now (list .entry)) (now (output .entry))) ⌝ }
 {
     let mut pairs = no_pairs();
     let mut heads = few_heads();

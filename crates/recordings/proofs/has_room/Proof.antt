@@ -9,6 +9,7 @@ use Rattle.recordings.specs.Recordings.{allStanding}
 use Rattle.recordings.specs.Walking.{stops, from}
 use Rattle.recordings.proofs.Counting.{above}
 use Rattle.recordings.proofs.Stops.{room-for-all, room-start, room-none, room-short, room-next}
+use Rattle.recordings.proofs.Telling.{least-is}
 use borrow.Author.Needs.{needs}
 use Rattle.recordings.proofs.has_room.Statement.{statement}
 use Rattle.recordings.proofs.has_room.Tie as tie
@@ -42,13 +43,13 @@ enum-told c = search needs
 returns-3 : tie.Need-returns-3 Inv-loop μ-loop
 returns-3 c =
     let at-loop = c .before .before .before in
-    sym (room-none _ _ _ (rw (c .enum-told .given .1) at (c .before .before .next-stop .ensures))) ∙ at-loop .loop .inv
+    sym (room-none _ _ _ (rw (c .enum-told .given .1) at (least-is _ _ _ (c .before .before .next-stop .ensures)))) ∙ at-loop .loop .inv
 
 returns-4 : tie.Need-returns-4 Inv-loop μ-loop
 returns-4 c =
     let at-stop = c .before .before in
     let at-next-stop = at-stop .before .before in
-    sym (room-short _ _ _ _ (rw (at-stop .stop .given .1) at (at-next-stop .next-stop .ensures)) (c .if3 .taken)) ∙ at-next-stop .before .loop .inv
+    sym (room-short _ _ _ _ (rw (at-stop .stop .given .1) at (least-is _ _ _ (at-next-stop .next-stop .ensures))) (c .if3 .taken)) ∙ at-next-stop .before .loop .inv
 
 sub-left : tie.Need-sub-left Inv-loop μ-loop
 sub-left c = search needs
@@ -60,7 +61,7 @@ loop-again : tie.Need-loop-again Inv-loop μ-loop
 loop-again c =
     let at-stop = c .before .before in
     let at-next-stop = at-stop .before .before in
-    room-next _ _ _ _ (rw (at-stop .stop .given .1) at (at-next-stop .next-stop .ensures)) (c .if3 .left) ∙ at-next-stop .before .loop .inv
+    room-next _ _ _ _ (rw (at-stop .stop .given .1) at (least-is _ _ _ (at-next-stop .next-stop .ensures))) (c .if3 .left) ∙ at-next-stop .before .loop .inv
 
 pub has-room-spec : {M : Type 1} → statement M
 has-room-spec =

@@ -3,9 +3,11 @@ use Prim.Native.Nat.{_≤_, _<_, _-_}
 use native.Mathlib.Omega.{arith}
 use lib.ListN.{length, take}
 use Rattle.recordings.specs.Recordings.{nextOf, stopOf, chain}
-use Rattle.recordings.specs.Walking.{stops, from, LeastOf}
+use Rattle.recordings.specs.Walking.{stops, from}
 use Rattle.recordings.proofs.Chain.{At, at-start, at-next, number-inside, some-row}
 use Rattle.recordings.proofs.Loops.{least-start, least-step, least-end}
+use Rattle.recordings.proofs.Stops.{LeastOf}
+use Rattle.recordings.proofs.Telling.{lesser-is, least-tells}
 use borrow.Author.Needs.{needs}
 use Rattle.recordings.proofs.next_stop.Statement.{statement}
 use Rattle.recordings.proofs.next_stop.Tie as tie
@@ -53,12 +55,14 @@ loop-again c =
     let more : at-loop .loop .i < length (chain (entry .args .list .now)) = omega (arith, entry .pre .all-steps) in (
       rw (c .number-of3 .ensures) (at-next _ (entry .pre .is-list) (at-loop .loop .inv .0) more),
       omega arith,
-      rw (at-lesser-of .lesser-of .ensures, at-number-of2 .number-of2 .ensures)
+      rw (lesser-is _ _ _ (at-lesser-of .lesser-of .ensures), at-number-of2 .number-of2 .ensures)
           (least-step _ _ (entry .pre .is-list) (at-loop .loop .inv .0) more _ (at-loop .loop .inv .2)),
     )
 
 returns : tie.Need-returns Inv-loop μ-loop
-returns c = least-end _ _ (c .before .loop .i) (omega (arith, c .before .before .before .before .pre .all-steps)) _ (c .before .loop .inv .2)
+returns c =
+    let entry = c .before .before .before .before in
+    least-tells _ _ _ (least-end _ _ (c .before .loop .i) (omega (arith, entry .pre .all-steps)) _ (c .before .loop .inv .2))
 
 pub next-stop-spec : {M : Type 1} → statement M
 next-stop-spec =

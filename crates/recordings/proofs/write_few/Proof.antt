@@ -6,9 +6,9 @@ use native.Mathlib.Omega.{arith}
 use borrow.Author.Tests.{le-leb, lt-leb}
 use lib.ListN.{length}
 use Rattle.recordings.specs.Recordings.{allStanding}
-use Rattle.recordings.specs.Walking.{FewWritten}
 use Rattle.recordings.proofs.Calls.{output-short, all-written}
 use Rattle.recordings.proofs.Growing.{noted-count}
+use Rattle.recordings.proofs.Telling.{few-tells, many-tells}
 use borrow.Author.Needs.{needs}
 use Rattle.recordings.proofs.write_few.Statement.{statement}
 use Rattle.recordings.proofs.write_few.Tie as tie
@@ -37,13 +37,11 @@ note-few-requires c κs =
     (entry .pre, omega (arith, at-no-pairs .no-pairs .ensures), at-few-heads .few-heads .ensures .1)
 
 returns : tie.Need-returns
-unfolding FewWritten
 returns c =
     let at-note-few = c .before .before .before in
-    (refl, at-note-few .note-few .ensures .many (c .if1 .taken))
+    many-tells _ _ (at-note-few .note-few .ensures .many (c .if1 .taken))
 
 returns-2 : tie.Need-returns-2
-unfolding FewWritten
 returns-2 c =
     let at-if1 = c .before in
     let at-note-few = at-if1 .before .before .before in
@@ -52,8 +50,8 @@ returns-2 c =
     let ends = at-note-few .note-few .ensures .ends few in
     let xs : List ℕ = entry .args .list .now in
     let all = noted-count (at-note-few .note-few .ensures .noted few) in
-    output-short xs (entry .args .output .now) (entry .pre) refl (λ e. omega arith)
-    (lt-leb (length (allStanding xs)) (length (entry .args .output .now) / 2) (omega (arith, c .if2 .taken)))
+    few-tells xs (entry .args .output .now) ends (omega arith) (output-short xs (entry .args .output .now) (entry .pre) refl (λ e. omega arith)
+    (lt-leb (length (allStanding xs)) (length (entry .args .output .now) / 2) (omega (arith, c .if2 .taken))))
 
 slice-aggregate-put-few : tie.Need-slice-aggregate-put-few
 slice-aggregate-put-few c = search needs
@@ -71,7 +69,6 @@ same-length : tie.Need-same-length
 same-length c = search needs
 
 returns-3 : tie.Need-returns-3
-unfolding FewWritten
 returns-3 c =
     let at-put-few = c .before .before in
     let at-if2 = at-put-few .before .before .before in
@@ -82,9 +79,10 @@ returns-3 c =
     let ends = at-note-few .note-few .ensures .ends few in
     let noted = at-note-few .note-few .ensures .noted few in
     let xs : List ℕ = entry .args .list .now in
-    all-written xs (entry .args .output .now) (entry .pre) refl (λ e. omega arith)
+    few-tells xs (entry .args .output .now) ends (omega (arith, noted-count noted))
+    (all-written xs (entry .args .output .now) (entry .pre) refl (λ e. omega arith)
     (le-leb (length (allStanding xs)) (length (entry .args .output .now) / 2) (omega (arith, noted-count noted, at-if2 .if2 .left)))
-    (noted-count noted) (at-put-few .put-few .ensures)
+    (noted-count noted) (at-put-few .put-few .ensures))
 
 pub write-few-spec : {M : Type 1} → statement M
 write-few-spec =
