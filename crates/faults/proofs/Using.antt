@@ -15,12 +15,13 @@ use Rattle.lines.specs.Words.{isEmpty, all, any, isDone}
 use Rattle.lines.specs.Forms.{isOperation}
 use Rattle.lines.specs.Reading.{front, isBlank, split, tokenAt}
 use Rattle.lines.specs.Program.{calledIn, tooLong}
-use Rattle.lines.specs.Walking.{tokenOf, Within}
+use Rattle.lines.specs.Walking.{tokenOf, Within, toldSpot, spotTold}
 use Rattle.faults.specs.Checking.{parensOn, parensNext, parensIn}
 use Rattle.lines.specs.Walking.{callsIn, callsAt}
 use Rattle.faults.specs.Places.{closeOf, goesTo}
 use Rattle.lines.proofs.Lists.{all-first, all-others}
 use Rattle.lines.proofs.Scanning.{drop-behind, end-inside}
+use Rattle.lines.proofs.Telling.{spot-is}
 
 -- a call by its place
 module _ (p : List ℕ → Bool) (s : List ℕ) (n : ℕ) (calls : List (List ℕ)) (e : callsAt s n ≡ calls) where
@@ -91,8 +92,8 @@ module _ (q : List (List ℕ) → Bool) (s : List ℕ) where
               ∙ ap₂ (λ (n m : ℕ). split (slice n close s) ∷ parensIn (left - 1) (drop m s)) (sym (add-one start)) (sym (add-one close));
         }
 
-    pub parens-close : {close : ℕ} (spot : Spot) → close ≡ closeOf spot → tokenOf s start spot ≡ tokenAt (drop start s) → Within s start spot → Here close
-    parens-close spot e t i = subst (λ (n : ℕ). Here n) (sym e) (paren-here spot t i)
+    pub parens-close : {close : ℕ} (spot : Spot) → close ≡ closeOf spot → toldSpot spot ≡ spotTold s (tokenAt (drop start s)) → Here close
+    parens-close spot e told = let (t, i) = spot-is s start spot told in subst (λ (n : ℕ). Here n) (sym e) (paren-here spot t i)
 
     module _ {close : ℕ} (k : Here close) where
       pub parens-first : q (split (slice (start + 1) close s)) ≡ true

@@ -8,6 +8,7 @@ use mathlib.Core.Option.{Option, none, some}
 use lib.Dec.{eqb, leb}
 use lib.ListN.{length, drop}
 use lib.Seq.{slice}
+use Rattle.word.specs.Told.{Told, tells, gives, refuses}
 use Rattle.faults.specs.declared.Scan.{Scan}
 use Rattle.faults.specs.declared.Walk.{Walk}
 use Rattle.faults.specs.declared.Walk.the-variants.{Start, Broken, Mode, Tests, Then, Operations, End}
@@ -67,6 +68,26 @@ unfoldable pub lineRead : Option Typed → Option Line
 lineRead none = none
 lineRead (some t) = some (t .line)
 
+-- what the reading of a line tells: the line, or 23
+unfoldable pub readTold : Option Typed → Told Line
+readTold none = refuses 23
+readTold (some t) = gives (t .line)
+
+-- a scan in numbers: 0 and the places of the line's parts, or 23
+abbrev pub toldScanned : Scanned → Told Scan
+toldScanned (Good c) = gives c
+toldScanned Bad = refuses 23
+
+-- how far a line is read in numbers: 0, how far and the places so far, or 23 where it is broken. The papers give the steps no numbers: they are 1 to 5
+unfoldable pub toldWalk : Walk → Told (ℕ × Scan)
+toldWalk Start = tells 0 []
+toldWalk Broken = refuses 23
+toldWalk (Mode c) = gives (1, c)
+toldWalk (Tests c) = gives (2, c)
+toldWalk (Then c) = gives (3, c)
+toldWalk (Operations c) = gives (4, c)
+toldWalk (End c) = gives (5, c)
+
 -- the parentheses that come next, up to a number of them, and what follows
 unfoldable pub parensOn : (List ℕ → List (List (List ℕ))) → List ℕ → Token → List (List (List ℕ))
 parensOn more rest (word w) = []
@@ -110,6 +131,10 @@ module _ (s : List ℕ) where
   scannedLine Bad = none
   scannedLine (Good c) = some (lineAt c)
 
+  -- what is told of the line at the places that are told
+  unfoldable pub lineTold : Told Scan → Told Line
+  lineTold (tells n cs) = tells n (map lineAt cs)
+
   unfoldable pub stateAt : Walk → State
   stateAt Start = atStart
   stateAt Broken = broken
@@ -151,9 +176,13 @@ module _ (s : List ℕ) where
   PlacedAt (Operations c) at = Operating c at
   PlacedAt (End c) at = Placed c
 
+  -- places that are told, if any are
+  abbrev pub PlacedTold : Told Scan → Type 0
+  PlacedTold (tells n []) = Unit {0}
+  PlacedTold (tells n (c ∷ cs)) = Placed c
+
   abbrev pub PlacedIn : Scanned → Type 0
-  PlacedIn Bad = Unit {0}
-  PlacedIn (Good c) = Placed c
+  PlacedIn r = PlacedTold (toldScanned r)
 
 -- places set: after a label, after a mode word, after THEN, with a test more, with an operation more, with a go-to
 abbrev pub labelScan : ℕ → ℕ → Scan

@@ -6,8 +6,9 @@ ghost use mathlib.Core.List.{_∷_, []};
 ghost use Rattle.lines.specs.Words.{same};
 ghost use Rattle.lines.specs.Reading.{readLine};
 ghost use Rattle.lines.specs.Walking.{Within};
-ghost use Rattle.faults.specs.Checking.{enteredWalk, goWalk, modeWalk, wordWalk, operationWalk, parenWalk, spotWalk, placeAfter, isNothing, Few};
-ghost use Rattle.faults.specs.Checking.{enoughAt, columnAt, endScan, finishWalk, lineRead, scannedLine, PlacedIn};
+ghost use Rattle.faults.specs.Checking.{enteredWalk, goWalk, modeWalk, wordWalk, operationWalk, parenWalk, spotWalk};
+ghost use Rattle.faults.specs.Checking.{placeAfter, isNothing, Few, enoughAt, columnAt, endScan, finishWalk};
+ghost use Rattle.faults.specs.Checking.{toldWalk, toldScanned, lineTold, readTold, PlacedTold};
 use crate::Scan;
 use crate::Scanned;
 use crate::Walk;
@@ -20,7 +21,7 @@ use table::codes;
 
 // After a mode word.
 fn entered(from: usize, label: usize, mode: u64, end: usize) -> Walk
-    ensures { λ r. ⌜ r ≡ enteredWalk from label mode end ⌝ }
+    ensures { λ r. ⌜ toldWalk r ≡ toldWalk (enteredWalk from label mode end) ⌝ }
 {
     let c = Scan {
         from,
@@ -43,7 +44,7 @@ fn entered(from: usize, label: usize, mode: u64, end: usize) -> Walk
 // A mode word after a label, or without one; another word goes another way.
 fn mode_step(s: &[u8], from: usize, label: usize, at: usize, end: usize, other: Walk) -> Walk
     requires { ⌜ (at ≤ end) × (end ≤ length (now s)) ⌝ }
-    ensures { λ r. ⌜ r ≡ modeWalk (now (s .entry)) from label at end other ⌝ }
+    ensures { λ r. ⌜ toldWalk r ≡ toldWalk (modeWalk (now (s .entry)) from label at end other) ⌝ }
 {
     let mode = kinds::mode_of(&s[at..end]);
     if mode == kinds::NO_MODE {
@@ -55,7 +56,7 @@ fn mode_step(s: &[u8], from: usize, label: usize, at: usize, end: usize, other: 
 // The first word.
 fn first_step(s: &[u8], at: usize, end: usize) -> Walk
     requires { ⌜ (at ≤ end) × (end ≤ length (now s)) ⌝ }
-    ensures { λ r. ⌜ r ≡ wordWalk (now (s .entry)) Walk.Start at end ⌝ }
+    ensures { λ r. ⌜ toldWalk r ≡ toldWalk (wordWalk (now (s .entry)) Walk.Start at end) ⌝ }
 {
     if !kinds::is_label(&s[at..end]) {
         return mode_step(s, 0, 0, at, end, Walk::Broken);
@@ -77,7 +78,7 @@ fn first_step(s: &[u8], at: usize, end: usize) -> Walk
 // A go-to.
 fn go_step(s: &[u8], c: Scan, at: usize, end: usize) -> Walk
     requires { ⌜ (at ≤ end) × (end ≤ length (now s)) ⌝ }
-    ensures { λ r. ⌜ r ≡ goWalk (now (s .entry)) c at end ⌝ }
+    ensures { λ r. ⌜ toldWalk r ≡ toldWalk (goWalk (now (s .entry)) c at end) ⌝ }
 {
     if words::is_same(&s[at..end], b"DONE") | kinds::is_label(&s[at..end]) {
         let mut d = c;
@@ -91,7 +92,7 @@ fn go_step(s: &[u8], c: Scan, at: usize, end: usize) -> Walk
 // After tests: THEN or a go-to.
 fn test_step(s: &[u8], c: Scan, at: usize, end: usize) -> Walk
     requires { ⌜ (at ≤ end) × (end ≤ length (now s)) ⌝ }
-    ensures { λ r. ⌜ r ≡ wordWalk (now (s .entry)) (Walk.Tests c) at end ⌝ }
+    ensures { λ r. ⌜ toldWalk r ≡ toldWalk (wordWalk (now (s .entry)) (Walk.Tests c) at end) ⌝ }
 {
     let mut d = c;
     d.operation = end;
@@ -107,7 +108,7 @@ fn test_step(s: &[u8], c: Scan, at: usize, end: usize) -> Walk
 // A word.
 fn word_step(s: &[u8], walk: Walk, at: usize, end: usize) -> Walk
     requires { ⌜ (at ≤ end) × (end ≤ length (now s)) ⌝ }
-    ensures { λ r. ⌜ r ≡ wordWalk (now (s .entry)) walk at end ⌝ }
+    ensures { λ r. ⌜ toldWalk r ≡ toldWalk (wordWalk (now (s .entry)) walk at end) ⌝ }
 {
     match walk {
         Walk::Start => first_step(s, at, end),
@@ -123,7 +124,7 @@ fn word_step(s: &[u8], walk: Walk, at: usize, end: usize) -> Walk
 // One operation more.
 fn operation_step(b: u64, s: &[u8], c: Scan, at: usize, close: usize) -> Walk
     requires { ⌜ (b ≤ 48) × ((c .operations ≤ at) × ((at < close) × (close < length (now s)))) ⌝ }
-    ensures { λ r. ⌜ r ≡ operationWalk (now (s .entry)) b c at close ⌝ }
+    ensures { λ r. ⌜ toldWalk r ≡ toldWalk (operationWalk (now (s .entry)) b c at close) ⌝ }
 {
     let from = at + 1;
     if !fitting::is_operation(b, &s[from..close]) {
@@ -139,7 +140,7 @@ fn operation_step(b: u64, s: &[u8], c: Scan, at: usize, close: usize) -> Walk
 // One test more.
 fn tested_step(b: u64, s: &[u8], c: Scan, at: usize, close: usize) -> Walk
     requires { ⌜ (b ≤ 48) × ((c .tests ≤ at) × ((at < close) × (close < length (now s)))) ⌝ }
-    ensures { λ r. ⌜ r ≡ parenWalk (now (s .entry)) b (Walk.Tests c) at close ⌝ }
+    ensures { λ r. ⌜ toldWalk r ≡ toldWalk (parenWalk (now (s .entry)) b (Walk.Tests c) at close) ⌝ }
 {
     let from = at + 1;
     if !fitting::is_test(b, &s[from..close]) {
@@ -155,7 +156,7 @@ fn tested_step(b: u64, s: &[u8], c: Scan, at: usize, close: usize) -> Walk
 // A parenthesis.
 fn paren_step(b: u64, s: &[u8], walk: Walk, at: usize, close: usize) -> Walk
     requires { ⌜ (b ≤ 48) × (Few walk at × ((at < close) × (close < length (now s)))) ⌝ }
-    ensures { λ r. ⌜ r ≡ parenWalk (now (s .entry)) b walk at close ⌝ }
+    ensures { λ r. ⌜ toldWalk r ≡ toldWalk (parenWalk (now (s .entry)) b walk at close) ⌝ }
 {
     match walk {
         Walk::Start => Walk::Broken,
@@ -171,7 +172,7 @@ fn paren_step(b: u64, s: &[u8], walk: Walk, at: usize, close: usize) -> Walk
 // A token.
 fn spot_step(b: u64, s: &[u8], walk: Walk, at: usize, spot: Spot) -> Walk
     requires { ⌜ (b ≤ 48) × (Few walk at × Within (now s) at spot) ⌝ }
-    ensures { λ r. ⌜ r ≡ spotWalk (now (s .entry)) b walk at spot ⌝ }
+    ensures { λ r. ⌜ toldWalk r ≡ toldWalk (spotWalk (now (s .entry)) b walk at spot) ⌝ }
 {
     match spot {
         Spot::Word(end) => word_step(s, walk, at, end),
@@ -237,7 +238,7 @@ fn in_column(s: &[u8], c: Scan) -> bool
 
 // A line that ends here.
 fn end_scan(s: &[u8], c: Scan) -> Scanned
-    ensures { λ r. ⌜ r ≡ endScan (now (s .entry)) c ⌝ }
+    ensures { λ r. ⌜ toldScanned r ≡ toldScanned (endScan (now (s .entry)) c) ⌝ }
 {
     if is_enough(c) & in_column(s, c) {
         return Scanned::Good(c);
@@ -247,7 +248,7 @@ fn end_scan(s: &[u8], c: Scan) -> Scanned
 
 // The line where a walk ends.
 fn finish(s: &[u8], walk: Walk) -> Scanned
-    ensures { λ r. ⌜ r ≡ finishWalk (now (s .entry)) walk ⌝ }
+    ensures { λ r. ⌜ toldScanned r ≡ toldScanned (finishWalk (now (s .entry)) walk) ⌝ }
 {
     match walk {
         Walk::Start => Scanned::Bad,
@@ -275,7 +276,8 @@ fn finish(s: &[u8], walk: Walk) -> Scanned
 // The line.
 pub fn scan(b: u64, s: &[u8]) -> Scanned
     requires { ⌜ b ≤ 48 ⌝ }
-    ensures { λ r. ⌜ (scannedLine (now (s .entry)) r ≡ lineRead (readLine b (now (s .entry)))) × PlacedIn (now (s .entry)) r ⌝ }
+    ensures { λ r. ⌜ (lineTold (now (s .entry)) (toldScanned r) ≡ readTold (readLine b (now (s .entry))))
+        × PlacedTold (now (s .entry)) (toldScanned r) ⌝ }
 {
     let mut at: usize = 0;
     let mut walk = Walk::Start;

@@ -10,6 +10,7 @@ pub mod Tables
 pub mod Accepted
 pub mod Examples
 pub mod Scanning
+pub mod Telling
 pub mod Literals
 pub mod Parts
 pub mod Coding

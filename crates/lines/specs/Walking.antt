@@ -8,6 +8,7 @@ use mathlib.Core.Option.{Option, none, some}
 use lib.Dec.{eqb, leb, ltb}
 use lib.ListN.{length, take, drop}
 use lib.Seq.{slice}
+use Rattle.word.specs.Told.{Told, tells}
 use Rattle.lines.specs.declared.Spot.{Spot}
 use Rattle.lines.specs.declared.Spot.the-variants.{Word, Paren, Nothing}
 use Rattle.character.specs.Character.{number}
@@ -71,6 +72,21 @@ abbrev pub Within : List ℕ → ℕ → Spot → Type 0
 Within text at Nothing = Unit {0}
 Within text at (Word end) = (at < end) × (end ≤ length text)
 Within text at (Paren close) = (at < close) × (close < length text)
+
+-- a token's place in numbers: 1 and where a word ends, 2 and where a parenthesis closes, no values for neither. The papers give these cases no number
+unfoldable pub toldSpot : Spot → Told ℕ
+toldSpot Nothing = tells 0 []
+toldSpot (Word end) = tells 0 (1 ∷ end ∷ [])
+toldSpot (Paren close) = tells 0 (2 ∷ close ∷ [])
+
+-- what is told of a token of a text by the bytes that follow it
+unfoldable pub placeTold : List ℕ → Token → List ℕ → Told ℕ
+placeTold text (word w) rest = tells 0 (1 ∷ (length text - length rest) ∷ [])
+placeTold text (paren args) rest = tells 0 (2 ∷ (length text - suc (length rest)) ∷ [])
+
+unfoldable pub spotTold : List ℕ → Option Found → Told ℕ
+spotTold text none = tells 0 []
+spotTold text (some f) = placeTold text (f .token) (f .rest)
 
 -- Table II as numbers, eight for each form: its code, the kinds of up to four arguments, and for each of three pairs the argument that it
 -- comes from, counted from 1; 0 where there is none. A word itself is its bytes in base 256

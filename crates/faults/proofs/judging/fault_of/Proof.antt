@@ -6,6 +6,7 @@ use Rattle.faults.specs.Checking.{PlacedIn}
 use Rattle.faults.specs.Places.{linesIn, linesBefore}
 use Rattle.faults.proofs.Texting.{size-line, size-none}
 use Rattle.faults.proofs.Faults.{good-operations, fault-bad, fault-good}
+use Rattle.faults.proofs.Answers.{scan-is}
 use borrow.Author.Needs.{needs}
 use Rattle.faults.proofs.judging.fault_of.Statement.{statement}
 use Rattle.faults.proofs.judging.fault_of.Tie as tie
@@ -22,9 +23,9 @@ enum-told c = search needs
 returns : tie.Need-returns
 returns c =
     let at-scan = c .before .before in (
-      λ _ _. fault-bad _ _ _ _ _ (c .enum-told .given .1) (at-scan .scan .ensures .0),
+      λ _ _. fault-bad _ _ _ _ _ (c .enum-told .given .1) (scan-is _ _ _ (at-scan .scan .ensures .0)),
       size-none _ _ (c .enum-told .given .1)
-          (at-scan .scan .ensures .0),
+          (scan-is _ _ _ (at-scan .scan .ensures .0)),
     )
 
 add-size : tie.Need-add-size
@@ -52,7 +53,7 @@ is-mislabelled-requires c κs =
       (
         subst (λ (r : Scanned). PlacedIn (entry .args .s .now) r) (at-scanned .scanned .given .1) (at-scan .scan .ensures .1),
         good-operations
-            (entry .args .b) (entry .args .s .now) (at-scanned .scanned .given .1) (at-scan .scan .ensures .0),
+            (entry .args .b) (entry .args .s .now) (at-scanned .scanned .given .1) (scan-is _ _ _ (at-scan .scan .ensures .0)),
       ),
     )
 
@@ -62,11 +63,11 @@ returns-2 c =
     let at-scanned = at-is-mislabelled .before .before .before .before in
     let at-scan = at-scanned .before .before in
     let entry = at-scan .before .before .before .before .before in
-    let size = size-line (entry .args .b) (entry .args .s .now) (at-scanned .scanned .given .1) (at-scan .scan .ensures .0)
+    let size = size-line (entry .args .b) (entry .args .s .now) (at-scanned .scanned .given .1) (scan-is _ _ _ (at-scan .scan .ensures .0))
     (at-scan .scan .ensures .1) in (
       λ lines counted. rw (
         fault-good (entry .args .b) (entry .args .s .now) (entry .args .lent) (linesIn (entry .args .b) (entry .args .text .now))
-            (linesBefore (entry .args .b) (entry .args .text .now) lines) (at-scanned .scanned .given .1) (at-scan .scan .ensures .0)
+            (linesBefore (entry .args .b) (entry .args .text .now) lines) (at-scanned .scanned .given .1) (scan-is _ _ _ (at-scan .scan .ensures .0))
             (entry .args .count) _ counted size,
         sym (at-is-mislabelled .is-mislabelled .ensures lines counted) ∙ c .if1 .taken,
       ),
@@ -84,11 +85,11 @@ returns-3 c =
     let at-scanned = at-is-mislabelled .before .before .before .before in
     let at-scan = at-scanned .before .before in
     let entry = at-scan .before .before .before .before .before in
-    let size = size-line (entry .args .b) (entry .args .s .now) (at-scanned .scanned .given .1) (at-scan .scan .ensures .0)
+    let size = size-line (entry .args .b) (entry .args .s .now) (at-scanned .scanned .given .1) (scan-is _ _ _ (at-scan .scan .ensures .0))
     (at-scan .scan .ensures .1) in (
       λ lines counted. rw (
         fault-good (entry .args .b) (entry .args .s .now) (entry .args .lent) (linesIn (entry .args .b) (entry .args .text .now))
-            (linesBefore (entry .args .b) (entry .args .text .now) lines) (at-scanned .scanned .given .1) (at-scan .scan .ensures .0)
+            (linesBefore (entry .args .b) (entry .args .text .now) lines) (at-scanned .scanned .given .1) (scan-is _ _ _ (at-scan .scan .ensures .0))
             (entry .args .count) _ counted size,
         sym (at-is-mislabelled .is-mislabelled .ensures lines counted) ∙ at-if1 .if1 .left,
         sym (at-too-long .too-long .ensures) ∙ c .if2 .taken,
@@ -104,11 +105,11 @@ returns-4 c =
     let at-scanned = at-is-mislabelled .before .before .before .before in
     let at-scan = at-scanned .before .before in
     let entry = at-scan .before .before .before .before .before in
-    let size = size-line (entry .args .b) (entry .args .s .now) (at-scanned .scanned .given .1) (at-scan .scan .ensures .0)
+    let size = size-line (entry .args .b) (entry .args .s .now) (at-scanned .scanned .given .1) (scan-is _ _ _ (at-scan .scan .ensures .0))
     (at-scan .scan .ensures .1) in (
       λ lines counted. rw (
         fault-good (entry .args .b) (entry .args .s .now) (entry .args .lent) (linesIn (entry .args .b) (entry .args .text .now))
-            (linesBefore (entry .args .b) (entry .args .text .now) lines) (at-scanned .scanned .given .1) (at-scan .scan .ensures .0)
+            (linesBefore (entry .args .b) (entry .args .text .now) lines) (at-scanned .scanned .given .1) (scan-is _ _ _ (at-scan .scan .ensures .0))
             (entry .args .count) _ counted size,
         sym (at-is-mislabelled .is-mislabelled .ensures lines counted) ∙ at-if1 .if1 .left,
         sym (at-too-long .too-long .ensures) ∙ c .if2 .left,

@@ -50,8 +50,7 @@ add-from c =
     let at-loop-test = at-blanks-end .before in
     let at-loop = at-loop-test .before in
     let k = parens-close _ _ (at-loop .loop .inv .0 .parens) (at-loop-test .loop-test .taken) _ (at-blanks-end .blanks-end .ensures) _
-    (c .close-of .ensures) (at-token-at .token-at .ensures .0)
-    (at-token-at .token-at .ensures .1) in omega (arith, k .opens, k .closes)
+    (c .close-of .ensures) (at-token-at .token-at .ensures) in omega (arith, k .opens, k .closes)
 
 sub-renew : tie.Need-sub-renew Inv-loop μ-loop
 sub-renew c =
@@ -60,8 +59,7 @@ sub-renew c =
     let at-loop-test = at-blanks-end .before in
     let at-loop = at-loop-test .before in
     let k = parens-close _ _ (at-loop .loop .inv .0 .parens) (at-loop-test .loop-test .taken) _ (at-blanks-end .blanks-end .ensures) _
-    (c .close-of .ensures) (at-token-at .token-at .ensures .0)
-    (at-token-at .token-at .ensures .1) in omega (arith, k .opens, k .closes)
+    (c .close-of .ensures) (at-token-at .token-at .ensures) in omega (arith, k .opens, k .closes)
 
 part-renew-start : tie.Need-part-renew-start Inv-loop μ-loop
 part-renew-start c =
@@ -70,8 +68,7 @@ part-renew-start c =
     let at-loop-test = at-blanks-end .before in
     let at-loop = at-loop-test .before in
     let k = parens-close _ _ (at-loop .loop .inv .0 .parens) (at-loop-test .loop-test .taken) _ (at-blanks-end .blanks-end .ensures) _
-    (c .close-of .ensures) (at-token-at .token-at .ensures .0)
-    (at-token-at .token-at .ensures .1) in omega (arith, k .opens, k .closes)
+    (c .close-of .ensures) (at-token-at .token-at .ensures) in omega (arith, k .opens, k .closes)
 
 part-renew-end : tie.Need-part-renew-end Inv-loop μ-loop
 part-renew-end c =
@@ -80,8 +77,7 @@ part-renew-end c =
     let at-loop-test = at-blanks-end .before in
     let at-loop = at-loop-test .before in
     let k = parens-close _ _ (at-loop .loop .inv .0 .parens) (at-loop-test .loop-test .taken) _ (at-blanks-end .blanks-end .ensures) _
-    (c .close-of .ensures) (at-token-at .token-at .ensures .0)
-    (at-token-at .token-at .ensures .1) in omega (arith, k .opens, k .closes)
+    (c .close-of .ensures) (at-token-at .token-at .ensures) in omega (arith, k .opens, k .closes)
 
 sub-renew-2 : tie.Need-sub-renew-2 Inv-loop μ-loop
 sub-renew-2 c =
@@ -91,8 +87,7 @@ sub-renew-2 c =
     let at-loop-test = at-blanks-end .before in
     let at-loop = at-loop-test .before in
     let k = parens-close _ _ (at-loop .loop .inv .0 .parens) (at-loop-test .loop-test .taken) _ (at-blanks-end .blanks-end .ensures) _
-    (at-close-of .close-of .ensures) (at-token-at .token-at .ensures .0)
-    (at-token-at .token-at .ensures .1) in omega (arith, k .opens, k .closes)
+    (at-close-of .close-of .ensures) (at-token-at .token-at .ensures) in omega (arith, k .opens, k .closes)
 
 renew-requires : tie.Need-renew-requires Inv-loop μ-loop
 renew-requires c κs =
@@ -103,8 +98,7 @@ renew-requires c κs =
     let at-loop = at-loop-test .before in
     let entry = at-loop .before .before .before .before .before .before in
     let k = parens-close _ _ (at-loop .loop .inv .0 .parens) (at-loop-test .loop-test .taken) _ (at-blanks-end .blanks-end .ensures) _
-    (at-close-of .close-of .ensures) (at-token-at .token-at .ensures .0)
-    (at-token-at .token-at .ensures .1) in
+    (at-close-of .close-of .ensures) (at-token-at .token-at .ensures) in
     let rest = ap length (part-rest (at-blanks-end .blanks-end .result) (entry .args .s .now)) ∙ length-drop (at-blanks-end .blanks-end .result)
     (entry .args .s .now) in
     ((entry .pre .0 .0, entry .pre .0 .1 .room), (omega (arith, k .opens), (omega (arith, k .opens, k .closes), at-loop .loop .inv .1 .0)))
@@ -126,8 +120,7 @@ sub-calls-missing-2 c =
     let at-loop-test = at-blanks-end .before in
     let at-loop = at-loop-test .before in
     let k = parens-close _ _ (at-loop .loop .inv .0 .parens) (at-loop-test .loop-test .taken) _ (at-blanks-end .blanks-end .ensures) _
-    (at-close-of .close-of .ensures) (at-token-at .token-at .ensures .0)
-    (at-token-at .token-at .ensures .1) in omega (arith, k .opens, k .closes)
+    (at-close-of .close-of .ensures) (at-token-at .token-at .ensures) in omega (arith, k .opens, k .closes)
 
 part-calls-missing-start-2 : tie.Need-part-calls-missing-start-2 Inv-loop μ-loop
 part-calls-missing-start-2 c =
@@ -137,8 +130,7 @@ part-calls-missing-start-2 c =
     let at-loop-test = at-blanks-end .before in
     let at-loop = at-loop-test .before in
     let k = parens-close _ _ (at-loop .loop .inv .0 .parens) (at-loop-test .loop-test .taken) _ (at-blanks-end .blanks-end .ensures) _
-    (at-close-of .close-of .ensures) (at-token-at .token-at .ensures .0)
-    (at-token-at .token-at .ensures .1) in omega (arith, k .opens, k .closes)
+    (at-close-of .close-of .ensures) (at-token-at .token-at .ensures) in omega (arith, k .opens, k .closes)
 
 part-calls-missing-end-2 : tie.Need-part-calls-missing-end-2 Inv-loop μ-loop
 part-calls-missing-end-2 c =
@@ -148,8 +140,7 @@ part-calls-missing-end-2 c =
     let at-loop-test = at-blanks-end .before in
     let at-loop = at-loop-test .before in
     let k = parens-close _ _ (at-loop .loop .inv .0 .parens) (at-loop-test .loop-test .taken) _ (at-blanks-end .blanks-end .ensures) _
-    (at-close-of .close-of .ensures) (at-token-at .token-at .ensures .0)
-    (at-token-at .token-at .ensures .1) in omega (arith, k .opens, k .closes)
+    (at-close-of .close-of .ensures) (at-token-at .token-at .ensures) in omega (arith, k .opens, k .closes)
 
 calls-missing-requires : tie.Need-calls-missing-requires Inv-loop μ-loop
 calls-missing-requires c κs =
@@ -161,8 +152,7 @@ calls-missing-requires c κs =
     let at-loop = at-loop-test .before in
     let entry = at-loop .before .before .before .before .before .before in
     let k = parens-close _ _ (at-loop .loop .inv .0 .parens) (at-loop-test .loop-test .taken) _ (at-blanks-end .blanks-end .ensures) _
-    (at-close-of .close-of .ensures) (at-token-at .token-at .ensures .0)
-    (at-token-at .token-at .ensures .1) in
+    (at-close-of .close-of .ensures) (at-token-at .token-at .ensures) in
     let operation = parens-first _ _ (at-loop .loop .inv .0 .parens) (at-loop-test .loop-test .taken) _ (at-blanks-end .blanks-end .ensures) k in (
       (
         entry .pre .0,
@@ -190,8 +180,7 @@ returns c =
     let at-loop = at-loop-test .before in
     let entry = at-loop .before .before .before .before .before .before in
     let k = parens-close _ _ (at-loop .loop .inv .0 .parens) (at-loop-test .loop-test .taken) _ (at-blanks-end .blanks-end .ensures) _
-    (at-close-of .close-of .ensures) (at-token-at .token-at .ensures .0)
-    (at-token-at .token-at .ensures .1) in
+    (at-close-of .close-of .ensures) (at-token-at .token-at .ensures) in
     using-found _ _ _ _ (at-loop .loop .inv .0) (at-loop-test .loop-test .taken) _ (at-blanks-end .blanks-end .ensures) k
     (ap (λ (w : List ℕ). any (missing (entry .args .b) (entry .args .text .now)) (callsIn (entry .args .b) (split w)))
     (sym (part-slice (at-blanks-end .blanks-end .result + 1) (at-close-of .close-of .result) (entry .args .s .now))) ∙ sym
@@ -206,8 +195,7 @@ add-place c =
     let at-loop = at-loop-test .before in
     let entry = at-loop .before .before .before .before .before .before in
     let k = parens-close _ _ (at-loop .loop .inv .0 .parens) (at-loop-test .loop-test .taken) _ (at-blanks-end .blanks-end .ensures) _
-    (at-close-of .close-of .ensures) (at-token-at .token-at .ensures .0)
-    (at-token-at .token-at .ensures .1) in omega (arith, k .opens, k .closes, entry .good .1 .1 .1 .1 .0 .1)
+    (at-close-of .close-of .ensures) (at-token-at .token-at .ensures) in omega (arith, k .opens, k .closes, entry .good .1 .1 .1 .1 .0 .1)
 
 sub-left : tie.Need-sub-left Inv-loop μ-loop
 sub-left c = search needs
@@ -226,8 +214,7 @@ loop-again c =
     let at-loop = at-loop-test .before in
     let entry = at-loop .before .before .before .before .before .before in
     let k = parens-close _ _ (at-loop .loop .inv .0 .parens) (at-loop-test .loop-test .taken) _ (at-blanks-end .blanks-end .ensures) _
-    (at-close-of .close-of .ensures) (at-token-at .token-at .ensures .0)
-    (at-token-at .token-at .ensures .1) in (
+    (at-close-of .close-of .ensures) (at-token-at .token-at .ensures) in (
       using-more _ _ _ _ (at-loop .loop .inv .0) (at-loop-test .loop-test .taken) _ (at-blanks-end .blanks-end .ensures) k
           (ap (λ (w : List ℕ). any (missing (entry .args .b) (entry .args .text .now)) (callsIn (entry .args .b) (split w)))
           (sym (part-slice (at-blanks-end .blanks-end .result + 1) (at-close-of .close-of .result) (entry .args .s .now))) ∙ sym

@@ -4,6 +4,7 @@ use mathlib.Core.Path.{subst, _∙_}
 use Rattle.faults.specs.declared.Scanned.{Scanned}
 use Rattle.faults.specs.Checking.{PlacedIn}
 use Rattle.faults.proofs.Texting.{declares-part, declares-none}
+use Rattle.faults.proofs.Answers.{scan-is}
 use borrow.Author.Needs.{needs}
 use Rattle.faults.proofs.labels.declares_it.Statement.{statement}
 use Rattle.faults.proofs.labels.declares_it.Tie as tie
@@ -18,7 +19,7 @@ enum-told : tie.Need-enum-told
 enum-told c = search needs
 
 returns : tie.Need-returns
-returns c = declares-none _ _ _ _ (c .enum-told .given .1) (c .before .before .scan .ensures .0)
+returns c = declares-none _ _ _ _ (c .enum-told .given .1) (scan-is _ _ _ (c .before .before .scan .ensures .0))
 
 sub-is-same : tie.Need-sub-is-same
 sub-is-same c =
@@ -53,7 +54,7 @@ returns-2 c =
     let at-scan = at-scanned .before .before in
     let entry = at-scan .before .before .before in
     c .is-same .ensures ∙ declares-part (entry .args .b) (entry .args .s .now) (entry .args .label .now) (at-scanned .scanned .given .1)
-    (at-scan .scan .ensures .0)
+    (scan-is _ _ _ (at-scan .scan .ensures .0))
 
 pub declares-it-spec : {M : Type 1} → statement M
 declares-it-spec =

@@ -1,7 +1,7 @@
 -- `faults::line::finish` meets its contract: by the walk. Assumes nothing.
 use mathlib.Core.Path.{sym, ap, _∙_}
 use Rattle.faults.specs.declared.Walk.{Walk}
-use Rattle.faults.specs.Checking.{finishWalk}
+use Rattle.faults.specs.Checking.{toldScanned, finishWalk}
 use borrow.Author.Needs.{needs}
 use Rattle.faults.proofs.line.finish.Statement.{statement}
 use Rattle.faults.proofs.line.finish.Tie as tie
@@ -52,7 +52,7 @@ returns-4 : tie.Need-returns-4
 unfolding finishWalk
 returns-4 c =
     let start = c .before .before .before .before .before in
-    c .end-scan .ensures ∙ sym (ap (finishWalk (start .args .s .now)) (c .before .before .walk .given .1))
+    c .end-scan .ensures ∙ sym (ap (λ (k : Walk). toldScanned (finishWalk (start .args .s .now) k)) (c .before .before .walk .given .1))
 
 returns-5 : tie.Need-returns-5
 unfolding finishWalk
@@ -62,13 +62,13 @@ returns-6 : tie.Need-returns-6
 unfolding finishWalk
 returns-6 c =
     let start = c .before .before .before .before .before in
-    c .end-scan2 .ensures ∙ sym (ap (finishWalk (start .args .s .now)) (c .before .before .walk2 .given .1))
+    c .end-scan2 .ensures ∙ sym (ap (λ (k : Walk). toldScanned (finishWalk (start .args .s .now) k)) (c .before .before .walk2 .given .1))
 
 returns-7 : tie.Need-returns-7
 unfolding finishWalk
 returns-7 c =
     let start = c .before .before .before .before .before in
-    c .end-scan3 .ensures ∙ sym (ap (finishWalk (start .args .s .now)) (c .before .before .walk3 .given .1))
+    c .end-scan3 .ensures ∙ sym (ap (λ (k : Walk). toldScanned (finishWalk (start .args .s .now) k)) (c .before .before .walk3 .given .1))
 
 pub finish-spec : {M : Type 1} → statement M
 finish-spec =

@@ -4,7 +4,7 @@ use mathlib.Core.List.{List}
 use Prim.Native.Nat.{ℕ}
 use Rattle.lines.specs.Words.{modeWords}
 use Rattle.lines.specs.Reading.{placeOf}
-use Rattle.faults.specs.Checking.{modeWalk, enteredWalk}
+use Rattle.faults.specs.Checking.{modeWalk, enteredWalk, toldWalk}
 use Rattle.lines.proofs.Parts.{part-slice}
 use Rattle.faults.proofs.Taking.{mode-other, mode-known}
 use borrow.Author.Needs.{needs}
@@ -29,7 +29,8 @@ returns c =
     let entry = at-mode-of .before .before .before in
     let place = at-mode-of .mode-of .ensures
     ∙ ap (λ (w : List ℕ). placeOf w modeWords) (part-slice (entry .args .at) (entry .args .end) (entry .args .s .now)) in
-    mode-other (entry .args .s .now) (entry .args .from) (entry .args .label) (entry .args .at) (entry .args .end) (entry .args .other) place (c .if1 .taken)
+    ap toldWalk
+    (mode-other (entry .args .s .now) (entry .args .from) (entry .args .label) (entry .args .at) (entry .args .end) (entry .args .other) place (c .if1 .taken))
 
 entered-requires : tie.Need-entered-requires
 entered-requires c κs = search needs
@@ -41,8 +42,8 @@ returns-2 c =
     let entry = at-mode-of .before .before .before in
     let place = at-mode-of .mode-of .ensures
     ∙ ap (λ (w : List ℕ). placeOf w modeWords) (part-slice (entry .args .at) (entry .args .end) (entry .args .s .now)) in
-    c .entered .ensures ∙ mode-known (entry .args .s .now) (entry .args .from) (entry .args .label) (entry .args .at) (entry .args .end) (entry .args .other)
-    place (at-if1 .if1 .left)
+    c .entered .ensures ∙ ap toldWalk (mode-known (entry .args .s .now) (entry .args .from) (entry .args .label) (entry .args .at) (entry .args .end)
+    (entry .args .other) place (at-if1 .if1 .left))
 
 pub mode-step-spec : {M : Type 1} → statement M
 mode-step-spec =

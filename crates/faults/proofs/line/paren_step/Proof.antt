@@ -1,7 +1,7 @@
 -- `faults::line::paren_step` meets its contract: by the walk. Assumes nothing.
 use mathlib.Core.Path.{sym, ap, subst, _∙_}
 use Rattle.faults.specs.declared.Walk.{Walk}
-use Rattle.faults.specs.Checking.{parenWalk, Few}
+use Rattle.faults.specs.Checking.{toldWalk, parenWalk, Few}
 use borrow.Author.Needs.{needs}
 use Rattle.faults.proofs.line.paren_step.Statement.{statement}
 use Rattle.faults.proofs.line.paren_step.Tie as tie
@@ -46,15 +46,15 @@ enum-told-4 : tie.Need-enum-told-4
 enum-told-4 c = search needs
 
 returns : tie.Need-returns
-unfolding parenWalk
+unfolding toldWalk parenWalk
 returns c = search needs
 
 returns-2 : tie.Need-returns-2
-unfolding parenWalk
+unfolding toldWalk parenWalk
 returns-2 c = search needs
 
 returns-3 : tie.Need-returns-3
-unfolding parenWalk
+unfolding toldWalk parenWalk
 returns-3 c = search needs
 
 returns-4 : tie.Need-returns-4
@@ -63,7 +63,7 @@ returns-4 c =
     let at-walk = c .before .before in
     let entry = at-walk .before .before .before in
     c .tested-step .ensures
-    ∙ sym (ap (λ (k : Walk). parenWalk (entry .args .s .now) (entry .args .b) k (entry .args .at) (entry .args .close)) (at-walk .walk .given .1))
+    ∙ sym (ap (λ (k : Walk). toldWalk (parenWalk (entry .args .s .now) (entry .args .b) k (entry .args .at) (entry .args .close))) (at-walk .walk .given .1))
 
 returns-5 : tie.Need-returns-5
 unfolding parenWalk
@@ -71,7 +71,7 @@ returns-5 c =
     let at-walk2 = c .before .before in
     let entry = at-walk2 .before .before .before in
     c .operation-step .ensures
-    ∙ sym (ap (λ (k : Walk). parenWalk (entry .args .s .now) (entry .args .b) k (entry .args .at) (entry .args .close)) (at-walk2 .walk2 .given .1))
+    ∙ sym (ap (λ (k : Walk). toldWalk (parenWalk (entry .args .s .now) (entry .args .b) k (entry .args .at) (entry .args .close))) (at-walk2 .walk2 .given .1))
 
 returns-6 : tie.Need-returns-6
 unfolding parenWalk
@@ -79,10 +79,10 @@ returns-6 c =
     let at-walk3 = c .before .before in
     let entry = at-walk3 .before .before .before in
     c .operation-step2 .ensures
-    ∙ sym (ap (λ (k : Walk). parenWalk (entry .args .s .now) (entry .args .b) k (entry .args .at) (entry .args .close)) (at-walk3 .walk3 .given .1))
+    ∙ sym (ap (λ (k : Walk). toldWalk (parenWalk (entry .args .s .now) (entry .args .b) k (entry .args .at) (entry .args .close))) (at-walk3 .walk3 .given .1))
 
 returns-7 : tie.Need-returns-7
-unfolding parenWalk
+unfolding toldWalk parenWalk
 returns-7 c = search needs
 
 pub paren-step-spec : {M : Type 1} → statement M

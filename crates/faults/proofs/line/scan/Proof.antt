@@ -8,6 +8,8 @@ use Prim.Native.Nat.{ℕ}
 use Rattle.faults.specs.declared.Walk.{Walk}
 use Rattle.faults.proofs.Walked.{Walked, walked-none, starts, few-placed, walked-bad, walked-none-left, walked-more}
 use Rattle.faults.proofs.Walked.{place-later, walked-all}
+use Rattle.lines.proofs.Telling.{spot-is}
+use Rattle.faults.proofs.Answers.{same-walk, scan-tells}
 use borrow.Author.Needs.{needs}
 use Rattle.faults.proofs.line.scan.Statement.{statement}
 use Rattle.faults.proofs.line.scan.Tie as tie
@@ -42,10 +44,10 @@ returns c =
     let at-at-end = at-if1 .before in
     let at-loop = at-at-end .before in
     let entry = at-loop .before .before in (
-      walked-none-left _ _
+      scan-tells _ _ _ (walked-none-left _ _
           (walked-bad (entry .args .b) (entry .args .s .now) (at-loop .loop .inv) (at-blanks-end .blanks-end .result) (at-blanks-end .blanks-end .ensures)
           (known-false (at-at-end .at-end .ensures) (at-if1 .if1 .taken)) _ (sym (at-is-nothing .is-nothing .ensures) ∙ c .if2 .taken)
-          (at-token-at .token-at .ensures .0)),
+          (spot-is _ _ _ (at-token-at .token-at .ensures) .0))),
       tt,
     )
 
@@ -59,12 +61,12 @@ spot-step-requires c κs =
       (
         few-placed (entry .args .s .now) (at-loop .loop .walk) _ _ (starts _ _ (at-loop .loop .inv) _ (at-blanks-end .blanks-end .ensures) .0)
             (at-loop .loop .inv .placed),
-        at-token-at .token-at .ensures .1,
+        spot-is _ _ _ (at-token-at .token-at .ensures) .1,
       ),
     )
 
 place-after-requires : tie.Need-place-after-requires Inv-loop μ-loop
-place-after-requires c κs = c .before .before .before .token-at .ensures .1
+place-after-requires c κs = spot-is _ _ _ (c .before .before .before .token-at .ensures) .1
 
 loop-less : tie.Need-loop-less Inv-loop μ-loop
 loop-less c =
@@ -76,12 +78,13 @@ loop-less c =
     let at-at-end = at-if1 .before in
     let at-loop = at-at-end .before in
     let entry = at-loop .before .before in
+    let token = spot-is _ _ _ (at-token-at .token-at .ensures) in
     let more = walked-more (entry .args .b) (entry .args .s .now) (at-loop .loop .inv) (at-blanks-end .blanks-end .result)
     (at-blanks-end .blanks-end .ensures) (known-false (at-at-end .at-end .ensures) (at-if1 .if1 .taken)) _
-    (sym (at-is-nothing .is-nothing .ensures) ∙ at-if2 .if2 .left) (at-token-at .token-at .ensures .0) (at-token-at .token-at .ensures .1) in
+    (sym (at-is-nothing .is-nothing .ensures) ∙ at-if2 .if2 .left) (token .0) (token .1) in
     let later = place-later (entry .args .b) (entry .args .s .now) (at-loop .loop .inv) (at-blanks-end .blanks-end .result)
     (at-blanks-end .blanks-end .ensures) (known-false (at-at-end .at-end .ensures) (at-if1 .if1 .taken)) _
-    (sym (at-is-nothing .is-nothing .ensures) ∙ at-if2 .if2 .left) (at-token-at .token-at .ensures .1) in
+    (sym (at-is-nothing .is-nothing .ensures) ∙ at-if2 .if2 .left) (token .1) in
     omega (arith, more .inside, c .place-after .ensures)
 
 loop-again : tie.Need-loop-again Inv-loop μ-loop
@@ -95,10 +98,11 @@ loop-again c =
     let at-at-end = at-if1 .before in
     let at-loop = at-at-end .before in
     let entry = at-loop .before .before in
+    let token = spot-is _ _ _ (at-token-at .token-at .ensures) in
     let more = walked-more (entry .args .b) (entry .args .s .now) (at-loop .loop .inv) (at-blanks-end .blanks-end .result)
     (at-blanks-end .blanks-end .ensures) (known-false (at-at-end .at-end .ensures) (at-if1 .if1 .taken)) _
-    (sym (at-is-nothing .is-nothing .ensures) ∙ at-if2 .if2 .left) (at-token-at .token-at .ensures .0) (at-token-at .token-at .ensures .1) in
-    rw (c .place-after .ensures, at-spot-step .spot-step .ensures) more
+    (sym (at-is-nothing .is-nothing .ensures) ∙ at-if2 .if2 .left) (token .0) (token .1) in
+    rw (c .place-after .ensures, same-walk (at-spot-step .spot-step .ensures)) more
 
 finish-requires : tie.Need-finish-requires Inv-loop μ-loop
 finish-requires c κs = search needs
@@ -109,8 +113,9 @@ returns-2 c =
     let at-at-end = at-if1 .before in
     let at-loop = at-at-end .before in
     let entry = at-loop .before .before in
-    rw (c .finish .ensures)
-    (walked-all (entry .args .b) (entry .args .s .now) (at-loop .loop .inv) (known-true (at-at-end .at-end .ensures) (at-if1 .if1 .left)))
+    let (line, placed) = walked-all (entry .args .b) (entry .args .s .now) (at-loop .loop .inv)
+    (known-true (at-at-end .at-end .ensures) (at-if1 .if1 .left)) in
+    rw (c .finish .ensures) (scan-tells _ _ _ line, placed)
 
 pub scan-spec : {M : Type 1} → statement M
 scan-spec =

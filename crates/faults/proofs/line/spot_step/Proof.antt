@@ -3,7 +3,7 @@ use native.Mathlib.Omega.{arith}
 use mathlib.Core.Path.{sym, ap, subst, _∙_}
 use Rattle.lines.specs.declared.Spot.{Spot}
 use Rattle.lines.specs.Walking.{Within}
-use Rattle.faults.specs.Checking.{spotWalk}
+use Rattle.faults.specs.Checking.{toldWalk, spotWalk}
 use borrow.Author.Needs.{needs}
 use Rattle.faults.proofs.line.spot_step.Statement.{statement}
 use Rattle.faults.proofs.line.spot_step.Tie as tie
@@ -36,7 +36,7 @@ returns c =
     let at-spot = c .before .before in
     let entry = at-spot .before .before .before in
     c .word-step .ensures
-    ∙ sym (ap (λ (k : Spot). spotWalk (entry .args .s .now) (entry .args .b) (entry .args .walk) (entry .args .at) k) (at-spot .spot .given .1))
+    ∙ sym (ap (λ (k : Spot). toldWalk (spotWalk (entry .args .s .now) (entry .args .b) (entry .args .walk) (entry .args .at) k)) (at-spot .spot .given .1))
 
 returns-2 : tie.Need-returns-2
 unfolding spotWalk
@@ -44,10 +44,10 @@ returns-2 c =
     let at-spot2 = c .before .before in
     let entry = at-spot2 .before .before .before in
     c .paren-step .ensures
-    ∙ sym (ap (λ (k : Spot). spotWalk (entry .args .s .now) (entry .args .b) (entry .args .walk) (entry .args .at) k) (at-spot2 .spot2 .given .1))
+    ∙ sym (ap (λ (k : Spot). toldWalk (spotWalk (entry .args .s .now) (entry .args .b) (entry .args .walk) (entry .args .at) k)) (at-spot2 .spot2 .given .1))
 
 returns-3 : tie.Need-returns-3
-unfolding spotWalk
+unfolding toldWalk spotWalk
 returns-3 c = search needs
 
 pub spot-step-spec : {M : Type 1} → statement M

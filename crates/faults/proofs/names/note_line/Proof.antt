@@ -4,6 +4,7 @@ use mathlib.Core.Path.{_≡_, subst}
 use Rattle.faults.specs.declared.Scanned.{Scanned}
 use Rattle.faults.specs.Checking.{PlacedIn}
 use Rattle.faults.proofs.Naming.{put-bad, put-good}
+use Rattle.faults.proofs.Answers.{scan-is}
 use borrow.Author.Needs.{needs}
 use Rattle.faults.proofs.names.note_line.Statement.{statement}
 use Rattle.faults.proofs.names.note_line.Tie as tie
@@ -18,7 +19,7 @@ enum-told : tie.Need-enum-told
 enum-told c = search needs
 
 returns : tie.Need-returns
-returns c = put-bad _ _ _ _ _ _ (c .enum-told .given .1) (c .before .before .scan .ensures .0)
+returns c = put-bad _ _ _ _ _ _ (c .enum-told .given .1) (scan-is _ _ _ (c .before .before .scan .ensures .0))
 
 add-size : tie.Need-add-size
 add-size c =
@@ -81,7 +82,7 @@ returns-2 c =
     let at-scan = at-scanned .before .before in
     let entry = at-scan .before .before .before .before in
     put-good (entry .args .b) (entry .args .s .now) (entry .args .n) (entry .args .before) (entry .args .keys .now) (entry .args .rows .now)
-    (at-scanned .scanned .given .1) (at-scan .scan .ensures .0) (at-scan .scan .ensures .1) (at-note .note .ensures)
+    (at-scanned .scanned .given .1) (scan-is _ _ _ (at-scan .scan .ensures .0)) (at-scan .scan .ensures .1) (at-note .note .ensures)
 
 pub note-line-spec : {M : Type 1} → statement M
 note-line-spec =

@@ -6,6 +6,7 @@ use Rattle.faults.specs.Checking.{PlacedIn}
 use Rattle.lines.specs.Words.{isName}
 use Rattle.lines.proofs.Scanning.{end-inside}
 use Rattle.faults.proofs.Finding.{line-tells}
+use Rattle.faults.proofs.Answers.{scan-is}
 use borrow.Author.Needs.{needs}
 use Rattle.faults.proofs.seeking.seek_line.Statement.{statement}
 use Rattle.faults.proofs.seeking.seek_line.Tie as tie
@@ -117,7 +118,7 @@ returns-4 c =
     let entry = at-scan .before .before .before .before .before .before .before .before .before .before .before in (
       at-settle .settle .ensures .0,
       λ text part. at-settle .settle .ensures .1 (entry .args .b) text (line-tells (entry .args .b) text
-          (entry .args .s .now) part (at-scanned .scanned .given .1) (at-scan .scan .ensures .0)),
+          (entry .args .s .now) part (at-scanned .scanned .given .1) (scan-is _ _ _ (at-scan .scan .ensures .0))),
     )
 
 pub seek-line-spec : {M : Type 1} → statement M

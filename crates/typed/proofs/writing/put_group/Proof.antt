@@ -51,7 +51,7 @@ add-from c =
     let at-loop-test = at-blanks-end .before in
     let at-loop = at-loop-test .before in
     let k = parens-close _ _ (at-loop .loop .inv .parens (at-loop-test .loop-test .taken)) (at-loop-test .loop-test .taken) _
-    (at-blanks-end .blanks-end .ensures) _ (c .close-of .ensures) (at-token-at .token-at .ensures .0) (at-token-at .token-at .ensures .1) in omega
+    (at-blanks-end .blanks-end .ensures) _ (c .close-of .ensures) (at-token-at .token-at .ensures) in omega
     (arith, k .opens, k .closes)
 
 sub-left : tie.Need-sub-left Inv-loop μ-loop
@@ -74,7 +74,7 @@ sub-group-row c =
     let at-loop-test = at-blanks-end .before in
     let at-loop = at-loop-test .before in
     let k = parens-close _ _ (at-loop .loop .inv .parens (at-loop-test .loop-test .taken)) (at-loop-test .loop-test .taken) _
-    (at-blanks-end .blanks-end .ensures) _ (at-close-of .close-of .ensures) (at-token-at .token-at .ensures .0) (at-token-at .token-at .ensures .1) in
+    (at-blanks-end .blanks-end .ensures) _ (at-close-of .close-of .ensures) (at-token-at .token-at .ensures) in
     omega (arith, k .opens, k .closes)
 
 part-group-row-start : tie.Need-part-group-row-start Inv-loop μ-loop
@@ -85,7 +85,7 @@ part-group-row-start c =
     let at-loop-test = at-blanks-end .before in
     let at-loop = at-loop-test .before in
     let k = parens-close _ _ (at-loop .loop .inv .parens (at-loop-test .loop-test .taken)) (at-loop-test .loop-test .taken) _
-    (at-blanks-end .blanks-end .ensures) _ (at-close-of .close-of .ensures) (at-token-at .token-at .ensures .0) (at-token-at .token-at .ensures .1) in
+    (at-blanks-end .blanks-end .ensures) _ (at-close-of .close-of .ensures) (at-token-at .token-at .ensures) in
     omega (arith, k .opens, k .closes)
 
 part-group-row-end : tie.Need-part-group-row-end Inv-loop μ-loop
@@ -96,7 +96,7 @@ part-group-row-end c =
     let at-loop-test = at-blanks-end .before in
     let at-loop = at-loop-test .before in
     let k = parens-close _ _ (at-loop .loop .inv .parens (at-loop-test .loop-test .taken)) (at-loop-test .loop-test .taken) _
-    (at-blanks-end .blanks-end .ensures) _ (at-close-of .close-of .ensures) (at-token-at .token-at .ensures .0) (at-token-at .token-at .ensures .1) in
+    (at-blanks-end .blanks-end .ensures) _ (at-close-of .close-of .ensures) (at-token-at .token-at .ensures) in
     omega (arith, k .opens, k .closes)
 
 group-row-requires : tie.Need-group-row-requires Inv-loop μ-loop
@@ -108,7 +108,7 @@ group-row-requires c κs =
     let at-loop = at-loop-test .before in
     let entry = at-loop .before .before .before .before .before .before in
     let k = parens-close _ _ (at-loop .loop .inv .parens (at-loop-test .loop-test .taken)) (at-loop-test .loop-test .taken) _
-    (at-blanks-end .blanks-end .ensures) _ (at-close-of .close-of .ensures) (at-token-at .token-at .ensures .0) (at-token-at .token-at .ensures .1) in
+    (at-blanks-end .blanks-end .ensures) _ (at-close-of .close-of .ensures) (at-token-at .token-at .ensures) in
     let proper = parens-first _ _ (at-loop .loop .inv .parens (at-loop-test .loop-test .taken)) (at-loop-test .loop-test .taken) _
     (at-blanks-end .blanks-end .ensures) k in
     let long = entry .good .1 .1 .1 .1 .0 in (
@@ -135,8 +135,8 @@ add-place c =
     let at-loop = at-loop-test .before in
     let entry = at-loop .before .before .before .before .before .before in
     let few = entry .good .1 .1 .1 .1 .0 .1 in let k = parens-close _ _ (at-loop .loop .inv .parens (at-loop-test .loop-test .taken))
-    (at-loop-test .loop-test .taken) _ (at-blanks-end .blanks-end .ensures) _ (at-close-of .close-of .ensures) (at-token-at .token-at .ensures .0)
-    (at-token-at .token-at .ensures .1) in omega (arith, k .opens, k .closes)
+    (at-loop-test .loop-test .taken) _ (at-blanks-end .blanks-end .ensures) _ (at-close-of .close-of .ensures) (at-token-at .token-at .ensures) in
+    omega (arith, k .opens, k .closes)
 
 add-row : tie.Need-add-row Inv-loop μ-loop
 add-row c =
@@ -160,7 +160,7 @@ loop-again c =
     let at-loop = at-loop-test .before in
     let entry = at-loop .before .before .before .before .before .before in
     let k = parens-close _ _ (at-loop .loop .inv .parens (at-loop-test .loop-test .taken)) (at-loop-test .loop-test .taken) _
-    (at-blanks-end .blanks-end .ensures) _ (at-close-of .close-of .ensures) (at-token-at .token-at .ensures .0) (at-token-at .token-at .ensures .1) in
+    (at-blanks-end .blanks-end .ensures) _ (at-close-of .close-of .ensures) (at-token-at .token-at .ensures) in
     rw (at-put-row .put-row .ensures)
     (grouping-more _ _ _ _ _ _ (at-loop .loop .inv) (at-loop-test .loop-test .taken) _ (at-blanks-end .blanks-end .ensures) k _ _
     (at-unless-none .unless-none .ensures)
