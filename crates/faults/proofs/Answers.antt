@@ -12,7 +12,7 @@ use Rattle.faults.specs.declared.Walk.{Walk}
 use Rattle.faults.specs.declared.Walk.the-variants.{Start, Broken, Mode, Tests, Then, Operations, End}
 use Rattle.faults.specs.declared.Scanned.{Scanned}
 use Rattle.faults.specs.declared.Scanned.the-variants.{Good, Bad}
-use Rattle.faults.specs.Checking.{lineAt, scannedLine, lineRead, lineTold, readTold, toldScanned, toldWalk}
+use Rattle.faults.specs.Checking.{lineAt, scannedLine, lineRead, lineTold, typedTold, toldScanned, toldWalk}
 
 pub same-walk : {a b : Walk} → toldWalk a ≡ toldWalk b → a ≡ b
 unfolding toldWalk
@@ -44,8 +44,8 @@ same-scanned {a} {b} e = sym (back a) ∙ ap scannedOf e ∙ back b
     back Bad = refl
 
 module _ (s : List ℕ) (x : Option Typed) where
-  pub scan-tells : (r : Scanned) → scannedLine s r ≡ lineRead x → lineTold s (toldScanned r) ≡ readTold x
-  unfolding lineTold scannedLine lineRead readTold
+  pub scan-tells : (r : Scanned) → scannedLine s r ≡ lineRead x → lineTold s (toldScanned r) ≡ typedTold x
+  unfolding lineTold scannedLine lineRead typedTold
   scan-tells r e = by-scan r ∙ ap lineOf e ∙ by-read x
     where
       lineOf : Option Line → Told Line
@@ -56,12 +56,12 @@ module _ (s : List ℕ) (x : Option Typed) where
       by-scan (Good c) = refl
       by-scan Bad = refl
 
-      by-read : (x : Option Typed) → lineOf (lineRead x) ≡ readTold x
+      by-read : (x : Option Typed) → lineOf (lineRead x) ≡ typedTold x
       by-read none = refl
       by-read (some t) = refl
 
-  pub scan-is : (r : Scanned) → lineTold s (toldScanned r) ≡ readTold x → scannedLine s r ≡ lineRead x
-  unfolding lineTold scannedLine lineRead readTold
+  pub scan-is : (r : Scanned) → lineTold s (toldScanned r) ≡ typedTold x → scannedLine s r ≡ lineRead x
+  unfolding lineTold scannedLine lineRead typedTold
   scan-is r e = sym (by-scan r) ∙ ap lineOf e ∙ by-read x
     where
       lineOf : Told Line → Option Line
@@ -72,6 +72,6 @@ module _ (s : List ℕ) (x : Option Typed) where
       by-scan (Good c) = refl
       by-scan Bad = refl
 
-      by-read : (x : Option Typed) → lineOf (readTold x) ≡ lineRead x
+      by-read : (x : Option Typed) → lineOf (typedTold x) ≡ lineRead x
       by-read none = refl
       by-read (some t) = refl

@@ -69,9 +69,9 @@ lineRead none = none
 lineRead (some t) = some (t .line)
 
 -- what the reading of a line tells: the line, or 23
-unfoldable pub readTold : Option Typed → Told Line
-readTold none = refuses 23
-readTold (some t) = gives (t .line)
+unfoldable pub typedTold : Option Typed → Told Line
+typedTold none = refuses 23
+typedTold (some t) = gives (t .line)
 
 -- a scan in numbers: 0 and the places of the line's parts, or 23
 abbrev pub toldScanned : Scanned → Told Scan

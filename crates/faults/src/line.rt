@@ -8,7 +8,7 @@ ghost use Rattle.lines.specs.Reading.{readLine};
 ghost use Rattle.lines.specs.Walking.{Within};
 ghost use Rattle.faults.specs.Checking.{enteredWalk, goWalk, modeWalk, wordWalk, operationWalk, parenWalk, spotWalk};
 ghost use Rattle.faults.specs.Checking.{placeAfter, isNothing, Few, enoughAt, columnAt, endScan, finishWalk};
-ghost use Rattle.faults.specs.Checking.{toldWalk, toldScanned, lineTold, readTold, PlacedTold};
+ghost use Rattle.faults.specs.Checking.{toldWalk, toldScanned, lineTold, typedTold, PlacedTold};
 use crate::Scan;
 use crate::Scanned;
 use crate::Walk;
@@ -276,7 +276,7 @@ fn finish(s: &[u8], walk: Walk) -> Scanned
 // The line.
 pub fn scan(b: u64, s: &[u8]) -> Scanned
     requires { ⌜ b ≤ 48 ⌝ }
-    ensures { λ r. ⌜ (lineTold (now (s .entry)) (toldScanned r) ≡ readTold (readLine b (now (s .entry))))
+    ensures { λ r. ⌜ (lineTold (now (s .entry)) (toldScanned r) ≡ typedTold (readLine b (now (s .entry))))
         × PlacedTold (now (s .entry)) (toldScanned r) ⌝ }
 {
     let mut at: usize = 0;
