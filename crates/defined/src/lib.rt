@@ -20,7 +20,7 @@ pub enum Used {
 
 // The lowest row that uses a field in its set, and the first such field of it.
 pub enum FirstUse {
-    At(u64, u64),
+    At { row: u64, field: u64 },
     Nowhere,
 }
 
@@ -29,7 +29,7 @@ pub enum FirstUse {
 // where it is no line.
 pub enum FieldsCheck {
     Yes,
-    No(u64, u64),
+    No { row: u64, field: u64 },
     NoWidth,
     BadLength,
     IllFormed(u64),
@@ -58,8 +58,8 @@ pub fn check_fields(b: u64, table: &[u64]) -> FieldsCheck
         return FieldsCheck::WrongKind(wrong);
     }
     let first = uses::first_use(table);
-    let FirstUse::At(at, field) = first else {
+    let FirstUse::At { row: at, field } = first else {
         return FieldsCheck::Yes;
     };
-    FieldsCheck::No(at, field)
+    FieldsCheck::No { row: at, field }
 }

@@ -96,7 +96,7 @@ fn lowest_use(table: &[u64], marks: &[u64; MOST]) -> FirstUse
         let at = r as usize;
         let used = use_at(table, r, marks[at]);
         if let Used::Field(n) = used {
-            return FirstUse::At(r, n);
+            return FirstUse::At { row: r, field: n };
         }
         r += 1;
     }

@@ -65,7 +65,7 @@ fn put_finding(text: &mut [u8; LINE], found: FieldsCheck) -> usize
 {
     match found {
         FieldsCheck::Yes => put_word(text, LINE, b"yes\n"),
-        FieldsCheck::No(r, n) => put_no(text, r, n),
+        FieldsCheck::No { row: r, field: n } => put_no(text, r, n),
         FieldsCheck::NoWidth => put_word(text, LINE, b"refusal 31: words have 36 or 48 bits\n"),
         FieldsCheck::BadLength => put_word(
             text,

@@ -13,7 +13,7 @@ const FIGURES: usize = 6;
 fn told(found: FieldsCheck) -> u64 {
     match found {
         FieldsCheck::Yes => 0,
-        FieldsCheck::No(row, field) => cases::fold(cases::fold(3, row), field),
+        FieldsCheck::No { row, field } => cases::fold(cases::fold(3, row), field),
         FieldsCheck::NoWidth => 31,
         FieldsCheck::BadLength => 1,
         FieldsCheck::IllFormed(row) => cases::fold(2, row),
@@ -25,7 +25,7 @@ fn told(found: FieldsCheck) -> u64 {
 fn kind(found: FieldsCheck) -> usize {
     match found {
         FieldsCheck::Yes => 1,
-        FieldsCheck::No(_, _) => 2,
+        FieldsCheck::No { .. } => 2,
         FieldsCheck::NoWidth => 3,
         FieldsCheck::BadLength => 3,
         FieldsCheck::IllFormed(_) => 4,
@@ -54,7 +54,7 @@ fn write_use(row: u64, field: u64) {
 fn write_found(found: FieldsCheck) {
     match found {
         FieldsCheck::Yes => write_word(b"yes"),
-        FieldsCheck::No(row, field) => write_use(row, field),
+        FieldsCheck::No { row, field } => write_use(row, field),
         FieldsCheck::NoWidth => write_word(b"refusal 31"),
         FieldsCheck::BadLength => write_word(b"refusal 1"),
         FieldsCheck::IllFormed(row) => write_number(b"ill-formed, row ", row),

@@ -21,7 +21,7 @@ pub extern "C" fn l6_defined(width: u64, table: &[u64], row: &mut u64, field: &m
     let found = check_fields(width, table);
     match found {
         FieldsCheck::Yes => 0,
-        FieldsCheck::No(r, n) => {
+        FieldsCheck::No { row: r, field: n } => {
             *row = r;
             *field = n;
             NOT_DEFINED
