@@ -10,6 +10,7 @@ use borrow.Author.Count.{below-more}
 use lib.ListN.{length, take, drop, set, getD, length-append, length-set}
 use lib.Seq.{take-at, drop-at, drop-drop, take-all, take-suc-set, length-take-le}
 use Rattle.machine.specs.Storage.{placed}
+use Rattle.layout.specs.Ranged.{Array}
 use Rattle.layout.specs.Records.{bytesOfAll, recordsOf}
 use Rattle.layout.proofs.Placing.{Put, start, more}
 
@@ -94,28 +95,35 @@ module _ {A : Type 0} (put : A → List ℕ) (none : A) where
         ∙ ap (λ (y : A). y ∷ recordsOf read w (length xs) (bytesOfAll put xs ++ rest)) (back 0 (omega arith))
         ∙ ap (λ (ys : List A). x ∷ ys) (records-back read xs rest (λ i h. back (suc i) (omega arith)))
 
-    -- the first i of these records are put from a place on, and are in range
-    pub record Puts (Range : A → Type 0) (at : ℕ) (xs : List A) (t now : List ℕ) (i : ℕ) : Type 0 where
-      pub few : i ≤ length xs
+    -- the first i of n records are put from a place on, and are in range
+    pub record Puts (Range : A → Type 0) (at n : ℕ) (xs : List A) (t now : List ℕ) (i : ℕ) : Type 0 where
+      pub few : i ≤ n
+      pub long : length xs ≡ n
       pub put-so : Put at (bytesOfAll put (take i xs)) t now
       pub each : (k : ℕ) → k < i → Range (getD xs k none)
 
-    module _ {Range : A → Type 0} {at : ℕ} {xs : List A} {t : List ℕ} (room : at + w * length xs ≤ length t) where
-      pub puts-none : Puts Range at xs t t 0
+    module _ {Range : A → Type 0} {at n : ℕ} {xs : List A} {t : List ℕ} (room : at + w * n ≤ length t) where
+      pub puts-none : length xs ≡ n → Puts Range at n xs t t 0
       unfolding bytesOfAll
-      puts-none = record { few = omega arith; put-so = start at t (omega arith); each = λ k h. absurd (omega arith) }
+      puts-none h = record { few = omega arith; long = h; put-so = start at t (omega arith); each = λ k h. absurd (omega arith) }
 
-      pub puts-next : {now next : List ℕ} {i : ℕ} → Puts Range at xs t now i → i < length xs → next ≡ placed (at + w * i) (put (getD xs i none)) now
-          → Range (getD xs i none) → Puts Range at xs t next (i + 1)
-      puts-next {next = next} {i} so-far h is good =
-          let long : length (bytesOfAll put (take i xs)) ≡ w * i = length-all (take i xs) ∙ ap (λ (n : ℕ). w * n) (length-take-le i xs (omega arith)) in
-          let more-room : at + w * i + w ≤ length t = omega (arith, mul-suc w i, mul-le-mul-left {m = suc i} {n = length xs} w (omega arith)) in
-          record {
-            few = omega arith;
-            put-so = rw (add-one i, all-next xs i h) (more (so-far .put-so) (put (getD xs i none)) (ap (λ (n : ℕ). at + n) long) is
-                (omega (arith, wide (getD xs i none))));
-            each = below-more _ _ (so-far .each) good;
-          }
+      module _ {now : List ℕ} {i : ℕ} (so-far : Puts Range at n xs t now i) where
+        pub puts-next : {next : List ℕ} → i < n → next ≡ placed (at + w * i) (put (getD xs i none)) now → Range (getD xs i none)
+            → Puts Range at n xs t next (i + 1)
+        puts-next {next} h is good =
+            let inside : i < length xs = omega (arith, so-far .long) in
+            let long : length (bytesOfAll put (take i xs)) ≡ w * i = length-all (take i xs) ∙ ap (λ (n : ℕ). w * n) (length-take-le i xs (omega arith)) in
+            let more-room : at + w * i + w ≤ length t = omega (arith, mul-suc w i, mul-le-mul-left {m = suc i} {n = n} w (omega arith)) in
+            record {
+              few = omega arith;
+              long = so-far .long;
+              put-so = rw (add-one i, all-next xs i inside) (more (so-far .put-so) (put (getD xs i none)) (ap (λ (n : ℕ). at + n) long) is
+                  (omega (arith, wide (getD xs i none))));
+              each = below-more _ _ (so-far .each) good;
+            }
 
-      pub puts-all : {now : List ℕ} {i : ℕ} → Puts Range at xs t now i → length xs ≤ i → now ≡ placed at (bytesOfAll put xs) t
-      puts-all {i = i} so-far h = so-far .put-so .same ∙ ap (λ (ys : List A). placed at (bytesOfAll put ys) t) (take-all i xs h)
+        pub puts-all : n ≤ i → (now ≡ placed at (bytesOfAll put xs) t) × Array Range none n xs
+        puts-all h = (
+          so-far .put-so .same ∙ ap (λ (ys : List A). placed at (bytesOfAll put ys) t) (take-all i xs (omega (arith, so-far .long))),
+          record { long = so-far .long; each = λ k less. so-far .each k (omega arith) },
+        )

@@ -33,7 +33,7 @@ mul-made : tie.Need-mul-made Inv-loop μ-loop
 mul-made c = search needs
 
 array-set-from-made : tie.Need-array-set-from-made Inv-loop μ-loop
-array-set-from-made c = omega (arith, c .before .before .loop .inv .long)
+array-set-from-made c = search needs
 
 add-i : tie.Need-add-i Inv-loop μ-loop
 add-i c = search needs

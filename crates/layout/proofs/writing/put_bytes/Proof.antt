@@ -13,13 +13,13 @@ use Rattle.layout.proofs.writing.put_bytes.Statement.{statement}
 use Rattle.layout.proofs.writing.put_bytes.Tie as tie
 
 abbrev Inv-loop : tie.InvT-loop
-Inv-loop bytes₀ at map i₀ bytes i = Puts (bytesOf 1) 0 1 (length-bytes 1) (Bytes 1) at map bytes₀ bytes i
+Inv-loop bytes₀ at map i₀ bytes i = Puts (bytesOf 1) 0 1 (length-bytes 1) (Bytes 1) at (length map) map bytes₀ bytes i
 
 abbrev μ-loop : tie.MeasureT-loop
 μ-loop bytes₀ at map i₀ bytes i = length map - i
 
 loop-holds : tie.Need-loop-holds Inv-loop μ-loop
-loop-holds c = puts-none (bytesOf 1) 0 1 (length-bytes 1) (omega (arith, c .pre))
+loop-holds c = puts-none (bytesOf 1) 0 1 (length-bytes 1) (omega (arith, c .pre)) refl
 
 shared-slice-read-bytes : tie.Need-shared-slice-read-bytes Inv-loop μ-loop
 shared-slice-read-bytes c = search needs
@@ -50,11 +50,7 @@ same-length : tie.Need-same-length Inv-loop μ-loop
 same-length c = kept (c .before .loop .inv .put-so)
 
 returns : tie.Need-returns Inv-loop μ-loop
-returns c =
-    let all = c .before .loop .inv in (
-      puts-all (bytesOf 1) 0 1 (length-bytes 1) (omega (arith, c .before .before .pre)) all (c .loop-test .left),
-      record { long = refl; each = λ i h. all .each i (omega (arith, c .loop-test .left)) },
-    )
+returns c = puts-all (bytesOf 1) 0 1 (length-bytes 1) (omega (arith, c .before .before .pre)) (c .before .loop .inv) (c .loop-test .left)
 
 pub put-bytes-spec : {M : Type 1} → statement M
 put-bytes-spec =

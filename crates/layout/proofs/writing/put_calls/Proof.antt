@@ -1,8 +1,6 @@
 -- `layout::writing::put_calls` meets its contract. The loop's invariant: the first i records are put. Assumes nothing.
 use native.Mathlib.Omega.{arith}
 use Prim.Native.Nat.{_-_}
-use mathlib.Core.Path.{_≡_}
-use lib.ListN.{length}
 use Rattle.machine.specs.State.{testsOf}
 use Rattle.layout.specs.Layout.{bytesOfPlace}
 use Rattle.layout.specs.Ranged.{RangedPlace}
@@ -14,15 +12,13 @@ use Rattle.layout.proofs.writing.put_calls.Statement.{statement}
 use Rattle.layout.proofs.writing.put_calls.Tie as tie
 
 abbrev Inv-loop : tie.InvT-loop
-Inv-loop bytes₀ entries i₀ bytes i = (length entries ≡ 128) × Puts bytesOfPlace (testsOf 0) 5 length-place RangedPlace 1939 entries bytes₀ bytes i
+Inv-loop bytes₀ entries i₀ bytes i = Puts bytesOfPlace (testsOf 0) 5 length-place RangedPlace 1939 128 entries bytes₀ bytes i
 
 abbrev μ-loop : tie.MeasureT-loop
 μ-loop bytes₀ entries i₀ bytes i = 128 - i
 
 loop-holds : tie.Need-loop-holds Inv-loop μ-loop
-loop-holds c =
-    let long : length (c .before .args .t2) ≡ 128 = search needs in
-    (long, puts-none bytesOfPlace (testsOf 0) 5 length-place (omega (arith, c .before .pre)))
+loop-holds c = puts-none bytesOfPlace (testsOf 0) 5 length-place (omega (arith, c .before .pre)) (search needs)
 
 mul-put-place : tie.Need-mul-put-place Inv-loop μ-loop
 mul-put-place c = search needs
@@ -34,10 +30,10 @@ mul-put-place-2 : tie.Need-mul-put-place-2 Inv-loop μ-loop
 mul-put-place-2 c = search needs
 
 array-copy-out-put-place : tie.Need-array-copy-out-put-place Inv-loop μ-loop
-array-copy-out-put-place c = omega (arith, c .before .before .loop .inv .0)
+array-copy-out-put-place c = search needs
 
 put-place-requires : tie.Need-put-place-requires Inv-loop μ-loop
-put-place-requires c κs = omega (arith, c .before .before .before .before .before .pre, kept (c .before .before .before .loop .inv .1 .put-so))
+put-place-requires c κs = omega (arith, c .before .before .before .before .before .pre, kept (c .before .before .before .loop .inv .put-so))
 
 add-i : tie.Need-add-i Inv-loop μ-loop
 add-i c = search needs
@@ -51,30 +47,14 @@ loop-again c =
     let at-put-place = c .before .before in
     let at-loop-test = at-put-place .before .before .before in
     let at-loop = at-loop-test .before in
-    let entry = at-loop .before .before in (
-      at-loop .loop .inv .0,
-      puts-next bytesOfPlace (testsOf 0) 5 length-place (omega (arith, entry .pre, at-loop .loop .inv .0)) (at-loop .loop .inv .1)
-          (omega (arith, at-loop .loop .inv .0, at-loop-test .loop-test .taken)) (at-put-place .put-place .ensures .0) (at-put-place .put-place .ensures .1),
-    )
+    puts-next bytesOfPlace (testsOf 0) 5 length-place (omega (arith, at-loop .before .before .pre)) (at-loop .loop .inv) (at-loop-test .loop-test .taken)
+    (at-put-place .put-place .ensures .0) (at-put-place .put-place .ensures .1)
 
 same-length : tie.Need-same-length Inv-loop μ-loop
-same-length c = kept (c .before .loop .inv .1 .put-so)
+same-length c = kept (c .before .loop .inv .put-so)
 
 returns : tie.Need-returns Inv-loop μ-loop
-returns c =
-    let at-loop = c .before in
-    let entry = at-loop .before .before in
-    let all = at-loop .loop .inv .1 in (
-      puts-all bytesOfPlace (testsOf 0) 5 length-place (omega (arith, entry .pre, at-loop .loop .inv .0)) all (omega (
-        arith,
-        at-loop .loop .inv .0,
-        c .loop-test .left,
-      )),
-      record {
-        long = at-loop .loop .inv .0;
-        each = λ i h. all .each i (omega (arith, c .loop-test .left));
-      },
-    )
+returns c = puts-all bytesOfPlace (testsOf 0) 5 length-place (omega (arith, c .before .before .before .pre)) (c .before .loop .inv) (c .loop-test .left)
 
 pub put-calls-spec : {M : Type 1} → statement M
 put-calls-spec =

@@ -13,13 +13,13 @@ use Rattle.layout.proofs.writing.put_words.Statement.{statement}
 use Rattle.layout.proofs.writing.put_words.Tie as tie
 
 abbrev Inv-loop : tie.InvT-loop
-Inv-loop bytes₀ at words i₀ bytes i = Puts (bytesOf 8) 0 8 (length-bytes 8) (Bytes 8) at words bytes₀ bytes i
+Inv-loop bytes₀ at words i₀ bytes i = Puts (bytesOf 8) 0 8 (length-bytes 8) (Bytes 8) at (length words) words bytes₀ bytes i
 
 abbrev μ-loop : tie.MeasureT-loop
 μ-loop bytes₀ at words i₀ bytes i = length words - i
 
 loop-holds : tie.Need-loop-holds Inv-loop μ-loop
-loop-holds c = puts-none (bytesOf 8) 0 8 (length-bytes 8) (c .before .before .pre)
+loop-holds c = puts-none (bytesOf 8) 0 8 (length-bytes 8) (c .before .before .pre) refl
 
 mul-put-number : tie.Need-mul-put-number Inv-loop μ-loop
 mul-put-number c = search needs
@@ -57,12 +57,7 @@ same-length : tie.Need-same-length Inv-loop μ-loop
 same-length c = kept (c .before .loop .inv .put-so)
 
 returns : tie.Need-returns Inv-loop μ-loop
-returns c =
-    let start = c .before .before .before .before in
-    let all = c .before .loop .inv in (
-      puts-all (bytesOf 8) 0 8 (length-bytes 8) (start .pre) all (c .loop-test .left),
-      record { long = refl; each = λ i h. all .each i (omega (arith, c .loop-test .left)) },
-    )
+returns c = puts-all (bytesOf 8) 0 8 (length-bytes 8) (c .before .before .before .before .pre) (c .before .loop .inv) (c .loop-test .left)
 
 pub put-words-spec : {M : Type 1} → statement M
 put-words-spec =
