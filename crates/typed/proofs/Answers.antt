@@ -14,7 +14,7 @@ use Rattle.lines.specs.declared.Read.{Read}
 use Rattle.lines.specs.declared.Read.the-variants.{Rows, NoWidth, BadLine, BadLabel, TooLong}
 use Rattle.lines.specs.Grammar.{Line, Typed}
 use Rattle.lines.specs.Reading.{readLine, cut, readLines}
-use Rattle.word.specs.Told.{tells, gives}
+use Rattle.word.specs.Told.{Told, tells, gives, value}
 use Rattle.lines.specs.Program.{tableOf, rowCount, keptLines, badLabels, tooLong, faultOf, Refusal, noRefusal, lowestFault}
 use Rattle.lines.specs.Program.{refusalOf, program, Left, refused, reading, readAt, toldRead, refusalTold, readTold}
 use Rattle.lines.proofs.Accepted.{Accepted, accepted}
@@ -22,19 +22,36 @@ use Rattle.faults.specs.Places.{linesIn}
 use Rattle.faults.specs.Names.{Known}
 use Rattle.lines.proofs.Parts.{part-slice}
 use Rattle.faults.proofs.Judged.{lines-cut, program-lines, nothing-typed}
-use Rattle.typed.specs.Putting.{Roomy}
+use Rattle.typed.specs.Putting.{readingTold, Roomy}
+
+-- no two answers are told alike
+same-read : {a b : Read} → toldRead a ≡ toldRead b → a ≡ b
+unfolding toldRead value
+same-read {a} {b} e = sym (back a) ∙ ap numbered e ∙ back b
+  where
+    numbered : Told ℕ → Read
+    numbered (tells n xs) =
+        let x = value (tells n xs) in
+        cond (eqb n 0) (Rows x) (cond (eqb n 23) (BadLine x) (cond (eqb n 24) (BadLabel x) (cond (eqb n 25) (TooLong x) NoWidth)))
+
+    back : (a : Read) → numbered (toldRead a) ≡ a
+    back (Rows n) = refl
+    back NoWidth = refl
+    back (BadLine line) = refl
+    back (BadLabel line) = refl
+    back (TooLong line) = refl
 
 module _ (b : ℕ) (text table : List ℕ) where
   abbrev its : Refusal
   its = refusalOf b (length table) text
 
   -- a refusal
-  pub refused-reading : {answer : Read} {r : Refusal} → r ≡ its → (r .number ≡ 0 → ⊥) → answer ≡ refused r
+  pub refused-reading : {answer : Read} {r : Refusal} → r ≡ its → (r .number ≡ 0 → ⊥) → toldRead answer ≡ toldRead (refused r)
       → record { answer = answer; table = table } ≡ reading b text table
   unfolding reading
   refused-reading {answer} {r} is bad e =
       rw (ne-eqb (its .number) 0 (λ (z : its .number ≡ 0). bad (ap (λ (q : Refusal). q .number) is ∙ z)))
-      (ap (λ (a : Read). record { answer = a; table = table }) (e ∙ ap refused is))
+      (ap (λ (a : Read). record { answer = a; table = table }) (same-read e ∙ ap refused is))
 
   -- none
   module _ {r : Refusal} (is : r ≡ its) (none : r .number ≡ 0) where
@@ -130,11 +147,19 @@ module _ (b : ℕ) (text table : List ℕ) where
   no-width-reading w = (rw w, rw w)
 
   -- otherwise a reading and its numbers
-  pub numbers : isWidth b ≡ true → {answer : Read} {after : List ℕ} → record { answer = answer; table = after } ≡ reading b text table
-      → (record { answer = answer; table = after } ≡ readAt b text table) × (toldRead answer ≡ readTold b text table)
-  unfolding readAt readTold
-  numbers w {answer} e =
-      let its = refusalOf b (length table) text in
-      let is : answer ≡ cond (eqb (its .number) 0) (Rows (rowCount (program b text))) (refused its)
-      = ap (λ (l : Left). l .answer) e ∙ answer-is b text table in
-      (rw w e, rw w (ap toldRead is ∙ told-by its (fair-text b (length table) text) (rowCount (program b text))))
+  reading-told : toldRead (reading b text table .answer) ≡ readingTold b text table
+  reading-told =
+      ap toldRead (answer-is b text table)
+      ∙ told-by (refusalOf b (length table) text) (fair-text b (length table) text) (rowCount (program b text))
+
+  module _ {answer : Read} {after : List ℕ} where
+    pub reading-tells : record { answer = answer; table = after } ≡ reading b text table
+        → (toldRead answer ≡ readingTold b text table) × (after ≡ reading b text table .table)
+    reading-tells e = (ap (λ (l : Left). toldRead (l .answer)) e ∙ reading-told, ap (λ (l : Left). l .table) e)
+
+    pub numbers : isWidth b ≡ true → toldRead answer ≡ readingTold b text table → after ≡ reading b text table .table
+        → (record { answer = answer; table = after } ≡ readAt b text table) × (toldRead answer ≡ readTold b text table)
+    unfolding readAt readTold
+    numbers w told left =
+        let is = ap₂ {C = Left} (λ (a : Read) (t : List ℕ). record { answer = a; table = t }) (same-read (told ∙ sym reading-told)) left in
+        (rw w is, rw w told)

@@ -10,11 +10,17 @@ use Rattle.lines.specs.Words.{all, fieldPair, absentPair}
 use Rattle.lines.specs.Forms.{isTest, isOperation}
 use Rattle.lines.specs.Grammar.{Line, Typed}
 use Rattle.lines.specs.Reading.{cut, readLine}
+use Rattle.word.specs.Told.{Told}
 use Rattle.lines.specs.Program.{size, rowCount, chainedRows, testRow, operationRow, lineRow, flat}
+use Rattle.lines.specs.Program.{refusalOf, program, refusalTold}
 use Rattle.faults.specs.Places.{linesIn}
 use Rattle.faults.specs.declared.Scan.{Scan}
 use Rattle.faults.specs.Checking.{parensIn, testsAt, operationsAt, Placed}
 use Rattle.typed.specs.declared.Group.{Group}
+
+-- what the reading of a text tells, apart from its width: the refusal of the lowest line with a fault, or the row count
+abbrev pub readingTold : ℕ → List ℕ → List ℕ → Told ℕ
+readingTold b text lent = refusalTold (refusalOf b (length lent) text) (rowCount (program b text))
 
 -- numbers put into a list from a place on
 unfoldable pub putAt : ℕ → List ℕ → List ℕ → List ℕ

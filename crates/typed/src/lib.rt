@@ -4,6 +4,7 @@ ghost use Prim.Native.Nat.{_≤_};
 ghost use lib.ListN.{length};
 ghost use Rattle.lines.specs.Program.{reading, refused, readAt, toldRead, readTold};
 ghost use Rattle.faults.specs.Names.{Known};
+ghost use Rattle.typed.specs.Putting.{readingTold};
 
 pub mod pairs;
 pub mod values;
@@ -28,7 +29,7 @@ pub struct Group {
 
 // The answer that a refusal gives.
 fn refuse(number: u64, line: u64) -> Read
-    ensures { λ r. ⌜ r ≡ refused (record { number = number; line = line }) ⌝ }
+    ensures { λ r. ⌜ toldRead r ≡ toldRead (refused (record { number = number; line = line })) ⌝ }
 {
     if number == BAD_LINE {
         return Read::BadLine(line);
@@ -49,7 +50,8 @@ fn no_labels() -> [u64; LABELS] {
 // Reads a text whose labels are put by.
 fn read_known(b: u64, text: &[u8], keys: &[u64], rows: &[u64], table: &mut [u64]) -> Read
     requires { ⌜ (b ≤ 48) × Known b (now text) (now keys) (now rows) ⌝ }
-    ensures { λ r. ⌜ record { answer = r; table = now (table .exit) } ≡ reading b (now (text .entry)) (now (table .entry)) ⌝ }
+    ensures { λ r. ⌜ (toldRead r ≡ readingTold b (now (text .entry)) (now (table .entry)))
+        × (now (table .exit) ≡ reading b (now (text .entry)) (now (table .entry)) .table) ⌝ }
 {
     let verdict = judge(b, text, keys, rows, table.len() as u64);
     let number = verdict.number;
@@ -63,7 +65,8 @@ fn read_known(b: u64, text: &[u8], keys: &[u64], rows: &[u64], table: &mut [u64]
 // Reads a text, with room for its labels.
 fn read_with(b: u64, text: &[u8], keys: &mut [u64], rows: &mut [u64], table: &mut [u64]) -> Read
     requires { ⌜ (b ≤ 48) × ((800 ≤ length (now keys)) × (length (now keys) ≡ length (now rows))) ⌝ }
-    ensures { λ r. ⌜ record { answer = r; table = now (table .exit) } ≡ reading b (now (text .entry)) (now (table .entry)) ⌝ }
+    ensures { λ r. ⌜ (toldRead r ≡ readingTold b (now (text .entry)) (now (table .entry)))
+        × (now (table .exit) ≡ reading b (now (text .entry)) (now (table .entry)) .table) ⌝ }
 {
     let n = learn(b, text, keys, rows);
     read_known(b, text, &keys[0..n], &rows[0..n], table)
@@ -72,7 +75,8 @@ fn read_with(b: u64, text: &[u8], keys: &mut [u64], rows: &mut [u64], table: &mu
 // Reads a text whose words have b bits.
 pub fn read_at(b: u64, text: &[u8], table: &mut [u64]) -> Read
     requires { ⌜ b ≤ 48 ⌝ }
-    ensures { λ r. ⌜ record { answer = r; table = now (table .exit) } ≡ reading b (now (text .entry)) (now (table .entry)) ⌝ }
+    ensures { λ r. ⌜ (toldRead r ≡ readingTold b (now (text .entry)) (now (table .entry)))
+        × (now (table .exit) ≡ reading b (now (text .entry)) (now (table .entry)) .table) ⌝ }
 {
     let mut keys = no_labels();
     let mut rows = no_labels();

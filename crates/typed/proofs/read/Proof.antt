@@ -22,7 +22,7 @@ returns-2 : tie.Need-returns-2
 returns-2 c =
     let at-read-at = c .before .before in
     let at-if1 = at-read-at .before .before in
-    numbers _ _ _ (known-true (at-if1 .before .is-width .ensures) (at-if1 .if1 .left)) (at-read-at .read-at .ensures)
+    numbers _ _ _ (known-true (at-if1 .before .is-width .ensures) (at-if1 .if1 .left)) (at-read-at .read-at .ensures .0) (at-read-at .read-at .ensures .1)
 
 pub read-spec : {M : Type 1} → statement M
 read-spec = tie.close (tie.spec is-width-requires returns read-at-requires same-length returns-2)
