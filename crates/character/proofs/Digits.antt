@@ -189,13 +189,19 @@ module _ (base : ℕ) where
   pub fromBinary-last : (k n v : ℕ) → 0 < base → base ≤ 64 → fromBinary base (k + n) v % 64 ^ n ≡ fromBinary base n v
   fromBinary-last k n v h small = rw fromBinary-more (digits-mod _ (fromBinary-lt base n v h small))
 
--- nine decimal digits, three at a time
-pub threes : (v : ℕ) → (fromBinary 10 3 (v / 1000000 % 1000) * 262144 + fromBinary 10 3 (v / 1000 % 1000)) * 262144 + fromBinary 10 3 (v % 1000)
-    ≡ fromBinary 10 9 v
-threes v =
-    let e : v / 1000000 ≡ v / 1000 / 1000 = omega arith in
-    let low : (x : ℕ) → fromBinary 10 3 (x % 1000) ≡ fromBinary 10 3 x = λ x. fromBinary-low 10 3 x (omega arith) in
-    rw (e, low (v / 1000 / 1000), low (v / 1000), low v, fromBinary-more 10 6 3 v, fromBinary-more 10 3 3 (v / 1000))
+-- nine decimal digits, three and then six
+pub three-six : (v : ℕ) → fromBinary 10 3 (v / 1000000 % 1000) * 68719476736 + fromBinary 10 6 (v % 1000000) ≡ fromBinary 10 9 v
+three-six v = rw (fromBinary-low 10 3 (v / 1000000) (omega arith), fromBinary-low 10 6 v (omega arith), fromBinary-more 10 3 6 v)
+
+-- six decimal digits, three at a time
+pub three-three : (k : ℕ) → k < 1000000 → fromBinary 10 3 (k / 1000) * 262144 + fromBinary 10 3 (k % 1000) ≡ fromBinary 10 6 k
+three-three k h = rw (fromBinary-low 10 3 k (omega arith), fromBinary-more 10 3 3 k)
+
+-- the last n of six
+pub last-of-six : (n v : ℕ) → n ≤ 6 → fromBinary 10 6 (v % 1000000) % 64 ^ n ≡ fromBinary 10 n v
+last-of-six n v h =
+    let e : 6 - n + n ≡ 6 = omega arith in
+    rw (fromBinary-low 10 6 v (omega arith)) (rw e at (fromBinary-last 10 (6 - n) n v (omega arith) (omega arith)))
 
 module _ (count width v : ℕ) where
   -- as many characters as asked for

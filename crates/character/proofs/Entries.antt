@@ -4,7 +4,7 @@ use mathlib.Core.Path.{_≡_, refl, sym, _∙_}
 use mathlib.Core.Logic.{⊎-elim}
 use mathlib.Core.Bool.{Bool}
 use mathlib.Core.List.{List, [], _∷_, _++_}
-use Prim.Native.Nat.{ℕ, zero, suc, _+_, _<_}
+use Prim.Native.Nat.{ℕ, zero, suc, _+_, _*_, _/_, _%_, _<_}
 use native.Mathlib.Nat.{eq-or-lt-of-le, le-of-suc-le-suc}
 use native.Mathlib.Omega.{arith}
 use lib.Dec.{T, eqb, eqb→eq}
@@ -13,6 +13,8 @@ use lib.Seq.{getD-append-add, ext-getD}
 use Rattle.character.specs.Character.{digits, number, packed, fromBinary}
 use Rattle.character.specs.Thousand.{thousand}
 use Rattle.character.specs.Triples.{triples}
+use Rattle.character.proofs.Digits.{three-three}
+use Rattle.character.proofs.RoundTrip.{fromBinary-lt}
 use Rattle.character.proofs.Table.{every, at}
 
 -- as many entries as asked for
@@ -53,6 +55,22 @@ thousand-length = refl
 pub thousand-at : (k : ℕ) → k < 1000 → getD thousand k 0 ≡ fromBinary 10 3 k
 unfolding right
 thousand-at k h = eqb→eq (getD thousand k 0) (fromBinary 10 3 k) (at right thousand every-right k (rw thousand-length h))
+
+-- three characters fit eighteen bits
+pub thousand-small : (k : ℕ) → k < 1000 → getD thousand k 0 < 262144
+thousand-small k h = rw (thousand-at k h) (fromBinary-lt 10 3 k (omega arith) (omega arith))
+
+-- six characters, three and three
+pub six-is : (k : ℕ) → k < 1000000 → getD thousand (k / 1000) 0 * 262144 + getD thousand (k % 1000) 0 ≡ fromBinary 10 6 k
+six-is k h = rw (thousand-at (k / 1000) (omega arith), thousand-at (k % 1000) (omega arith)) (three-three k h)
+
+-- of a number below 1,000 the first three are zeros
+pub three-is : (k : ℕ) → k < 1000 → getD thousand (k / 1000) 0 * 262144 + getD thousand (k % 1000) 0 ≡ fromBinary 10 3 k
+three-is k h =
+    let none : k / 1000 ≡ 0 = omega arith in
+    let all : k % 1000 ≡ k = omega arith in
+    let zero-first : getD thousand 0 0 ≡ 0 = unfold thousand in refl in
+    rw (none, all, zero-first, thousand-at k h) (omega arith)
 
 -- the constant is the list worked out
 pub thousand-made : thousand ≡ triples 1000

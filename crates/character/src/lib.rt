@@ -12,8 +12,10 @@ ghost use Rattle.character.specs.Converted.{toldConverted, toldPacked, c
 // The blank.
 const BLANK: u64 = 0o60;
 
-// As many values as three characters have.
-const THREE: u64 = 0o1_000_000;
+// How many characters are looked up at once, and as many values as they have.
+const SIX: usize = 6;
+
+const SIXES: u64 = 0o1_000_000_000_000;
 
 // What characters come to in a base.
 pub enum Converted {
@@ -71,15 +73,16 @@ pub fn from_binary_octal(n: usize, v: u64) -> u64
     made
 }
 
-// Operation 29: the last n decimal digits of a value, three at a time.
+// Operation 29: the last n decimal digits of a value, six at a time.
 pub fn from_binary_decimal(n: usize, v: u64) -> u64
     requires { ⌜ n ≤ 9 ⌝ }
     ensures { λ r. ⌜ r ≡ fromBinary 10 n v ⌝ }
 {
-    let high = thousand::three(v / 1000000 % 1000);
-    let middle = thousand::three(v / 1000 % 1000);
-    let low = thousand::three(v % 1000);
-    ((high * THREE + middle) * THREE + low) % power(n)
+    let last = thousand::six(v % 1000000);
+    if n <= SIX {
+        return last % power(n);
+    }
+    (thousand::six(v / 1000000 % 1000) * SIXES + last) % power(n)
 }
 
 // Operations 27 and 28: the number that n characters are in base 10 or 8, if each is a digit of the base.

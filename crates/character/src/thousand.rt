@@ -1,8 +1,11 @@
 // The three characters of each number below 1,000.
 ghost use mathlib.Core.Path.{_≡_};
-ghost use Prim.Native.Nat.{_<_};
+ghost use Prim.Native.Nat.{_+_, _*_, _/_, _%_, _<_};
 ghost use lib.ListN.{getD};
 ghost use Rattle.character.specs.Thousand.{thousand};
+
+// As many values as three characters have.
+const THREE: u64 = 0o1_000_000;
 
 // Entry k: the decimal digits of k, each in six bits.
 const THOUSAND: [u16; 1000] = [
@@ -1015,10 +1018,13 @@ fn wide(entry: u16) -> u64
     entry as u64
 }
 
-// The three decimal digits of a number, looked up: nothing else reads the constant.
-pub(crate) fn three(k: u64) -> u64
-    requires { ⌜ k < 1000 ⌝ }
-    ensures { λ r. ⌜ r ≡ getD thousand k 0 ⌝ }
+// The six characters of a number below 1,000,000, three and three looked up: nothing else reads the constant.
+pub(crate) fn six(k: u64) -> u64
+    requires { ⌜ k < 1000000 ⌝ }
+    ensures { λ r. ⌜ r ≡ getD thousand (k / 1000) 0 * 262144 + getD thousand (k % 1000) 0 ⌝ }
 {
-    wide(THOUSAND[k as usize])
+    let entries = THOUSAND;
+    let high = (k / 1000) as usize;
+    let low = (k % 1000) as usize;
+    wide(entries[high]) * THREE + wide(entries[low])
 }

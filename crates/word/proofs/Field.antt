@@ -10,7 +10,7 @@ use lib.Arith.{digits-lt}
 use lib.Dec.{leb}
 use lib.Pow.{pow-pos, pow-mono, pow-add, shr-lt, shr-shr, high, low, field, mod-mod-pow}
 use Rattle.word.specs.Word.{bit}
-use Rattle.word.specs.Field.{width, shift, fieldOf, kept, stored}
+use Rattle.word.specs.Field.{width, shift, fieldOf, kept, stored, storedIn}
 use Rattle.word.proofs.Tests.{by-leb}
 
 -- the bit at place k, counted from the right, is one of the s low bits if k is below s
@@ -69,6 +69,19 @@ new-word n s w k fits =
           let e : m - (n + s) + (n + s) ≡ m = sub-add-cancel inside in
           rw add-assoc (lt-of-lt-of-le (digits-lt (shr-lt (m - (n + s)) (n + s) (subst⁻¹ (λ (i : ℕ). w < 2 ^ i) e short)) rest) (le-of-eq (rw (← pow-add, e))));
     }
+
+-- a word is what stands left of a field, in it and right of it
+pub in-parts : (n s w : ℕ) → w ≡ w / 2 ^ (n + s) * 2 ^ (n + s) + w / 2 ^ s % 2 ^ n * 2 ^ s + w % 2 ^ s
+in-parts n s w =
+    let high : w / 2 ^ s / 2 ^ n ≡ w / 2 ^ (n + s) = shr-shr w s n ∙ ap (λ (i : ℕ). w / 2 ^ i) (omega arith) in
+    let inner : w / 2 ^ s ≡ w / 2 ^ (n + s) * 2 ^ n + w / 2 ^ s % 2 ^ n =
+        sym (div-add-mod' (w / 2 ^ s) (2 ^ n)) ∙ ap (λ (i : ℕ). i * 2 ^ n + w / 2 ^ s % 2 ^ n) high in
+    sym (div-add-mod' w (2 ^ s)) ∙ ap (λ (i : ℕ). i * 2 ^ s + w % 2 ^ s) inner ∙ rw pow-add (omega arith)
+
+-- a store takes what the field reads away and adds what is kept
+pub by-difference : (n s w v : ℕ) → w - w / 2 ^ s % 2 ^ n * 2 ^ s + v % 2 ^ n * 2 ^ s ≡ storedIn n s w v
+unfolding storedIn
+by-difference n s w v = omega (arith, in-parts n s w)
 
 -- numbers with the same parts are the same
 parts-same : (s : ℕ) {x y : ℕ} → x / 2 ^ s ≡ y / 2 ^ s → x % 2 ^ s ≡ y % 2 ^ s → x ≡ y

@@ -24,3 +24,10 @@ stored b left right w v =
     w / 2 ^ (width left right + shift b right) * 2 ^ (width left right + shift b right)
     + kept left right v * 2 ^ shift b right
     + w % 2 ^ shift b right
+
+-- the same by the field's width n and the places s right of it
+unfoldable pub bitsOf : ℕ → ℕ → ℕ → ℕ
+bitsOf n s w = w / 2 ^ s % 2 ^ n
+
+unfoldable pub storedIn : ℕ → ℕ → ℕ → ℕ → ℕ
+storedIn n s w v = w / 2 ^ (n + s) * 2 ^ (n + s) + v % 2 ^ n * 2 ^ s + w % 2 ^ s
