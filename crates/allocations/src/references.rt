@@ -10,13 +10,13 @@ use buddy::setup::fits;
 use cases::Case;
 use cases::references;
 use machine::Definition;
-use machine::Location;
 use machine::Refusal;
+use operands::FIELDS;
 use operands::Linked;
+use operands::locations::bits_of;
 use operands::packing::pack_all;
 use operands::references::locate;
 use soundness::are_words;
-use table::Pair;
 use table::references::is_reference;
 
 // The first ten fields: halves of words or less, a null one, one outside every block, a whole word.
@@ -61,14 +61,15 @@ fn refused(why: Refusal) -> u64 {
 }
 
 // A location folded: a bug or a field, and its numbers.
-fn folded(at: Location) -> u64 {
-    match at {
-        Location::Bug(x) => cases::fold(1, x.0),
-        Location::Field(address, left, right) => cases::fold(
-            cases::fold(cases::fold(2, address), left),
-            right,
-        ),
+fn folded(at: u64) -> u64 {
+    if at < FIELDS {
+        return cases::fold(1, at);
     }
+    let bits = bits_of(at);
+    cases::fold(
+        cases::fold(cases::fold(2, bits.address), bits.left),
+        bits.right,
+    )
 }
 
 // Where a reference leads and what stands there, or why it does not lead there; 1,000 if it is none.
@@ -76,7 +77,7 @@ fn followed(
     bugs: &[u64; 26],
     fields: &[u32; 36],
     setup: SetUp,
-    map: &[u8],
+    map: &[u8; 4096],
     storage: &[u64],
     v: u64,
 ) -> u64
@@ -99,14 +100,24 @@ fn followed(
     if !is_reference(v) {
         return 1000;
     }
-    let operand = Pair { form: 2, value: v };
-    match locate(36, bugs, fields, setup, map, storage, operand) {
+    match locate(36, bugs, fields, setup, map, storage, v) {
         Linked::Stopped(why) => refused(why),
         Linked::At(spot) => {
             let at = spot.at;
             cases::fold(folded(at), spot.holds)
         }
     }
+}
+
+// A map of as many bytes as a state has: those of a shorter one, and zeros.
+fn widened(map: &[u8; maps::BYTES]) -> [u8; 4096] {
+    let mut wide = [0u8; 4096];
+    let mut i = 0;
+    while i < maps::BYTES {
+        wide[i] = map[i];
+        i += 1;
+    }
+    wide
 }
 
 // A drawn reference over drawn bugs and storage.
@@ -116,7 +127,8 @@ fn result(map: &[u8; maps::BYTES], case: Case) -> u64 {
     let v = references::drawn(case.a, case.state);
     let mut fields = [0u32; 36];
     pack_all(definitions(), &mut fields);
-    followed(&bugs, &fields, maps::small(), map, &storage, v)
+    let wide = widened(map);
+    followed(&bugs, &fields, maps::small(), &wide, &storage, v)
 }
 
 // The checksum over references, each after a drawn operation on the map.

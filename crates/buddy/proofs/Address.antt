@@ -1,13 +1,15 @@
 -- What the map says at an address of the set-up words: the size of a live block there, and the map when the tree around it is changed.
 -- Assumes nothing.
 use mathlib.Core.Path.{_≡_, refl, sym, ap, ap₂, subst, _∙_}
-use mathlib.Core.Bool.{true}
+use mathlib.Core.Bool.{true, cond}
 use mathlib.Core.List.{List, _++_}
-use Prim.Native.Nat.{ℕ, suc, _+_, _-_, _*_, _/_, _%_, _≤_, _<_}
+use Prim.Native.Nat.{ℕ, zero, suc, _+_, _-_, _*_, _/_, _%_, _≤_, _<_}
 use native.Mathlib.Nat.{div-add-mod', mod-lt, div-lt-iff-lt-mul, mul-le-mul-right}
 use native.Mathlib.Omega.{arith}
 use lib.ListN.{length, getD, take, drop, replicate}
-use lib.Seq.{getD-take, getD-drop}
+use lib.Dec.{ltb}
+use lib.Seq.{getD-take, getD-drop, getD-append-add}
+use borrow.Author.Tests.{lt-ltb, le-ltb}
 use Rattle.word.proofs.Tests.{by-leb}
 use Rattle.buddy.specs.Upward.{Rises, Rising}
 use Rattle.block.specs.declared.SetUp.{SetUp}
@@ -17,9 +19,9 @@ use Rattle.block.specs.SetUp.{top, words}
 use Rattle.block.specs.Map.{liveTag, written, canonical, allWritten, trees, mapOf, keeps, live, freedMap, deliveredMap}
 use Rattle.block.specs.SetUp.{runs}
 use Rattle.buddy.specs.Lowest.{firstOf}
-use Rattle.buddy.specs.Tag.{tagSize}
+use Rattle.buddy.specs.Tag.{tagSize, startSize}
 use Rattle.block.proofs.Size.{size-pos, top-le}
-use Rattle.block.proofs.Map.{keeps-parts, keeps-words, trees-fill}
+use Rattle.block.proofs.Map.{keeps-parts, keeps-words, length-allWritten, trees-fill}
 use Rattle.buddy.proofs.Halves.{part-length}
 use Rattle.buddy.proofs.LiveSize.{all-tag, tag-below, tag-above, live-size}
 use Rattle.buddy.proofs.First.{first-run}
@@ -38,6 +40,12 @@ pub record Freeing (u : SetUp) (m : List ℕ) (a k n : ℕ) : Type 0 where
   pub puts : let start = (a - u .s1) / n * n in let part = take (start + n - start) (drop start m) in (ys : List ℕ)
       → ((new : List ℕ) → Rises k (getD m (a - u .s1) 0 / 2 - 1) ((a - u .s1) % n) part new → ys ≡ new)
       → take start m ++ (ys ++ drop (start + n - start) (drop start m)) ≡ freedMap a u m
+
+-- zeros are zero, and nothing stands past them
+getD-zeros : (n i : ℕ) → _≡_ {A = ℕ} (getD (replicate n 0) i 0) 0
+getD-zeros zero i = refl
+getD-zeros (suc n) zero = refl
+getD-zeros (suc n) (suc i) = getD-zeros n i
 
 module _ (u : SetUp) (m : List ℕ) where
   -- below the set-up words no live block starts
@@ -61,6 +69,27 @@ module _ (u : SetUp) (m : List ℕ) where
           ap (λ (b : ℕ). sizeAt b (live u m)) (sym far)
           ∙ all-tag (top (u .d)) (u .s1) (a - u .s1) (trees u m) rest (top-le (u .d)) (omega (arith, trees-fill u m whole))
           ∙ ap (λ (xs : List ℕ). tagSize (getD xs (a - u .s1) 0)) (keeps-parts u m kept .1)
+
+      -- past them every byte is zero
+      zero-past : (i : ℕ) → words u ≤ i → getD m i 0 ≡ 0
+      unfolding mapOf
+      zero-past i h =
+          let bytes : length (allWritten (top (u .d)) (trees u m)) ≡ words u = length-allWritten (top (u .d)) (trees u m) ∙ trees-fill u m whole in
+          let far : length (allWritten (top (u .d)) (trees u m)) + (i - words u) ≡ i = omega (arith, bytes) in
+          sym (ap (λ (xs : List ℕ). getD xs i 0) (keeps-parts u m kept .1))
+          ∙ ap (λ (k : ℕ). getD (mapOf u (length m) (trees u m)) k 0) (sym far)
+          ∙ getD-append-add (allWritten (top (u .d)) (trees u m)) (replicate (length m - words u) 0) (i - words u) 0
+          ∙ getD-zeros (length m - words u) (i - words u)
+
+      -- wherever the address is
+      pub live-start : (a : ℕ) → startSize (u .s1) m a ≡ sizeAt a (live u m)
+      unfolding startSize tagSize
+      live-start a = by-leb (λ _. startSize (u .s1) m a ≡ sizeAt a (live u m)) (u .s1) a above (λ l. rw (lt-ltb a (u .s1) l) (sym (live-below a l)))
+        where
+          above : u .s1 ≤ a → cond (ltb a (u .s1)) 0 (tagSize (getD m (a - u .s1) 0)) ≡ sizeAt a (live u m)
+          above low = rw (le-ltb a (u .s1) low) (by-leb (λ _. tagSize (getD m (a - u .s1) 0) ≡ sizeAt a (live u m)) (u .s1 + words u) a
+              (λ l. rw (zero-past (a - u .s1) (omega arith)) (sym (live-above a l)))
+              (λ l. sym (live-tag a low l)))
 
       -- a live block starts in them, and its byte is its tag
       live-here : (a : ℕ) → (sizeAt a (live u m) ≡ 0 → ⊥) → (u .s1 ≤ a) × (a < u .s1 + words u)

@@ -9,7 +9,7 @@ ghost use Rattle.block.specs.SetUp.{top, words, runs};
 ghost use Rattle.block.specs.Map.{keeps, live, freedMap, deliveredMap};
 ghost use Rattle.buddy.specs.Marks.{mark as markOf, marks, allCounted, PassedOver, isTag, TagsAt, WholeTrees};
 ghost use Rattle.buddy.specs.Lowest.{firstOf, toldFound, firstTold, Passed};
-ghost use Rattle.buddy.specs.Tag.{tagSize};
+ghost use Rattle.buddy.specs.Tag.{tagSize, startSize};
 use super::Found;
 use super::sizes::size_of;
 use super::sizes::top_of;
@@ -208,21 +208,27 @@ fn tag_size(tag: u8) -> u64
     size_of(tag / 2 - 1) as u64
 }
 
-// The size of the live block that starts at an address; 0 if none does.
-pub fn live_size(setup: SetUp, map: &[u8], address: u64) -> u64
-    requires { ⌜ (words setup % size (top (setup .d)) ≡ 0) × (keeps setup (now map) ≡ true) ⌝ }
-    ensures { λ r. ⌜ r ≡ sizeAt address (live setup (now (map .entry))) ⌝ }
+// The size of the live block that starts at an address, by the byte there; 0 if none does.
+pub fn size_at(s1: u16, map: &[u8], address: u64) -> u64
+    ensures { λ r. ⌜ r ≡ startSize s1 (now (map .entry)) address ⌝ }
 {
-    let first = setup.s1 as u64;
+    let first = s1 as u64;
     if address < first {
         return 0;
     }
     let offset = address - first;
-    if offset < words_of(setup) as u64 {
-        tag_size(map[offset as usize])
-    } else {
-        0
+    if offset < map.len() as u64 {
+        return tag_size(map[offset as usize]);
     }
+    0
+}
+
+// The size of the live block of a map that starts at an address; 0 if none does.
+pub fn live_size(setup: SetUp, map: &[u8], address: u64) -> u64
+    requires { ⌜ (words setup % size (top (setup .d)) ≡ 0) × (keeps setup (now map) ≡ true) ⌝ }
+    ensures { λ r. ⌜ r ≡ sizeAt address (live setup (now (map .entry))) ⌝ }
+{
+    size_at(setup.s1, map, address)
 }
 
 // From a place on, n bytes at a time, past bytes below a tag: the first that is not, or the end.

@@ -17,15 +17,17 @@ use Rattle.machine.specs.declared.Location.{Location}
 use Rattle.machine.specs.Storage.{placed}
 use Rattle.operands.specs.Storing.{bugsStored, wordsStored}
 use Rattle.operations.specs.declared.Action.{Action}
-use Rattle.operations.specs.declared.Action.the-variants.{Nothing, Store, StoreTwo, SetUpWords, Define, Deliver, DeliverTwo, Free}
-use Rattle.operations.specs.declared.Action.the-variants.{Input, Print, Save, Restore, SaveDefinition, RestoreDefinition, Call}
-use Rattle.operations.specs.declared.Action.the-variants.{Return}
+use Rattle.operations.specs.declared.Action.the-variants as action
+use Rattle.operations.specs.Deeds.{Deed, meant}
+use Rattle.operations.specs.Deeds.{Nothing, Store, StoreTwo, SetUpWords, Define, Deliver, DeliverTwo, Free}
+use Rattle.operations.specs.Deeds.{Input, Print, Save, Restore, SaveDefinition, RestoreDefinition, Call}
+use Rattle.operations.specs.Deeds.{Return}
 use Rattle.commit.specs.Carried.{bugsAfter, entriesAfter, mapAfter, zeroed, copied, wordsAfter, outputAfter}
 use Rattle.commit.specs.Feasible.{Ground, Run, Copy, ReachedIn, Feasible}
 use Rattle.commit.proofs.Others.{Among}
 
 -- what an action asks for
-module _ (b : ℕ) (g : Ground) {x : Action} (h : Feasible b g x) where
+module _ (b : ℕ) (g : Ground) {x : Deed} (h : Feasible b g x) where
   pub store-asks : {at : Location} {v : ℕ} → x ≡ Store at v → ReachedIn b g at
   unfolding Feasible
   store-asks e = subst (Feasible b g) e h
@@ -90,7 +92,7 @@ module _ (b : ℕ) (g : Ground) {x : Action} (h : Feasible b g x) where
   return-asks e = subst (Feasible b g) e h
 
 -- what it leaves: bugs, entries, map, storage and output
-abbrev Leaves : ℕ → SetUp → ℕ → ℕ → List ℕ → List ℕ → List ℕ → List ℕ → List ℕ → Action → List ℕ → List ℕ → List ℕ → List ℕ → List ℕ → Type 0
+abbrev Leaves : ℕ → SetUp → ℕ → ℕ → List ℕ → List ℕ → List ℕ → List ℕ → List ℕ → Deed → List ℕ → List ℕ → List ℕ → List ℕ → List ℕ → Type 0
 Leaves b u count written bugs entries m ws out x bugs′ entries′ m′ ws′ out′ =
     (bugs′ ≡ bugsAfter b x bugs)
     × (entries′ ≡ entriesAfter count x entries)
@@ -103,26 +105,26 @@ abbrev idle : List ℕ
 idle = 0 ∷ 4 ∷ 12 ∷ 13 ∷ 14 ∷ 15 ∷ []
 
 module _ (b : ℕ) (u : SetUp) (count written : ℕ) (bugs entries m ws out : List ℕ) where
-  pub idles : (x : Action) → Among idle x → Leaves b u count written bugs entries m ws out x bugs entries m ws out
-  unfolding bugsAfter entriesAfter mapAfter wordsAfter outputAfter
-  idles Nothing h = (refl, refl, refl, refl, refl)
-  idles (Store at v) h = absurd (miss idle 1 tt h)
-  idles (StoreTwo a v y w) h = absurd (miss idle 2 tt h)
-  idles (SetUpWords w) h = absurd (miss idle 3 tt h)
-  idles (Define f d) h = (refl, refl, refl, refl, refl)
-  idles (Deliver address n from a) h = absurd (miss idle 5 tt h)
-  idles (DeliverTwo address n a a2 v) h = absurd (miss idle 6 tt h)
-  idles (Free address at v) h = absurd (miss idle 7 tt h)
-  idles (Input at v n) h = absurd (miss idle 8 tt h)
-  idles (Print n width v) h = absurd (miss idle 9 tt h)
-  idles (Save v) h = absurd (miss idle 10 tt h)
-  idles (Restore at v) h = absurd (miss idle 11 tt h)
-  idles (SaveDefinition f) h = (refl, refl, refl, refl, refl)
-  idles (RestoreDefinition f) h = (refl, refl, refl, refl, refl)
-  idles (Call row) h = (refl, refl, refl, refl, refl)
-  idles Return h = (refl, refl, refl, refl, refl)
+  pub idles : (x : Action) → Among idle x → Leaves b u count written bugs entries m ws out (meant x) bugs entries m ws out
+  unfolding meant bugsAfter entriesAfter mapAfter wordsAfter outputAfter
+  idles action.Nothing h = (refl, refl, refl, refl, refl)
+  idles (action.Store at v) h = absurd (miss idle 1 tt h)
+  idles (action.StoreTwo a v y w) h = absurd (miss idle 2 tt h)
+  idles (action.SetUpWords w) h = absurd (miss idle 3 tt h)
+  idles (action.Define f d) h = (refl, refl, refl, refl, refl)
+  idles (action.Deliver address n from a) h = absurd (miss idle 5 tt h)
+  idles (action.DeliverTwo address n a a2 v) h = absurd (miss idle 6 tt h)
+  idles (action.Free address at v) h = absurd (miss idle 7 tt h)
+  idles (action.Input at v n) h = absurd (miss idle 8 tt h)
+  idles (action.Print n width v) h = absurd (miss idle 9 tt h)
+  idles (action.Save v) h = absurd (miss idle 10 tt h)
+  idles (action.Restore at v) h = absurd (miss idle 11 tt h)
+  idles (action.SaveDefinition f) h = (refl, refl, refl, refl, refl)
+  idles (action.RestoreDefinition f) h = (refl, refl, refl, refl, refl)
+  idles (action.Call row) h = (refl, refl, refl, refl, refl)
+  idles action.Return h = (refl, refl, refl, refl, refl)
 
-module _ (b : ℕ) (u : SetUp) (count written : ℕ) (bugs entries m ws out : List ℕ) {x : Action} where
+module _ (b : ℕ) (u : SetUp) (count written : ℕ) (bugs entries m ws out : List ℕ) {x : Deed} where
   -- one store
   module _ {at : Location} {v : ℕ} where
     pub did-store : x ≡ Store at v → {bugs′ ws′ : List ℕ} → (bugs′ ≡ bugsStored b at v bugs) × (ws′ ≡ wordsStored b (u .s1) at v ws)

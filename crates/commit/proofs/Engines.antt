@@ -25,10 +25,10 @@ use Rattle.machine.proofs.Keeps.{stores-only, not-zeroed}
 use Rattle.operands.proofs.Reported.{NotNull, store-words}
 use Rattle.operands.specs.Storing.{bugsStored, wordsStored}
 use Rattle.operations.specs.declared.Counts.{Counts}
-use Rattle.operations.specs.declared.Action.{Action}
-use Rattle.operations.specs.declared.Action.the-variants.{Nothing, Store, StoreTwo, SetUpWords, Define, Deliver, DeliverTwo, Free}
-use Rattle.operations.specs.declared.Action.the-variants.{Input, Print, Save, Restore, SaveDefinition, RestoreDefinition, Call}
-use Rattle.operations.specs.declared.Action.the-variants.{Return}
+use Rattle.operations.specs.Deeds.{Deed}
+use Rattle.operations.specs.Deeds.{Nothing, Store, StoreTwo, SetUpWords, Define, Deliver, DeliverTwo, Free}
+use Rattle.operations.specs.Deeds.{Input, Print, Save, Restore, SaveDefinition, RestoreDefinition, Call}
+use Rattle.operations.specs.Deeds.{Return}
 use Rattle.operations.specs.Effects.{effects}
 use Rattle.commit.specs.declared.Records.{Records}
 use Rattle.commit.specs.Carried.{bugsAfter, entriesAfter, mapAfter, zeroed, copied, wordsAfter, outputAfter, setupAfter}
@@ -37,7 +37,7 @@ use Rattle.commit.specs.Reported.{reportOf}
 use Rattle.commit.specs.Then.{engineThen}
 
 -- an action whose stores are not at address zero
-unfoldable pub Sure : Action → Type 0
+unfoldable pub Sure : Deed → Type 0
 Sure Nothing = Unit {0}
 Sure (Store at v) = NotNull at
 Sure (StoreTwo a v c x) = NotNull a × NotNull c
@@ -132,10 +132,10 @@ same-engine {s} {t} {ws} {vs} h k = ap₂ (λ (s : State) (ws : List ℕ). _:>_ 
 
 -- the effects of an action on the engine
 module _ (b : ℕ) (e : Engine) (to : Place) where
-  abbrev given : Action → Effects
+  abbrev given : Deed → Effects
   given x = effects b x (onCore (movedTo to) (e .state))
 
-  state-as : (x : Action) → given x .state ≡ engineThen b to x e .state
+  state-as : (x : Deed) → given x .state ≡ engineThen b to x e .state
   unfolding effects quietly reporting storing andStoring delivering onCore movedTo withMap withDefinition withContents withSaved withCalls withSetUp
       withTaken withWritten placeAfter bugsAfter recordsAfter entriesAfter countsAfter setupAfter mapAfter
   state-as Nothing = refl
@@ -155,7 +155,7 @@ module _ (b : ℕ) (e : Engine) (to : Place) where
   state-as (Call row) = refl
   state-as Return = refl
 
-  words-as : (x : Action) → Sure x → storageAfter b (given x) (e .storage) ≡ engineThen b to x e .storage
+  words-as : (x : Deed) → Sure x → storageAfter b (given x) (e .storage) ≡ engineThen b to x e .storage
   unfolding Sure effects quietly reporting storing andStoring delivering onCore movedTo withMap withDefinition withContents withSaved withCalls
       withSetUp withTaken withWritten assigned withBug noReport wordsAfter
   words-as Nothing h = stored-none b (given Nothing) (e .storage) refl refl refl refl refl
@@ -179,13 +179,13 @@ module _ (b : ℕ) (e : Engine) (to : Place) where
   words-as (Call row) h = stored-none b (given (Call row)) (e .storage) refl refl refl refl refl
   words-as Return h = stored-none b (given Return) (e .storage) refl refl refl refl refl
 
-  pub effects-as : (x : Action) → Sure x → engineAfter b (effects b x (onCore (movedTo to) (e .state))) e ≡ engineThen b to x e
+  pub effects-as : (x : Deed) → Sure x → engineAfter b (effects b x (onCore (movedTo to) (e .state))) e ≡ engineThen b to x e
   unfolding engineAfter
   effects-as x h = same-engine (ap (withWidth (e .state .width)) (state-as x)) (words-as x h)
 
 -- the output and the report of an action
 module _ (b : ℕ) (s : State) where
-  pub output-as : (x : Action) (written : ℕ) (out : List ℕ) → placed written (effects b x s .printed) out ≡ outputAfter written x out
+  pub output-as : (x : Deed) (written : ℕ) (out : List ℕ) → placed written (effects b x s .printed) out ≡ outputAfter written x out
   unfolding effects quietly reporting storing andStoring delivering outputAfter
   output-as Nothing written out = placed-none written out
   output-as (Store at v) written out = placed-none written out
@@ -204,7 +204,7 @@ module _ (b : ℕ) (s : State) where
   output-as (Call row) written out = placed-none written out
   output-as Return written out = placed-none written out
 
-  pub report-as : (x : Action) → effects b x s .report ≡ reportOf x
+  pub report-as : (x : Deed) → effects b x s .report ≡ reportOf x
   unfolding effects quietly reporting storing andStoring delivering reportOf
   report-as Nothing = refl
   report-as (Store at v) = refl
@@ -227,7 +227,7 @@ module _ (b : ℕ) (s : State) where
 never : (P : Type 0) → true ≡ false → P
 never P e = let z : _≡_ {A = ℕ} 0 1 = ap (λ (t : Bool). cond t 0 1) e in absurd (omega arith)
 
-pub not-recorded : (x : Action) (to : Place) (calls : List Place) (n : ℕ) (c : Counts) (r : Records) → isRecorded x ≡ false
+pub not-recorded : (x : Deed) (to : Place) (calls : List Place) (n : ℕ) (c : Counts) (r : Records) → isRecorded x ≡ false
     → (placeAfter x to calls n ≡ to) × (recordsAfter x to c r ≡ r)
 unfolding isRecorded placeAfter recordsAfter
 not-recorded Nothing to calls n c r e = (refl, refl)

@@ -9,6 +9,7 @@ use Rattle.block.specs.declared.SetUp.{SetUp}
 use Rattle.machine.specs.Storage.{noReport}
 use Rattle.operations.specs.declared.Counts.{Counts}
 use Rattle.operations.specs.declared.Action.{Action}
+use Rattle.operations.specs.Deeds.{meant}
 use Rattle.operations.specs.declared.Action.the-variants.{Nothing, Store, StoreTwo, SetUpWords, Define, Deliver, DeliverTwo, Free}
 use Rattle.operations.specs.declared.Action.the-variants.{Input, Print, Save, Restore, SaveDefinition, RestoreDefinition, Call}
 use Rattle.operations.specs.declared.Action.the-variants.{Return}
@@ -24,8 +25,8 @@ abbrev staying : List ℕ
 staying = 0 ∷ 1 ∷ 2 ∷ 5 ∷ 6 ∷ 7 ∷ []
 
 module _ (u : SetUp) (c : Counts) where
-  pub stays : (x : Action) → Among staying x → onward x u c ≡ record { setup = u; counts = c; recorded = false }
-  unfolding setupAfter countsAfter isRecorded
+  pub stays : (x : Action) → Among staying x → onward (meant x) u c ≡ record { setup = u; counts = c; recorded = false }
+  unfolding meant setupAfter countsAfter isRecorded
   stays Nothing h = refl
   stays (Store at v) h = refl
   stays (StoreTwo a v y w) h = refl
@@ -47,8 +48,8 @@ module _ (u : SetUp) (c : Counts) where
 abbrev unturned : List ℕ
 unturned = 0 ∷ 1 ∷ 2 ∷ 3 ∷ 5 ∷ 6 ∷ 7 ∷ 8 ∷ 9 ∷ 10 ∷ 11 ∷ []
 
-pub unrecorded : (x : Action) → Among unturned x → isRecorded x ≡ false
-unfolding isRecorded
+pub unrecorded : (x : Action) → Among unturned x → isRecorded (meant x) ≡ false
+unfolding meant isRecorded
 unrecorded Nothing h = refl
 unrecorded (Store at v) h = refl
 unrecorded (StoreTwo a v y w) h = refl
@@ -70,8 +71,8 @@ unrecorded Return h = absurd (miss unturned 15 tt h)
 abbrev quiet : List ℕ
 quiet = 0 ∷ 3 ∷ 4 ∷ 9 ∷ 10 ∷ 12 ∷ 13 ∷ 14 ∷ 15 ∷ []
 
-pub unreported : (x : Action) → Among quiet x → reportOf x ≡ noReport
-unfolding reportOf
+pub unreported : (x : Action) → Among quiet x → reportOf (meant x) ≡ noReport
+unfolding meant reportOf
 unreported Nothing h = refl
 unreported (Store at v) h = absurd (miss quiet 1 tt h)
 unreported (StoreTwo a v y w) h = absurd (miss quiet 2 tt h)

@@ -5,7 +5,7 @@ use mathlib.Core.Bool.{false}
 use mathlib.Core.List.{List, [], _∷_}
 use mathlib.Core.Path.{_≡_, refl, sym, ap, subst, _∙_}
 use borrow.Author.Tests.{eq-eqb, ne-eqb}
-use lib.ListN.{length, getD, set}
+use lib.ListN.{length, getD, set, length-set}
 use Rattle.word.proofs.Tests.{by-leb}
 use Rattle.word.specs.Field.{width, kept}
 use Rattle.table.specs.declared.BugLetter.{BugLetter}
@@ -21,10 +21,10 @@ use Rattle.machine.specs.Effects.{storeTo}
 use Rattle.operands.specs.Packing.{unpacked, unpackedAll}
 use Rattle.operands.specs.Reading.{Reached}
 use Rattle.operations.specs.declared.Counts.{Counts}
-use Rattle.operations.specs.declared.Action.{Action}
-use Rattle.operations.specs.declared.Action.the-variants.{Nothing, Store, StoreTwo, SetUpWords, Define, Deliver, DeliverTwo, Free}
-use Rattle.operations.specs.declared.Action.the-variants.{Input, Print, Save, Restore, SaveDefinition, RestoreDefinition, Call}
-use Rattle.operations.specs.declared.Action.the-variants.{Return}
+use Rattle.operations.specs.Deeds.{Deed}
+use Rattle.operations.specs.Deeds.{Nothing, Store, StoreTwo, SetUpWords, Define, Deliver, DeliverTwo, Free}
+use Rattle.operations.specs.Deeds.{Input, Print, Save, Restore, SaveDefinition, RestoreDefinition, Call}
+use Rattle.operations.specs.Deeds.{Return}
 use Rattle.commit.specs.declared.Records.{Records}
 use Rattle.commit.specs.Carried.{recording, placeAfter, recordsAfter, isRecorded}
 use Rattle.commit.specs.Feasible.{Ground, Feasible, Countable, Counted}
@@ -42,7 +42,7 @@ any-place (x ∷ xs) zero d f h = refl
 any-place (x ∷ xs) (suc i) d f h = any-place xs i d f (omega arith)
 
 -- what is taken and written stays inside input and output
-module _ {counts : Counts} {given room : ℕ} {x : Action} (k : Counted counts given room x) where
+module _ {counts : Counts} {given room : ℕ} {x : Deed} (k : Counted counts given room x) where
   pub input-fits : {at : Location} {v n : ℕ} → x ≡ Input at v n → counts .taken + n ≤ given
   input-fits e =
       let same = ap (λ (c : Counts). c .taken) (k .countable .same) in
@@ -54,7 +54,7 @@ module _ {counts : Counts} {given room : ℕ} {x : Action} (k : Counted counts g
       omega (arith, k .output, print-asks (k .countable .width) (k .countable .on) (k .countable .feasible) e .1)
 
 -- what the counts leave room for
-module _ {counts : Counts} {x : Action} (k : Countable counts x) where
+module _ {counts : Counts} {x : Deed} (k : Countable counts x) where
   pub save-room : {v : ℕ} → x ≡ Save v → counts .contents < 128
   save-room e = subst (λ (c : Counts). c .contents < 128) (k .same) (save-asks (k .width) (k .on) (k .feasible) e)
 
@@ -83,19 +83,20 @@ module _ {counts : Counts} {x : Action} (k : Countable counts x) where
   return-room e = subst (λ (c : Counts). (0 < c .calls) × (c .calls ≤ 128)) (k .same) (return-asks (k .width) (k .on) (k .feasible) e)
 
 -- a turn by the parts that change in place: the place, the definitions with the numbers that they are packed into, and two stacks
-pub record Turned (x : Action) (to : Place) (c : Counts) (r : Records) (y : Action) (p : Place) (ds ss : List Definition) (ps : List Place)
+pub record Turned (x : Deed) (to : Place) (c : Counts) (r : Records) (y : Deed) (p : Place) (ds ss : List Definition) (ps : List Place)
     (fields : List ℕ) : Type 0 where
   pub same : y ≡ x
   pub place : p ≡ placeAfter x to (r .calls) (c .calls)
   pub records : recording ds ss ps ≡ recordsAfter x to c r
   pub packed : unpackedAll fields ≡ ds
+  pub long : length ps ≡ length (r .calls)
 
-module _ {x y : Action} (to : Place) (c : Counts) (r : Records) {p : Place} {ds ss : List Definition} {ps : List Place} (fields : List ℕ) {fs : List ℕ}
+module _ {x y : Deed} (to : Place) (c : Counts) (r : Records) {p : Place} {ds ss : List Definition} {ps : List Place} (fields : List ℕ) {fs : List ℕ}
     (was : unpackedAll fields ≡ r .definitions) where
   pub turned-kept : isRecorded x ≡ false → p ≡ to → ds ≡ r .definitions → ss ≡ r .saved → ps ≡ r .calls → fs ≡ fields → y ≡ x → Turned x to c r y p ds ss ps fs
   turned-kept e at d s k f same =
       let h = not-recorded x to (r .calls) (c .calls) c r e in
-      record { same = same; place = at ∙ sym (h .0); records = rw (d, s, k) (sym (h .1)); packed = rw (f, d) was }
+      record { same = same; place = at ∙ sym (h .0); records = rw (d, s, k) (sym (h .1)); packed = rw (f, d) was; long = ap length k }
 
   pub turned-define : {f : FieldName} {d : Definition} → x ≡ Define f d → (n : ℕ) → unpacked n ≡ d
       → p ≡ to → ds ≡ set (r .definitions) (f .0) d → ss ≡ r .saved → ps ≡ r .calls → fs ≡ set fields (f .0) n → y ≡ x → Turned x to c r y p ds ss ps fs
@@ -106,13 +107,15 @@ module _ {x y : Action} (to : Place) (c : Counts) (r : Records) {p : Place} {ds 
         place = rw e at;
         records = rw (e, d, s, k);
         packed = rw (fields-are, d) (unpacked-set fields (f .0) n ∙ rw (was, is));
+        long = ap length k;
       }
 
   pub turned-save : {f : FieldName} → x ≡ SaveDefinition f
       → p ≡ to → ds ≡ r .definitions → ss ≡ set (r .saved) (c .saved) (getD (r .definitions) (f .0) undefined) → ps ≡ r .calls → fs ≡ fields → y ≡ x
       → Turned x to c r y p ds ss ps fs
   unfolding placeAfter recordsAfter
-  turned-save e at d s k f same = record { same = same; place = rw e at; records = rw (e, d, s, k); packed = rw (f, d) was }
+  turned-save e at d s k f same =
+      record { same = same; place = rw e at; records = rw (e, d, s, k); packed = rw (f, d) was; long = ap length k }
 
   pub turned-restore : {f : FieldName} → x ≡ RestoreDefinition f → (n : ℕ) → unpacked n ≡ getD (r .saved) (c .saved - 1) undefined
       → p ≡ to → ds ≡ set (r .definitions) (f .0) (getD (r .saved) (c .saved - 1) undefined) → ss ≡ r .saved → ps ≡ r .calls → fs ≡ set fields (f .0) n → y ≡ x
@@ -124,18 +127,20 @@ module _ {x y : Action} (to : Place) (c : Counts) (r : Records) {p : Place} {ds 
         place = rw e at;
         records = rw (e, d, s, k);
         packed = rw (fields-are, d) (unpacked-set fields (f .0) n ∙ rw (was, is));
+        long = ap length k;
       }
 
   pub turned-call : {row : ℕ} → x ≡ Call row
       → p ≡ testsOf row → ds ≡ r .definitions → ss ≡ r .saved → ps ≡ set (r .calls) (c .calls) to → fs ≡ fields → y ≡ x → Turned x to c r y p ds ss ps fs
   unfolding placeAfter recordsAfter
   turned-call e at d s k f same =
-      record { same = same; place = rw e at; records = rw (e, d, s, k); packed = rw (f, d) was }
+      record { same = same; place = rw e at; records = rw (e, d, s, k); packed = rw (f, d) was; long = ap length k ∙ length-set (r .calls) (c .calls) to }
 
   pub turned-return : x ≡ Return
       → p ≡ getD (r .calls) (c .calls - 1) theEnd → ds ≡ r .definitions → ss ≡ r .saved → ps ≡ r .calls → fs ≡ fields → y ≡ x → Turned x to c r y p ds ss ps fs
   unfolding placeAfter recordsAfter
-  turned-return e at d s k f same = record { same = same; place = rw e at; records = rw (e, d, s, k); packed = rw (f, d) was }
+  turned-return e at d s k f same =
+      record { same = same; place = rw e at; records = rw (e, d, s, k); packed = rw (f, d) was; long = ap length k }
 
 -- a store's part in a report
 module _ {at : Location} (v : ℕ) where
@@ -157,13 +162,8 @@ module _ {at : Location} (v : ℕ) where
   unfolding Short
   field-short e h = subst Short e h
 
--- a field that is not null has its left bit no further right than its right one
-pub field-there : {left right w : ℕ} → w ≡ width left right → (w ≡ 0 → ⊥) → left ≤ right
-unfolding width
-field-there {left} {right} is some = by-leb (λ _. left ≤ right) left right (λ s. s) (λ more. absurd (some (is ∙ omega arith)))
-
 -- the stores that an action reports
-module _ {x : Action} (h : Reportable x) where
+module _ {x : Deed} (h : Reportable x) where
   pub store-short : {at : Location} {v : ℕ} → x ≡ Store at v → Short at
   unfolding Reportable
   store-short e = subst Reportable e h
@@ -198,7 +198,7 @@ unfolding Reached Short
 reached-short b s1 ws (Bug x) w h = tt
 reached-short b s1 ws (Field address left right) w h = omega (arith, h .0)
 
-pub feasible-reportable : (b : ℕ) (g : Ground) (x : Action) → b ≤ 48 → Feasible b g x → Reportable x
+pub feasible-reportable : (b : ℕ) (g : Ground) (x : Deed) → b ≤ 48 → Feasible b g x → Reportable x
 unfolding Feasible Reportable
 feasible-reportable b g Nothing w h = tt
 feasible-reportable b g (Store at v) w h = reached-short b _ _ at w h
@@ -223,7 +223,7 @@ unfolding Reached NotNull
 reached-not-null b s1 ws (Bug x) p h = tt
 reached-not-null b s1 ws (Field address left right) p h = omega (arith, h .1)
 
-pub feasible-sure : (b : ℕ) (g : Ground) (x : Action) → 0 < g .setup .s1 → Feasible b g x → Sure x
+pub feasible-sure : (b : ℕ) (g : Ground) (x : Deed) → 0 < g .setup .s1 → Feasible b g x → Sure x
 unfolding Feasible Sure
 feasible-sure b g Nothing p h = tt
 feasible-sure b g (Store at v) p h = reached-not-null b _ _ at p h

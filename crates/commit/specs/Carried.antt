@@ -15,13 +15,13 @@ use Rattle.machine.specs.State.{undefined, testsOf, theEnd}
 use Rattle.machine.specs.Storage.{placed}
 use Rattle.operands.specs.Storing.{bugsStored, wordsStored}
 use Rattle.operations.specs.declared.Counts.{Counts}
-use Rattle.operations.specs.declared.Action.{Action}
-use Rattle.operations.specs.declared.Action.the-variants.{Nothing, Store, StoreTwo, SetUpWords, Define, Deliver, DeliverTwo, Free, Input, Print, Save, Restore, SaveDefinition, RestoreDefinition, Call, Return}
+use Rattle.operations.specs.Deeds.{Deed}
+use Rattle.operations.specs.Deeds.{Nothing, Store, StoreTwo, SetUpWords, Define, Deliver, DeliverTwo, Free, Input, Print, Save, Restore, SaveDefinition, RestoreDefinition, Call, Return}
 use Rattle.commit.specs.declared.Onward.{Onward}
 use Rattle.commit.specs.declared.Records.{Records}
 
 -- the bugs
-unfoldable pub bugsAfter : ℕ → Action → List ℕ → List ℕ
+unfoldable pub bugsAfter : ℕ → Deed → List ℕ → List ℕ
 bugsAfter b (Store at v) bugs = bugsStored b at v bugs
 bugsAfter b (StoreTwo a v c x) bugs = bugsStored b c x (bugsStored b a v bugs)
 bugsAfter b (Deliver address n from a) bugs = bugsStored b a address bugs
@@ -40,7 +40,7 @@ bugsAfter b (Call row) bugs = bugs
 bugsAfter b Return bugs = bugs
 
 -- the entries of the contents stack
-unfoldable pub entriesAfter : ℕ → Action → List ℕ → List ℕ
+unfoldable pub entriesAfter : ℕ → Deed → List ℕ → List ℕ
 entriesAfter count (Save v) l = set l count v
 entriesAfter count Nothing l = l
 entriesAfter count (Store at v) l = l
@@ -59,7 +59,7 @@ entriesAfter count (Call row) l = l
 entriesAfter count Return l = l
 
 -- the block map
-unfoldable pub mapAfter : SetUp → Action → List ℕ → List ℕ
+unfoldable pub mapAfter : SetUp → Deed → List ℕ → List ℕ
 mapAfter u (SetUpWords w) m = freshMap w (length m)
 mapAfter u (Deliver address n from a) m = deliveredMap (level (top (u .d)) n) address u m
 mapAfter u (DeliverTwo address n a a2 v) m = deliveredMap (level (top (u .d)) n) address u m
@@ -85,7 +85,7 @@ unfoldable pub copied : ℕ → ℕ → ℕ → ℕ → List ℕ → List ℕ
 copied s1 address n from ws = cond (eqb from 0) ws (placed (address - s1) (take n (drop (from - s1) ws)) ws)
 
 -- the storage
-unfoldable pub wordsAfter : ℕ → ℕ → Action → List ℕ → List ℕ
+unfoldable pub wordsAfter : ℕ → ℕ → Deed → List ℕ → List ℕ
 wordsAfter b s1 (Store at v) ws = wordsStored b s1 at v ws
 wordsAfter b s1 (StoreTwo a v c x) ws = wordsStored b s1 c x (wordsStored b s1 a v ws)
 wordsAfter b s1 (SetUpWords u) ws = placed 0 (replicate (words u) 0) ws
@@ -104,7 +104,7 @@ wordsAfter b s1 (Call row) ws = ws
 wordsAfter b s1 Return ws = ws
 
 -- the output
-unfoldable pub outputAfter : ℕ → Action → List ℕ → List ℕ
+unfoldable pub outputAfter : ℕ → Deed → List ℕ → List ℕ
 outputAfter written (Print n width v) out = placed written (printed n width v) out
 outputAfter written Nothing out = out
 outputAfter written (Store at v) out = out
@@ -123,7 +123,7 @@ outputAfter written (Call row) out = out
 outputAfter written Return out = out
 
 -- the set-up numbers
-unfoldable pub setupAfter : Action → SetUp → SetUp
+unfoldable pub setupAfter : Deed → SetUp → SetUp
 setupAfter (SetUpWords w) u = w
 setupAfter Nothing u = u
 setupAfter (Store at v) u = u
@@ -146,7 +146,7 @@ abbrev pub counting : ℕ → ℕ → ℕ → ℕ → ℕ → Counts
 counting contents saved calls taken written =
     record { contents = contents; saved = saved; calls = calls; taken = taken; written = written }
 
-unfoldable pub countsAfter : Action → Counts → Counts
+unfoldable pub countsAfter : Deed → Counts → Counts
 countsAfter (Input at v n) c = counting (c .contents) (c .saved) (c .calls) (c .taken + n) (c .written)
 countsAfter (Print n width v) c = counting (c .contents) (c .saved) (c .calls) (c .taken) (c .written + n)
 countsAfter (Save v) c = counting (suc (c .contents)) (c .saved) (c .calls) (c .taken) (c .written)
@@ -165,7 +165,7 @@ countsAfter (DeliverTwo address n a a2 v) c = c
 countsAfter (Free address at v) c = c
 
 -- the place, where the action goes to one
-unfoldable pub placeAfter : Action → Place → List Place → ℕ → Place
+unfoldable pub placeAfter : Deed → Place → List Place → ℕ → Place
 placeAfter (Call row) to calls count = testsOf row
 placeAfter Return to calls count = getD calls (count - 1) theEnd
 placeAfter Nothing to calls count = to
@@ -187,7 +187,7 @@ placeAfter (RestoreDefinition f) to calls count = to
 abbrev pub recording : List Definition → List Definition → List Place → Records
 recording definitions saved calls = record { definitions = definitions; saved = saved; calls = calls }
 
-unfoldable pub recordsAfter : Action → Place → Counts → Records → Records
+unfoldable pub recordsAfter : Deed → Place → Counts → Records → Records
 recordsAfter (Define f x) to c r = recording (set (r .definitions) (f .0) x) (r .saved) (r .calls)
 recordsAfter (SaveDefinition f) to c r =
     recording (r .definitions) (set (r .saved) (c .saved) (getD (r .definitions) (f .0) undefined)) (r .calls)
@@ -208,7 +208,7 @@ recordsAfter (Restore at v) to c r = r
 recordsAfter Return to c r = r
 
 -- the actions that change a place by the calls, or one of these three
-unfoldable pub isRecorded : Action → Bool
+unfoldable pub isRecorded : Deed → Bool
 isRecorded Nothing = false
 isRecorded (Store at v) = false
 isRecorded (StoreTwo a v c x) = false
@@ -227,5 +227,5 @@ isRecorded (Call row) = true
 isRecorded Return = true
 
 -- where an action leads besides: set-up numbers, counts, and whether it is one of these
-abbrev pub onward : Action → SetUp → Counts → Onward
+abbrev pub onward : Deed → SetUp → Counts → Onward
 onward x u c = record { setup = setupAfter x u; counts = countsAfter x c; recorded = isRecorded x }

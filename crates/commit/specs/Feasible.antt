@@ -13,8 +13,8 @@ use Rattle.machine.specs.declared.Location.{Location}
 use Rattle.machine.specs.Answer.{passed}
 use Rattle.operands.specs.Reading.{Reached}
 use Rattle.operations.specs.declared.Counts.{Counts}
-use Rattle.operations.specs.declared.Action.{Action}
-use Rattle.operations.specs.declared.Action.the-variants.{Nothing, Store, StoreTwo, SetUpWords, Define, Deliver, DeliverTwo, Free, Input, Print, Save, Restore, SaveDefinition, RestoreDefinition, Call, Return}
+use Rattle.operations.specs.Deeds.{Deed}
+use Rattle.operations.specs.Deeds.{Nothing, Store, StoreTwo, SetUpWords, Define, Deliver, DeliverTwo, Free, Input, Print, Save, Restore, SaveDefinition, RestoreDefinition, Call, Return}
 use Rattle.machine.specs.Operations.{lowestRun}
 
 -- what an action is carried out on: set-up numbers, map and storage, how far stacks, input and output are used, and the lengths of
@@ -53,7 +53,7 @@ abbrev pub ReachedIn : ℕ → Ground → Location → Type 0
 ReachedIn b g at = Reached b (g .setup .s1) (g .storage) at
 
 -- each action by what it reaches, and which stack entries it uses
-unfoldable pub Feasible : ℕ → Ground → Action → Type 0
+unfoldable pub Feasible : ℕ → Ground → Deed → Type 0
 Feasible b g Nothing = Unit {0}
 Feasible b g (Store at v) = ReachedIn b g at
 Feasible b g (StoreTwo a v c x) = ReachedIn b g a × ReachedIn b g c
@@ -73,14 +73,14 @@ Feasible b g (Call row) = (row < 65536) × (g .counts .calls < 128)
 Feasible b g Return = (0 < g .counts .calls) × (g .counts .calls ≤ 128)
 
 -- an action that can be carried out with these counts
-pub record Countable (counts : Counts) (x : Action) : Type 0 where
+pub record Countable (counts : Counts) (x : Deed) : Type 0 where
   pub width : ℕ
   pub on : Ground
   pub same : on .counts ≡ counts
   pub feasible : Feasible width on x
 
 -- and with an input and an output of these lengths
-pub record Counted (counts : Counts) (given room : ℕ) (x : Action) : Type 0 where
+pub record Counted (counts : Counts) (given room : ℕ) (x : Deed) : Type 0 where
   pub countable : Countable counts x
   pub input : countable .on .given ≡ given
   pub output : countable .on .room ≡ room

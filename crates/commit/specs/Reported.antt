@@ -6,16 +6,16 @@ use Rattle.machine.specs.declared.Store.{Store}
 use Rattle.machine.specs.declared.Report.{Report}
 use Rattle.machine.specs.Storage.{noStore, noReport}
 use Rattle.machine.specs.Effects.{storeTo}
-use Rattle.operations.specs.declared.Action.{Action}
-use Rattle.operations.specs.declared.Action.the-variants.{Nothing, StoreTwo, SetUpWords, Define, Deliver, DeliverTwo, Free, Input, Print, Save, Restore, SaveDefinition, RestoreDefinition, Call, Return}
-use Rattle.operations.specs.declared.Action.the-variants as act
+use Rattle.operations.specs.Deeds.{Deed}
+use Rattle.operations.specs.Deeds.{Nothing, StoreTwo, SetUpWords, Define, Deliver, DeliverTwo, Free, Input, Print, Save, Restore, SaveDefinition, RestoreDefinition, Call, Return}
+use Rattle.operations.specs.Deeds as act
 
 -- a report by its parts
 abbrev pub told : ℕ → ℕ → ℕ → ℕ → Store → Store → Report
 told freed delivered size copied first second =
     record { freed = freed; delivered = delivered; size = size; copied = copied; first = first; second = second }
 
-unfoldable pub reportOf : Action → Report
+unfoldable pub reportOf : Deed → Report
 reportOf (act.Store at v) = told 0 0 0 0 (storeTo at v) noStore
 reportOf (StoreTwo a v c x) = told 0 0 0 0 (storeTo a v) (storeTo c x)
 reportOf (Deliver address n from a) = told 0 address n from (storeTo a address) noStore
@@ -39,7 +39,7 @@ Short (Bug x) = Unit {0}
 Short (Field address left right) = right < 63
 
 -- an action whose stores go to such locations
-unfoldable pub Reportable : Action → Type 0
+unfoldable pub Reportable : Deed → Type 0
 Reportable (act.Store at v) = Short at
 Reportable (StoreTwo a v c x) = Short a × Short c
 Reportable (Deliver address n from a) = Short a

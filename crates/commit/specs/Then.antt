@@ -6,7 +6,7 @@ use Rattle.machine.specs.declared.Place.{Place}
 use Rattle.machine.specs.declared.Core.{Core}
 use Rattle.machine.specs.Sound.{Engine}
 use Rattle.operations.specs.declared.Counts.{Counts}
-use Rattle.operations.specs.declared.Action.{Action}
+use Rattle.operations.specs.Deeds.{Deed}
 use Rattle.operations.specs.Seen.{countsOf}
 use Rattle.commit.specs.declared.Records.{Records}
 use Rattle.commit.specs.Carried.{bugsAfter, entriesAfter, mapAfter, wordsAfter, setupAfter, countsAfter, placeAfter, recordsAfter}
@@ -34,7 +34,7 @@ abbrev pub recordsOf : Core → Records
 recordsOf c = record { definitions = c .definitions; saved = c .saved .entries; calls = c .calls .entries }
 
 -- the engine after an action, at the place that it goes to
-abbrev pub engineThen : ℕ → Place → Action → Engine → Engine
+abbrev pub engineThen : ℕ → Place → Deed → Engine → Engine
 engineThen b to x e =
     let c = e .state .core in
     engineWith (e .state .width) (placeAfter x to (c .calls .entries) (c .calls .count)) (bugsAfter b x (c .bugs))

@@ -7,6 +7,7 @@ ghost use lib.ListN.{length};
 ghost use Rattle.block.specs.Blocks.{size, level};
 ghost use Rattle.block.specs.SetUp.{top, words};
 ghost use Rattle.block.specs.Map.{keeps, deliveredMap};
+ghost use Rattle.operations.specs.Deeds.{meant};
 ghost use Rattle.commit.specs.Carried.{bugsAfter, entriesAfter, mapAfter, wordsAfter, outputAfter, zeroed, copied};
 ghost use Rattle.commit.specs.Feasible.{ground, groundOf, Run, Copy, Feasible};
 use crate::words::copy_words;
@@ -64,52 +65,76 @@ pub fn carry_out(
     requires { ⌜ (known .b ≤ 48) × (words (known .setup) % size (top (known .setup .d)) ≡ 0)
         × (keeps (known .setup) (now map) ≡ true)
         × ((given : ℕ) × Feasible (known .b)
-        (ground (known .setup) (now map) (now storage) (known .counts) given (length (now output))) action) ⌝ }
-    ensures { λ _. ⌜ (now (bugs .exit) ≡ bugsAfter (known .b) action (now (bugs .entry)))
-        × (now (entries .exit) ≡ entriesAfter (known .counts .contents) action (now (entries .entry)))
-        × (now (map .exit) ≡ mapAfter (known .setup) action (now (map .entry)))
-        × (now (storage .exit) ≡ wordsAfter (known .b) (known .setup .s1) action (now (storage .entry)))
-        × (now (output .exit) ≡ outputAfter (known .counts .written) action (now (output .entry))) ⌝ }
+        (ground (known .setup) (now map) (now storage) (known .counts) given (length (now output))) (meant action)) ⌝ }
+    ensures { λ _. ⌜ (now (bugs .exit) ≡ bugsAfter (known .b) (meant action) (now (bugs .entry)))
+        × (now (entries .exit) ≡ entriesAfter (known .counts .contents) (meant action) (now (entries .entry)))
+        × (now (map .exit) ≡ mapAfter (known .setup) (meant action) (now (map .entry)))
+        × (now (storage .exit) ≡ wordsAfter (known .b) (known .setup .s1) (meant action) (now (storage .entry)))
+        × (now (output .exit) ≡ outputAfter (known .counts .written) (meant action) (now (output .entry))) ⌝ }
 {
     let b = known.b;
     let setup = known.setup;
     let counts = known.counts;
     match action {
-        Action::Store(at, v) => store(b, bugs, setup.s1, storage, at, v),
-        Action::StoreTwo(a, v, c, x) => {
-            store(b, &mut *bugs, setup.s1, &mut *storage, a, v);
-            store(b, bugs, setup.s1, storage, c, x);
+        Action::Store { at, value } => store(b, bugs, setup.s1, storage, at, value),
+        Action::StoreTwo {
+            at,
+            value,
+            then_at,
+            then_value,
+        } => {
+            store(b, &mut *bugs, setup.s1, &mut *storage, at, value);
+            store(b, bugs, setup.s1, storage, then_at, then_value);
         }
         Action::SetUpWords(u) => {
             set_up(u, map);
             zero_words(storage, 0, words_of(u));
         }
-        Action::Deliver(address, n, from, a) => {
-            take_run(setup, map, &mut *storage, address, n, from);
-            store(b, bugs, setup.s1, storage, a, address);
+        Action::Deliver {
+            address,
+            size,
+            copied,
+            at,
+        } => {
+            take_run(setup, map, &mut *storage, address, size, copied);
+            store(b, bugs, setup.s1, storage, at, address);
         }
-        Action::DeliverTwo(address, n, a, a2, v) => {
-            take_run(setup, map, &mut *storage, address, n, 0);
-            store(b, &mut *bugs, setup.s1, &mut *storage, a, address);
-            store(b, bugs, setup.s1, storage, a2, v);
+        Action::DeliverTwo {
+            address,
+            size,
+            at,
+            then_at,
+            then_value,
+        } => {
+            take_run(setup, map, &mut *storage, address, size, 0);
+            store(b, &mut *bugs, setup.s1, &mut *storage, at, address);
+            store(b, bugs, setup.s1, storage, then_at, then_value);
         }
-        Action::Free(address, at, v) => {
+        Action::Free { address, at, value } => {
             free_block(setup, map, address as usize);
-            store(b, bugs, setup.s1, storage, at, v);
+            store(b, bugs, setup.s1, storage, at, value);
         }
-        Action::Input(at, v, _) => store(b, bugs, setup.s1, storage, at, v),
-        Action::Print(n, width, v) => print_into(
+        Action::Input {
+            at,
+            value,
+            taken: _,
+        } => store(b, bugs, setup.s1, storage, at, value),
+        Action::Print {
+            count,
+            width,
+            value,
+        } => print_into(
             output,
             counts.written,
-            n as usize,
+            count as usize,
             width as usize,
-            v,
+            value,
         ),
         Action::Save(v) => {
             let top = counts.contents;
             entries[top] = v;
         }
-        Action::Restore(at, v) => store(b, bugs, setup.s1, storage, at, v),
+        Action::Restore { at, value } => store(b, bugs, setup.s1, storage, at, value),
         _ => {}
     }
 }

@@ -38,7 +38,7 @@ use Rattle.machine.proofs.Live.{live-lies, live-size}
 use Rattle.machine.proofs.Keeps.{run-fits}
 use Rattle.machine.proofs.Blocks.{one-of-runs}
 use Rattle.machine.proofs.Steps.{sound-engine}
-use Rattle.operands.specs.declared.Delivery.{Delivery}
+use Rattle.operands.specs.Through.{Delivered}
 use Rattle.operands.specs.Reading.{Readable, Reached, Taken}
 use Rattle.operands.specs.Storing.{bugsStored}
 use Rattle.operands.specs.Through.{through, Deliverable}
@@ -47,9 +47,9 @@ use Rattle.operands.proofs.Operands.{operand-small}
 use Rattle.operands.proofs.Storing.{bugs-below}
 use Rattle.operands.proofs.Through.{through-readable, through-reached}
 use Rattle.operations.proofs.Doing.{stored-readable}
-use Rattle.operations.specs.declared.Action.{Action}
-use Rattle.operations.specs.declared.Action.the-variants.{Nothing, Deliver, DeliverTwo, Save, Restore, SaveDefinition}
-use Rattle.operations.specs.declared.Action.the-variants.{RestoreDefinition, Call, Return}
+use Rattle.operations.specs.Deeds.{Deed}
+use Rattle.operations.specs.Deeds.{Nothing, Deliver, DeliverTwo, Save, Restore, SaveDefinition}
+use Rattle.operations.specs.Deeds.{RestoreDefinition, Call, Return}
 use Rattle.operations.specs.Seen.{sight, Ready, countsOf}
 use Rattle.operations.specs.Plans.{setUpPlan, defining, definePlan, sizeOf, afterDelivery, delivering, getting, freeing}
 use Rattle.operations.specs.Plans.{duplicating, taking, valueBy, storing, acting, twoPlan, swapPlan, printing, printPlan}
@@ -77,7 +77,7 @@ ground l e =
     }
 
 -- what carrying an action out asks for
-pub record Able (b : ℕ) (l : Lent) (e : Engine) (x : Action) : Type 0 where
+pub record Able (b : ℕ) (l : Lent) (e : Engine) (x : Deed) : Type 0 where
   pub feasible : Feasible b (ground l e) x
   pub sure : Sure x
 
@@ -88,7 +88,7 @@ module _ (b : ℕ) (l : Lent) (e : Engine) (h : Facts b e) (ready : Ready b (sig
   abbrev g : Ground
   g = ground l e
 
-  able-is : {x y : Action} → _≡_ {A = Checked Action} (passed x) (passed y) → Able b l e x → Able b l e y
+  able-is : {x y : Deed} → _≡_ {A = Checked Deed} (passed x) (passed y) → Able b l e x → Able b l e y
   able-is same k = subst (Able b l e) (passed-same same) k
 
   -- where a reference leads
@@ -107,7 +107,7 @@ module _ (b : ℕ) (l : Lent) (e : Engine) (h : Facts b e) (ready : Ready b (sig
   nothing-able = record { feasible = tt; sure = tt }
 
   -- 1 set up
-  set-up-able : 4096 ≤ length (e .state .map) → (row : Row) (x : Action) → setUpPlan (length (e .storage)) row ≡ passed x → Able b l e x
+  set-up-able : 4096 ≤ length (e .state .map) → (row : Row) (x : Deed) → setUpPlan (length (e .storage)) row ≡ passed x → Able b l e x
   unfolding setUpPlan Feasible Sure
   set-up-able long row x k =
       let (fits, k₁) = need-passed _ _ _ k in
@@ -115,7 +115,7 @@ module _ (b : ℕ) (l : Lent) (e : Engine) (h : Facts b e) (ready : Ready b (sig
       able-is k₁ (record { feasible = (fits, omega arith); sure = tt })
 
   -- 2 define
-  define-able : (row : Row) → Three b row → (x : Action) → definePlan b (world e) row ≡ passed x → Able b l e x
+  define-able : (row : Row) → Three b row → (x : Deed) → definePlan b (world e) row ≡ passed x → Able b l e x
   unfolding definePlan defining Feasible Sure
   define-able row t x k =
       let (_, _, k₁) = bind-passed _ _ k in
@@ -125,7 +125,7 @@ module _ (b : ℕ) (l : Lent) (e : Engine) (h : Facts b e) (ready : Ready b (sig
       able-is k₄ (record { feasible = t .name; sure = tt })
 
   -- 7 interchange
-  swap-able : (row : Row) → isReference (row .first .value) ≡ true → isReference (row .second .value) ≡ true → (x : Action)
+  swap-able : (row : Row) → isReference (row .first .value) ≡ true → isReference (row .second .value) ≡ true → (x : Deed)
       → swapPlan b (world e) row ≡ passed x → Able b l e x
   unfolding swapPlan Feasible Sure
   swap-able row is₁ is₂ x k =
@@ -136,7 +136,7 @@ module _ (b : ℕ) (l : Lent) (e : Engine) (h : Facts b e) (ready : Ready b (sig
       able-is k₂ (record { feasible = (fa .reached, fc .reached); sure = (fa .sure, fc .sure) })
 
   -- 25 print
-  print-able : (row : Row) → Taken b (row .second) → (x : Action) → printPlan b (world e) (e .state .core .written) (length (l .output)) row
+  print-able : (row : Row) → Taken b (row .second) → (x : Deed) → printPlan b (world e) (e .state .core .written) (length (l .output)) row
       ≡ passed x → Able b l e x
   unfolding printPlan printing Feasible Sure
   print-able row t x k =
@@ -149,7 +149,7 @@ module _ (b : ℕ) (l : Lent) (e : Engine) (h : Facts b e) (ready : Ready b (sig
       able-is k₄ (record { feasible = (omega arith, leb-true _ _ fits); sure = tt })
 
   -- 32 save contents, 33 restore contents
-  contents-able : (row : Row) → isReference (row .first .value) ≡ true → (x : Action)
+  contents-able : (row : Row) → isReference (row .first .value) ≡ true → (x : Deed)
       → contentsPlan b (world e) (e .state .core .contents .count) (e .state .core .contents .entries) row ≡ passed x → Able b l e x
   unfolding contentsPlan Feasible Sure
   contents-able row is x k =
@@ -165,7 +165,7 @@ module _ (b : ℕ) (l : Lent) (e : Engine) (h : Facts b e) (ready : Ready b (sig
       k₁
 
   -- 34 save a definition, 35 restore it, 36 DO
-  record-able : (row : Row) → row .name < 36 → ((row .code ≡ 34 → ⊥) → (row .code ≡ 35 → ⊥) → row .first .value < 65536) → (x : Action)
+  record-able : (row : Row) → row .name < 36 → ((row .code ≡ 34 → ⊥) → (row .code ≡ 35 → ⊥) → row .first .value < 65536) → (x : Deed)
       → recordPlan (e .state .core .saved .count) (e .state .core .calls .count) row ≡ passed x → Able b l e x
   unfolding recordPlan Feasible Sure
   record-able row named few x k =
@@ -225,7 +225,7 @@ module _ (b : ℕ) (l : Lent) (e : Engine) (h : Facts b e) (ready : Ready b (sig
       unfolding world
       readable-so = stored-readable b (world e) a address (ready .readable) refl
 
-      abbrev ahead : Delivery
+      abbrev ahead : Delivered
       ahead = record { address = address; size = n; at = a }
 
       ahead-so : Deliverable b seen-so address n a
@@ -244,7 +244,7 @@ module _ (b : ℕ) (l : Lent) (e : Engine) (h : Facts b e) (ready : Ready b (sig
           record { reached = r; sure = reached-sure at r }
 
       -- 3 get
-      delivering-able : (p : Pair) → ((p .form ≡ 0 → ⊥) → isReference (p .value) ≡ true) → (x : Action)
+      delivering-able : (p : Pair) → ((p .form ≡ 0 → ⊥) → isReference (p .value) ≡ true) → (x : Deed)
           → delivering b (world e) p a address n ≡ passed x → Able b l e x
       unfolding delivering Feasible Sure
       delivering-able p is x k =
@@ -258,7 +258,7 @@ module _ (b : ℕ) (l : Lent) (e : Engine) (h : Facts b e) (ready : Ready b (sig
           able-is j₁ (record { feasible = (run-able, fa .reached, fc .reached); sure = (fa .sure, fc .sure) }))
           k
 
-  module _ (row : Row) (t : Two b row) (a : Location) (at : locate b (world e) (row .first) ≡ passed a) (v : Value) (x : Action) where
+  module _ (row : Row) (t : Two b row) (a : Location) (at : locate b (world e) (row .first) ≡ passed a) (v : Value) (x : Deed) where
     get-able : getting b (world e) (row .third) a (v .value) ≡ passed x → Able b l e x
     unfolding getting world
     get-able k =
@@ -328,7 +328,7 @@ module _ (b : ℕ) (l : Lent) (e : Engine) (h : Facts b e) (ready : Ready b (sig
         j)
         k
 
-  two-able : (row : Row) → Two b row → (x : Action) → twoPlan b (world e) (e .state .core .taken) (l .input) row ≡ passed x → Able b l e x
+  two-able : (row : Row) → Two b row → (x : Deed) → twoPlan b (world e) (e .state .core .taken) (l .input) row ≡ passed x → Able b l e x
   unfolding twoPlan
   two-able row t x k =
       let (a, at, k₁) = bind-passed _ _ k in
@@ -336,7 +336,7 @@ module _ (b : ℕ) (l : Lent) (e : Engine) (h : Facts b e) (ready : Ready b (sig
       acting-able row t a at v x k₂
 
   -- the stacks
-  stack-able : (row : Row) → Operates b row → 31 < row .code → (row .code ≡ 36 → row .first .value < 65536) → (x : Action)
+  stack-able : (row : Row) → Operates b row → 31 < row .code → (row .code ≡ 36 → row .first .value < 65536) → (x : Deed)
       → stackPlan b (world e) (countsOf (e .state .core)) (e .state .core .contents .entries) row ≡ passed x → Able b l e x
   unfolding stackPlan
   stack-able row o low few x k =
@@ -348,7 +348,7 @@ module _ (b : ℕ) (l : Lent) (e : Engine) (h : Facts b e) (ready : Ready b (sig
       k
 
   -- an operation but the set-up
-  operation-able : (row : Row) → Operates b row → (row .code ≡ 36 → row .first .value < 65536) → (x : Action) → planOf b (sight l e) row ≡ passed x
+  operation-able : (row : Row) → Operates b row → (row .code ≡ 36 → row .first .value < 65536) → (x : Deed) → planOf b (sight l e) row ≡ passed x
       → Able b l e x
   unfolding planOf
   operation-able row o few x k =
@@ -375,7 +375,7 @@ module _ (b : ℕ) (l : Lent) (e : Engine) (h : Facts b e) (ready : Ready b (sig
       k
 
   module _ (long : 4096 ≤ length (e .state .map)) (lengths : lengthFits (l .table) ≡ true) where
-    ordered-able : (r : ℕ) → usable 3 b (l .table) r ≡ true → (x : Action) → orderedPlan b (sight l e) (rowAt (l .table) r) ≡ passed x → Able b l e x
+    ordered-able : (r : ℕ) → usable 3 b (l .table) r ≡ true → (x : Deed) → orderedPlan b (sight l e) (rowAt (l .table) r) ≡ passed x → Able b l e x
     unfolding orderedPlan world
     ordered-able r used x k =
         let row = rowAt (l .table) r in

@@ -25,6 +25,7 @@ use Rattle.machine.specs.Storage.{noReport}
 use Rattle.machine.specs.Sound.{lends, Engine, sound}
 use Rattle.machine.specs.Locate.{world}
 use Rattle.operations.specs.declared.Action.{Action}
+use Rattle.operations.specs.Deeds.{Deed, meant}
 use Rattle.operations.specs.declared.Counts.{Counts}
 use Rattle.plans.specs.declared.Step.{Step}
 use Rattle.plans.specs.declared.Step.the-variants.{Goes, Stopped}
@@ -99,7 +100,10 @@ module _ (b : ℕ) (table input : List ℕ) (start : Walk) (limit count : ℕ) (
     unfolding world
     refused-now to none same = rw (same, none) (going-refused b table input start limit count output e g wide fits (halts-is _ (so is) to))
 
-    module _ {to : Place} {x : Action} (made : answer ≡ Goes to x) (long : length map ≡ 4096) where
+    module _ {to : Place} {action : Action} (made : answer ≡ Goes to action) (long : length map ≡ 4096) where
+      abbrev x : Deed
+      x = meant action
+
       able : Able b (lends table input output) e x
       unfolding world
       able = plan-able b (lends table input output) e (g .fine) narrow fits (rw long (omega arith)) _ (goes-is _ (so is) made)
@@ -117,7 +121,7 @@ module _ (b : ℕ) (table input : List ℕ) (start : Walk) (limit count : ℕ) (
       pub reportable-now : Reportable x
       reportable-now = feasible-reportable b _ x narrow (able .feasible)
 
-      module _ {y : Action} {place′ : Place} {ds ss : List Definition} {ps : List Place} {fields′ : List ℕ}
+      module _ {y : Deed} {place′ : Place} {ds ss : List Definition} {ps : List Place} {fields′ : List ℕ}
           (turn : Turned x to counts records y place′ ds ss ps fields′)
           {bugs′ entries′ : List ℕ} {next : Onward} {map′ storage′ output′ : List ℕ}
           (carried : (bugs′ ≡ bugsAfter b x bugs) × (entries′ ≡ entriesAfter (counts .contents) x entries) × (map′ ≡ mapAfter setup x map)

@@ -1,19 +1,23 @@
--- What is judged once before a walk: that its first step stops with an answer, or that it may be planned. Assumes nothing.
+-- What is judged once before a walk: what its first step answers where it stops there, or that it may be planned. Assumes nothing.
 use Prim.Native.Nat.{ℕ}
-use mathlib.Core.Bool.{Bool, true, false}
+use mathlib.Core.Bool.{Bool, true, false, cond}
 use mathlib.Core.Path.{_≡_}
+use Rattle.word.specs.Told.{Told, gives, refuses}
 use Rattle.word.specs.Word.{isWidth}
 use Rattle.table.specs.declared.TableCheck.the-variants.{Lowest}
 use Rattle.table.specs.Row.{lengthFits}
 use Rattle.table.specs.Table.{checked}
-use Rattle.machine.specs.declared.Answer.{Answer}
-use Rattle.machine.specs.declared.Answer.the-variants.{Running}
 use Rattle.machine.specs.State.{isFinished}
-use Rattle.machine.specs.Storage.{noReport}
 use Rattle.machine.specs.Sound.{Lent, Engine, sound}
-use Rattle.engine.specs.declared.Start.{Start}
-use Rattle.engine.specs.declared.Start.the-variants.{Goes, Stops}
-use Rattle.engine.specs.Walking.{walks, walkFrom}
+
+-- the number of that answer: 31, 11, finished, 1 in this order, and otherwise running
+unfoldable pub startTold : Lent → Engine → Told ℕ
+startTold l e =
+    cond (isWidth (e .state .width))
+    (cond (sound (e .state .width) l e)
+    (cond (isFinished (e .state .core .place)) (gives 1) (cond (lengthFits (l .table)) (gives 0) (refuses 1)))
+    (refuses 11))
+    (refuses 31)
 
 -- a sound engine that is not finished, with a table of the right length, which is known to be well-formed or not
 pub record Ready (judged : Bool) (l : Lent) (e : Engine) : Type 0 where
@@ -22,13 +26,3 @@ pub record Ready (judged : Bool) (l : Lent) (e : Engine) : Type 0 where
   pub formed : judged ≡ true → checked (e .state .width) (l .table) ≡ Lowest 0
   pub going : isFinished (e .state .core .place) ≡ false
   pub fine : sound (e .state .width) l e ≡ true
-
--- each walk from there takes its first step, or stops at it and leaves all as it was
-pub data Starting (l : Lent) (e : Engine) : Start → Type 0 where
-  goes : {judged : Bool} → Ready judged l e → Starting l e (Goes judged)
-  stops : {answer : Answer} → ((more : ℕ) → walkFrom 0 more l e ≡ walks (e .state) answer noReport 1 (e .storage) (l .output)) → Starting l e (Stops answer)
-
--- what a walk answers that stops at its first step
-unfoldable pub stopOf : Start → Answer
-stopOf (Goes judged) = Running
-stopOf (Stops answer) = answer

@@ -1,5 +1,5 @@
 // The L6 engine: a fresh state, one step, and a run. Any table, storage, input, output buffer and state may be lent.
-ghost use mathlib.Core.Bool.{true, cond};
+ghost use mathlib.Core.Bool.{true, false, cond};
 ghost use mathlib.Core.Path.{_≡_};
 ghost use Rattle.word.specs.Word.{isWidth};
 ghost use Rattle.table.specs.declared.TableCheck.the-variants.{Lowest};
@@ -9,7 +9,7 @@ ghost use Rattle.machine.specs.Answer.{toldAnswer};
 ghost use Rattle.machine.specs.State.{fresh as freshState, freshOf, toldFresh};
 ghost use Rattle.machine.specs.Sound.{lends, engineOn};
 ghost use Rattle.machine.specs.Step.{step as stepOf, stepTold, run as runOf, runTold};
-ghost use Rattle.engine.specs.Starting.{Starting};
+ghost use Rattle.engine.specs.Starting.{startTold};
 
 pub mod answers;
 mod walks;
@@ -127,10 +127,21 @@ fn judge(b: u64, table: &[u64], limit: u64) -> bool
     lowest_ill_formed(b, table) == 0
 }
 
-// Whether a walk takes its first step, and whether its table is then known to be well-formed; or what it answers.
-pub enum Start {
-    Goes(bool),
-    Stops(Answer),
+// What is judged before a walk: what its first step answers where it stops there, running where it goes on, and whether the table is then
+// known to be well-formed.
+pub struct Start {
+    pub answer: Answer,
+    pub judged: bool,
+}
+
+// A walk that stops at its first step.
+fn stops(answer: Answer) -> Start
+    ensures { λ r. ⌜ r ≡ record { answer = answer; judged = false } ⌝ }
+{
+    Start {
+        answer: answer,
+        judged: false,
+    }
 }
 
 // What is judged once, before a walk: refusals 31 and 11, finished, and refusal 1. The map is lent: handed over in the state, it would
@@ -145,24 +156,28 @@ fn begin(
     output: &[u8],
     limit: u64,
 ) -> Start
-    ensures { λ r. ⌜ Starting (lends (now (table .entry)) (now (input .entry)) (now (output .entry)))
-        (engineOn (record { width = width; core = core; map = now (map .entry) }) (now (storage .entry))) r ⌝ }
+    ensures { λ r. ⌜ (toldAnswer (r .answer) ≡ startTold (lends (now (table .entry)) (now (input .entry)) (now (output .entry)))
+        (engineOn (record { width = width; core = core; map = now (map .entry) }) (now (storage .entry))))
+        × (r .judged ≡ true → checked width (now (table .entry)) ≡ Lowest 0) ⌝ }
 {
     let place = core.place;
     let b = width as u64;
     if !is_width(b) {
-        return Start::Stops(Answer::Refused(Refusal::NoWidth));
+        return stops(Answer::Refused(Refusal::NoWidth));
     }
     if !is_sound(b, core, map, storage, input, output) {
-        return Start::Stops(Answer::Refused(Refusal::Unsound));
+        return stops(Answer::Refused(Refusal::Unsound));
     }
     if place.kind == machine::FINISHED {
-        return Start::Stops(Answer::Finished);
+        return stops(Answer::Finished);
     }
     if !has_length(table) {
-        return Start::Stops(Answer::Refused(Refusal::TableLength));
+        return stops(Answer::Refused(Refusal::TableLength));
     }
-    Start::Goes(judge(b, table, limit))
+    Start {
+        answer: Answer::Running,
+        judged: judge(b, table, limit),
+    }
 }
 
 // One step.

@@ -1,14 +1,18 @@
 // Steps one after the other: each is planned over slices of local arrays and carried out in place.
-ghost use mathlib.Core.Bool.{cond};
+ghost use mathlib.Core.Bool.{true, cond};
 ghost use mathlib.Core.Path.{_≡_};
 ghost use Prim.Native.Nat.{_-_, _≤_};
+ghost use lib.ListN.{length};
 ghost use Rattle.machine.specs.declared.Answer.the-variants.{Running, Finished};
 ghost use Rattle.machine.specs.State.{isFinished};
 ghost use Rattle.machine.specs.Storage.{noReport};
 ghost use Rattle.machine.specs.Sound.{lends, engineOn};
 ghost use Rattle.commit.specs.Then.{coreWith};
 ghost use Rattle.operations.specs.Seen.{countsOf};
-ghost use Rattle.engine.specs.Starting.{Starting, stopOf};
+ghost use Rattle.table.specs.declared.TableCheck.the-variants.{Lowest};
+ghost use Rattle.table.specs.Table.{checked};
+ghost use Rattle.machine.specs.Answer.{toldAnswer};
+ghost use Rattle.engine.specs.Starting.{startTold};
 ghost use Rattle.engine.specs.Walking.{walkedTo, walkFrom};
 use crate::Start;
 use crate::Walked;
@@ -16,7 +20,6 @@ use block::SetUp;
 use commit::Records;
 use commit::carry::carry_out;
 use commit::core::go_on;
-use commit::core::returned;
 use commit::reports::report_of;
 use machine::Answer;
 use machine::CallStack;
@@ -56,13 +59,20 @@ pub fn no_report() -> Report
     }
 }
 
-// How far stacks, input and output are used.
+// What is known of the entries by their type alone: how many there are.
+fn known_entries(entries: [Place; 128])
+    ensures { λ _. ⌜ length entries ≡ 128 ⌝ }
+{}
+
+// How far stacks, input and output are used, and how many entries the calls have.
 fn counts_of(core: Core) -> Counts
-    ensures { λ r. ⌜ r ≡ countsOf core ⌝ }
+    ensures { λ r. ⌜ (r ≡ countsOf core) × (length (core .calls .entries) ≡ 128) ⌝ }
 {
     let contents = core.contents;
     let saved = core.saved;
     let calls = core.calls;
+    let places = calls.entries;
+    known_entries(places);
     Counts {
         contents: contents.count,
         saved: saved.count,
@@ -159,16 +169,6 @@ fn stopped(state: State, answer: Answer) -> Walked
     }
 }
 
-// What it answers.
-fn stop_of(start: Start) -> Answer
-    ensures { λ r. ⌜ r ≡ stopOf start ⌝ }
-{
-    match start {
-        Start::Goes(_) => Answer::Running,
-        Start::Stops(answer) => answer,
-    }
-}
-
 // Up to limit steps of any engine, as it was judged.
 pub fn walk(
     first: Start,
@@ -179,13 +179,17 @@ pub fn walk(
     output: &mut [u8],
     limit: u64,
 ) -> Walked
-    requires { ⌜ (1 ≤ limit) × Starting (lends (now table) (now input) (now output)) (engineOn state (now storage)) first ⌝ }
+    requires { ⌜ (1 ≤ limit)
+        × (toldAnswer (first .answer) ≡ startTold (lends (now table) (now input) (now output)) (engineOn state (now storage)))
+        × (first .judged ≡ true → checked (state .width) (now table) ≡ Lowest 0) ⌝ }
     ensures { λ r. ⌜ record { walked = r; storage = now (storage .exit); output = now (output .exit) } ≡ walkFrom 0 (limit - 1)
         (lends (now (table .entry)) (now (input .entry)) (now (output .entry))) (engineOn state (now (storage .entry))) ⌝ }
 {
-    let Start::Goes(judged) = first else {
-        return stopped(state, stop_of(first));
+    let answer = first.answer;
+    let Answer::Running = answer else {
+        return stopped(state, answer);
     };
+    let judged = first.judged;
     let width = state.width;
     let core = state.core;
     let contents = core.contents;
@@ -233,7 +237,7 @@ pub fn walk(
                 let core = core_of(place, bugs, records, entries, counts, setup);
                 return ended(width, core, map, Answer::Refused(r), no_report(), count);
             }
-            Step::Goes(to, action) => {
+            Step::Goes { to, action } => {
                 let next = go_on(action, setup, counts, input.len(), output.len());
                 carry_out(
                     known,
@@ -247,10 +251,10 @@ pub fn walk(
                 place = to;
                 if next.recorded {
                     match action {
-                        Action::Define(f, x) => {
-                            let i = f.0 as usize;
-                            definitions[i] = x;
-                            fields[i] = pack(x);
+                        Action::Define { field, definition } => {
+                            let i = field.0 as usize;
+                            definitions[i] = definition;
+                            fields[i] = pack(definition);
                         }
                         Action::SaveDefinition(f) => {
                             let i = f.0 as usize;
@@ -269,7 +273,10 @@ pub fn walk(
                             calls[n] = to;
                             place = tests_of(row);
                         }
-                        Action::Return => place = returned(calls, counts.calls),
+                        Action::Return => {
+                            let n = counts.calls - 1;
+                            place = calls[n];
+                        }
                         _ => {}
                     }
                 }

@@ -111,10 +111,10 @@ pub struct State {
     pub map: [u8; MAP],
 }
 
-// Where a reference leads: a bug, or bits left to right of the word at an address.
+// Where a reference leads: a bug, or bits left to right of the word at an address. Code has it as a number (operands::FIELDS).
 pub enum Location {
     Bug(table::BugLetter),
-    Field(u64, u64, u64),
+    Field { address: u64, left: u64, right: u64 },
 }
 
 // A store into storage, all zero where there is none.

@@ -2,6 +2,7 @@
 pub mod Answers
 pub mod Follows
 pub mod Links
+pub mod Numbers
 pub mod Operands
 pub mod Readable
 pub mod Storing

@@ -18,6 +18,7 @@ use Rattle.machine.specs.declared.Refusal.the-variants.{UndefinedField, NotABlo
 use Rattle.machine.specs.Answer.{Checked, passed, told, need, _>>_, _>>=_}
 use Rattle.machine.specs.Storage.{wordAt}
 use Rattle.machine.specs.Locate.{linkBy, contentsOf}
+use Rattle.operands.specs.Locating.{located}
 use Rattle.operands.specs.Reading.{standing, toldLinked, Reached}
 
 -- a refused check is told so, whatever stands there
@@ -35,11 +36,11 @@ module _ (b s1 : ℕ) (storage : List ℕ) (x : Definition) (n pointer : ℕ) wh
     unfolding toldLinked told standing linkBy need _>>_ _>>=_
     link-outside o = rw (d, ne-eqb n 0 s, le-ltb (x .word) n o)
 
-    pub link-inside : x .word < n → {word v : ℕ} → word ≡ wordAt s1 (pointer + x .word) storage → v ≡ fieldOf b (x .left) (x .right) word
-        → toldLinked (At (record { at = Field (pointer + x .word) (x .left) (x .right); holds = v }))
-        ≡ told (standing (contentsOf b [] s1 storage) (linkBy x n pointer))
+    pub link-inside : x .word < n → (at : ℕ) {word v : ℕ} → located at ≡ Field (pointer + x .word) (x .left) (x .right)
+        → word ≡ wordAt s1 (pointer + x .word) storage → v ≡ fieldOf b (x .left) (x .right) word
+        → toldLinked (At (record { at = at; holds = v })) ≡ told (standing (contentsOf b [] s1 storage) (linkBy x n pointer))
     unfolding toldLinked told standing linkBy need _>>_ _>>=_ contentsOf
-    link-inside i same is = rw (d, ne-eqb n 0 s, lt-ltb (x .word) n i, is, same)
+    link-inside i at there same is = rw (d, ne-eqb n 0 s, lt-ltb (x .word) n i, is, same, there)
 
 -- a link leads to a field, where no bug is read
 standing-need : (f g : Location → ℕ) (t : Bool) (r : Refusal) (k : Checked Location) → standing f k ≡ standing g k

@@ -14,7 +14,7 @@ use Rattle.table.specs.declared.Pair.{Pair}
 use Rattle.machine.specs.declared.Location.{Location}
 use Rattle.machine.specs.declared.Location.the-variants.{Bug, Field}
 use Rattle.operands.specs.declared.Linked.{Linked}
-use Rattle.operands.specs.declared.Linked.the-variants as link
+use Rattle.operands.specs.declared.Linked.the-variants.{At, Stopped}
 use Rattle.machine.specs.declared.Refusal.{Refusal}
 use Rattle.machine.specs.Answer.{Checked, refused, passed, told, _>>=_}
 use Rattle.machine.specs.Locate.{World, Value, contents, widthOf, contentsOf, read, locate, operand}
@@ -22,15 +22,9 @@ use Rattle.machine.specs.Sound.{every}
 use Rattle.machine.proofs.Checks.{bind-passed, passed-same}
 use Rattle.machine.proofs.Every.{every-getD}
 use Rattle.operands.proofs.Readable.{locate-reached}
-use Rattle.operands.specs.declared.Got.{Got}
-use Rattle.operands.specs.declared.Got.the-variants as taken
-use Rattle.operands.specs.Reading.{leads, toldGot, Readable, Reached, Narrow, Taken, valued}
-
--- a location that can be read is narrow
-pub reached-narrow : (b s1 : ℕ) (storage : List ℕ) (at : Location) → b ≤ 48 → Reached b s1 storage at → Narrow at
-unfolding Narrow Reached
-reached-narrow b s1 storage (Bug x) h r = tt
-reached-narrow b s1 storage (Field address left right) h r = omega (arith, r .0)
+use Rattle.operands.proofs.Answers.{at-is, holds-is, stopped-is}
+use Rattle.operands.specs.Locating.{located}
+use Rattle.operands.specs.Reading.{leads, standing, toldLinked, toldValue, Readable, Reached, Taken, valued}
 
 -- the bits of a location, by its case
 pub bug-width : {b : ℕ} {at : Location} {x : BugLetter} → at ≡ Bug x → b ≡ widthOf b at
@@ -41,24 +35,20 @@ pub field-width : (b : ℕ) {address left right : ℕ} {at : Location} → at �
 unfolding widthOf
 field-width b e = rw e
 
-pub field-narrow : {address left right : ℕ} {at : Location} → at ≡ Field address left right → Narrow at → right < 64
-unfolding Narrow
-field-narrow e h = subst Narrow e h
-
 -- an operand by its form
 module _ (b : ℕ) (w : World) (p : Pair) where
-  pub literal : p .form ≡ 1 → toldGot (taken.Value (record { value = p .value; width = b })) ≡ told (operand b w p)
-  unfolding operand toldGot told
+  pub literal : p .form ≡ 1 → toldValue b (At (record { at = 0; holds = p .value })) ≡ told (operand b w p)
+  unfolding operand toldValue told located widthOf
   literal f = rw (eq-eqb _ _ f)
 
-  pub found : (p .form ≡ 1 → ⊥) → {at : Location} → leads b w (p .value) ≡ passed at → {v n : ℕ} → v ≡ contents b w at → n ≡ widthOf b at
-      → toldGot (taken.Value (record { value = v; width = n })) ≡ told (operand b w p)
-  unfolding operand locate leads toldGot told read _>>=_
-  found f k same wide = rw (ne-eqb _ _ f, k, same, wide)
-
-  pub not-found : (p .form ≡ 1 → ⊥) → {r : Refusal} → leads b w (p .value) ≡ refused r → toldGot (taken.Stopped r) ≡ told (operand b w p)
-  unfolding operand locate leads toldGot told _>>=_
-  not-found f k = rw (ne-eqb _ _ f, k)
+  pub found : (p .form ≡ 1 → ⊥) → (answer : Linked) → toldLinked answer ≡ told (standing (contents b w) (leads b w (p .value)))
+      → toldValue b answer ≡ told (operand b w p)
+  unfolding operand locate leads toldLinked toldValue told standing read _>>=_
+  found f (At x) is =
+      let at = at-is (contents b w) (leads b w (p .value)) is refl in
+      let holds = holds-is (contents b w) (leads b w (p .value)) is refl in
+      rw (ne-eqb _ _ f, at, holds)
+  found f (Stopped r) is = rw (ne-eqb _ _ f, stopped-is (contents b w) (leads b w (p .value)) is refl)
 
 -- what stands at a location is below 2 ^ b, and no wider than b bits
 module _ (b : ℕ) (w : World) (h : Readable b w) where

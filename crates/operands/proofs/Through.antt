@@ -25,7 +25,7 @@ use Rattle.machine.specs.Storage.{placed, wordAt}
 use Rattle.machine.specs.Locate.{World, contentsOf, contents, linkBy, link}
 use Rattle.machine.specs.State.{undefined}
 use Rattle.machine.proofs.Placed.{length-placed, placed-inside, placed-outside}
-use Rattle.operands.specs.declared.Delivery.{Delivery}
+use Rattle.operands.specs.Through.{Delivered}
 use Rattle.operands.specs.Reading.{Readable, Reached, Lying}
 use Rattle.operands.specs.Storing.{wordsStored}
 use Rattle.operands.specs.Through.{through, Deliverable}
@@ -103,7 +103,7 @@ module _ (b : ℕ) (w : World) (h : Readable b w) (address n : ℕ) (at : Locati
   length-after = length-words b _ at address _ ∙ length-delivered _ address n (w .storage) delivery-low delivery-lies 0
 
 -- through a delivery: the storage is as long as before, and can be read
-module _ (b : ℕ) (w : World) (h : Readable b w) (d : Delivery) (able : Deliverable b w (d .address) (d .size) (d .at)) where
+module _ (b : ℕ) (w : World) (h : Readable b w) (d : Delivered) (able : Deliverable b w (d .address) (d .size) (d .at)) where
   pub through-length : length (through b d w .storage) ≡ length (w .storage)
   unfolding through
   through-length = length-after b w h (d .address) (d .size) (d .at) able
@@ -152,6 +152,7 @@ module _ (b : ℕ) (w : World) (h : Readable b w) (d : Delivery) (able : Deliver
           record {
             low = l .low;
             high = λ some. subst (λ (long : ℕ). p + n ≤ w .setup .s1 + long) through-length (l .high some);
+            some = l .some;
             small = l .small;
             right = l .right;
           })

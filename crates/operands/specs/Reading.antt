@@ -18,11 +18,9 @@ use Rattle.machine.specs.declared.Location.the-variants.{Bug, Field}
 use Rattle.machine.specs.Answer.{Checked, passed, refusalNumber, _>>=_}
 use Rattle.machine.specs.Sound.{every, isDefinition}
 use Rattle.machine.specs.Locate.{World, Value, follow}
-use Rattle.operands.specs.declared.Spot.{Spot}
 use Rattle.operands.specs.declared.Linked.{Linked}
-use Rattle.operands.specs.declared.Linked.the-variants as links
-use Rattle.operands.specs.declared.Got.{Got}
-use Rattle.operands.specs.declared.Got.the-variants as gets
+use Rattle.operands.specs.declared.Linked.the-variants.{At, Stopped}
+use Rattle.operands.specs.Locating.{located, bitsAt}
 use Rattle.operands.specs.Packing.{unpackedAll}
 
 -- what lent slices show, the definitions packed
@@ -43,6 +41,10 @@ pub record Readable (b : ℕ) (w : World) : Type 0 where
   pub definitions : every (isDefinition b) (w .definitions) ≡ true
   pub bugs : every (λ x. ltb x (2 ^ b)) (w .bugs) ≡ true
 
+-- the set-up of these numbers
+abbrev pub setUpOf : ℕ → ℕ → ℕ → SetUp
+setUpOf d s1 s2 = record { d = d; s1 = s1; s2 = s2 }
+
 -- a location that can be read: one of the bugs, or bits inside a word of the storage, whose first word is at address s1
 unfoldable pub Reached : ℕ → ℕ → List ℕ → Location → Type 0
 Reached b s1 storage (Bug x) = x .0 < 26
@@ -53,16 +55,12 @@ unfoldable pub Bugs : Location → Type 0
 Bugs (Bug x) = x .0 < 26
 Bugs (Field address left right) = Unit {0}
 
--- a location whose bits have places below 64
-unfoldable pub Narrow : Location → Type 0
-Narrow (Bug x) = Unit {0}
-Narrow (Field address left right) = right < 64
-
 -- what a link relies on: a block of n words at the pointer lies in the storage, and a field that is defined in its words
 pub record Lying (b s1 : ℕ) (storage : List ℕ) (x : Definition) (n pointer : ℕ) : Type 0 where
   pub low : (n ≡ 0 → ⊥) → s1 ≤ pointer
   pub high : (n ≡ 0 → ⊥) → pointer + n ≤ s1 + length storage
-  pub small : (n ≡ 0 → ⊥) → pointer ≤ 281474976710656
+  pub some : (n ≡ 0 → ⊥) → 1 ≤ pointer
+  pub small : (n ≡ 0 → ⊥) → pointer ≤ 131072
   pub right : x .defined ≡ true → x .right < b
 
 -- an operand that is used: a literal below 2 ^ b, or a reference
@@ -78,15 +76,20 @@ valued v n = record { value = v; width = n }
 unfoldable pub leads : ℕ → World → ℕ → Checked Location
 leads b w v = follow b w (Bug (referenceOf v .bug)) (referenceOf v .fields)
 
+-- a location and what stands there
+pub record Stand : Type 0 where
+  pub at : Location
+  pub holds : ℕ
+
 -- a location that a check gives, with what stands there
-unfoldable pub standing : (Location → ℕ) → Checked Location → Checked Spot
+unfoldable pub standing : (Location → ℕ) → Checked Location → Checked Stand
 standing holds k = k >>= λ at. passed (record { at = at; holds = holds at })
 
--- answers in numbers
-unfoldable pub toldLinked : Linked → Told Spot
-toldLinked (links.At spot) = gives spot
-toldLinked (links.Stopped r) = refuses (refusalNumber r)
+-- answers in numbers: a location with what stands there, or, of an operand, a value with its width
+unfoldable pub toldLinked : Linked → Told Stand
+toldLinked (At spot) = gives (record { at = located (spot .at); holds = spot .holds })
+toldLinked (Stopped r) = refuses (refusalNumber r)
 
-unfoldable pub toldGot : Got → Told Value
-toldGot (gets.Value x) = gives (valued (x .value) (x .width))
-toldGot (gets.Stopped r) = refuses (refusalNumber r)
+unfoldable pub toldValue : ℕ → Linked → Told Value
+toldValue b (At spot) = gives (valued (spot .holds) (bitsAt b (spot .at)))
+toldValue b (Stopped r) = refuses (refusalNumber r)

@@ -11,11 +11,22 @@ use Rattle.machine.specs.declared.Location.{Location}
 use Rattle.machine.specs.Storage.{placed}
 use Rattle.machine.specs.Locate.{World}
 use Rattle.operands.specs.declared.Delivery.{Delivery}
+use Rattle.operands.specs.Locating.{located}
 use Rattle.operands.specs.Reading.{Reached}
 use Rattle.operands.specs.Storing.{wordsStored}
 
--- a block's words are zero and the block is live, and its address is stored at a location; the bugs are lent as they then are
-unfoldable pub through : ℕ → Delivery → World → World
+-- a block by its address and size, and the location where its address is stored
+pub record Delivered : Type 0 where
+  pub address : ℕ
+  pub size : ℕ
+  pub at : Location
+
+-- as code has it
+abbrev pub delivered : Delivery → Delivered
+delivered d = record { address = d .address; size = d .size; at = located (d .at) }
+
+-- the block's words are zero and the block is live, and its address is stored; the bugs are lent as they then are
+unfoldable pub through : ℕ → Delivered → World → World
 through b d w =
     record {
       bugs = w .bugs;

@@ -2,7 +2,7 @@
 ghost use mathlib.Core.Bool.{true, cond};
 ghost use mathlib.Core.List.{[]};
 ghost use mathlib.Core.Path.{_≡_};
-ghost use Prim.Native.Nat.{_+_, _-_, _%_, _≤_, _<_};
+ghost use Prim.Native.Nat.{ℕ, _+_, _-_, _%_, _≤_, _<_};
 ghost use lib.Dec.{eqb};
 ghost use lib.ListN.{length, getD, replicate};
 ghost use Rattle.block.specs.Blocks.{size as sizeOf, sizeAt};
@@ -11,20 +11,23 @@ ghost use Rattle.block.specs.Map.{keeps, live};
 ghost use Rattle.table.specs.Reference.{isReference};
 ghost use Rattle.machine.specs.Storage.{placed, wordAt};
 ghost use Rattle.machine.specs.Answer.{told};
-ghost use Rattle.machine.specs.Locate.{linkBy, contentsOf, contents, widthOf, link as linkOf, locate as locationOf, operand as operandOf};
-ghost use Rattle.operands.specs.Reading.{seen, Readable, Reached, Narrow, Taken, Lying, leads, standing, toldLinked, toldGot};
+ghost use Rattle.machine.specs.Locate.{linkBy, contentsOf, contents, operand as operandOf};
+ghost use Rattle.operands.specs.Reading.{seen, setUpOf, Readable, Reached, Taken, Lying, leads, standing};
+ghost use Rattle.operands.specs.Reading.{toldLinked, toldValue};
+ghost use Rattle.operands.specs.Locating.{located};
 ghost use Rattle.operands.specs.Storing.{wordsStored};
-ghost use Rattle.operands.specs.Through.{through, Deliverable};
+ghost use Rattle.operands.specs.Through.{through, delivered, Deliverable};
 use crate::Delivery;
-use crate::Got;
+use crate::FIELDS;
 use crate::Linked;
-use crate::Operand;
 use crate::Spot;
+use crate::locations::bits_of;
+use crate::locations::field_number;
 use crate::packing::unpack;
 use block::SetUp;
 use buddy::section::live_size;
+use buddy::section::size_at;
 use machine::Definition;
-use machine::Location;
 use machine::Refusal;
 use table::FieldName;
 use table::Pair;
@@ -34,7 +37,6 @@ use table::references::bug_before;
 use table::references::name_before;
 use word::fields::read_field;
 use word::fields::store_field;
-use word::fields::width;
 
 // The word at an address.
 fn word_at(s1: u16, storage: &[u64], address: u64) -> u64
@@ -60,30 +62,21 @@ fn word_delivered(s1: u16, storage: &[u64], from: u64, n: u64, address: u64) -> 
 }
 
 // The same, once the address is stored at a location.
-fn word_after(
-    b: u64,
-    s1: u16,
-    storage: &[u64],
-    from: u64,
-    n: u64,
-    at: Location,
-    address: u64,
-) -> u64
-    requires { ⌜ (b ≤ 48) × (s1 ≤ from) × (from - s1 + n ≤ length (now storage)) × Reached b s1 (now storage) at × (s1 ≤ address)
-        × (address < s1 + length (now storage)) ⌝ }
-    ensures { λ r. ⌜ r ≡ wordAt s1 address (wordsStored b s1 at from
+fn word_after(b: u64, s1: u16, storage: &[u64], from: u64, n: u64, at: u64, address: u64) -> u64
+    requires { ⌜ (b ≤ 48) × (s1 ≤ from) × (from - s1 + n ≤ length (now storage)) × Reached b s1 (now storage) (located at)
+        × (s1 ≤ address) × (address < s1 + length (now storage)) ⌝ }
+    ensures { λ r. ⌜ r ≡ wordAt s1 address (wordsStored b s1 (located at) from
         (placed (from - s1) (replicate n 0) (now (storage .entry)))) ⌝ }
 {
     let word = word_delivered(s1, storage, from, n, address);
-    match at {
-        Location::Bug(_) => word,
-        Location::Field(there, left, right) => {
-            if there == address {
-                return store_field(b, left, right, word, from);
-            }
-            word
-        }
+    if at < FIELDS {
+        return word;
     }
+    let bits = bits_of(at);
+    if bits.address == address {
+        return store_field(b, bits.left, bits.right, word, from);
+    }
+    word
 }
 
 // What stands at a place once a block is delivered.
@@ -93,24 +86,28 @@ fn contents_after(
     s1: u16,
     storage: &[u64],
     ahead: Delivery,
-    place: Location,
+    place: u64,
 ) -> u64
     requires { ⌜ (b ≤ 48) × (s1 ≤ ahead .address) × (ahead .address - s1 + ahead .size ≤ length (now storage))
-        × Reached b s1 (now storage) (ahead .at) × Reached b s1 (now storage) place ⌝ }
-    ensures { λ r. ⌜ r ≡ contentsOf b (now (bugs .entry)) s1 (wordsStored b s1 (ahead .at) (ahead .address)
-        (placed (ahead .address - s1) (replicate (ahead .size) 0) (now (storage .entry)))) place ⌝ }
+        × Reached b s1 (now storage) (located (ahead .at)) × Reached b s1 (now storage) (located place) ⌝ }
+    ensures { λ r. ⌜ r ≡ contentsOf b (now (bugs .entry)) s1 (wordsStored b s1 (located (ahead .at)) (ahead .address)
+        (placed (ahead .address - s1) (replicate (ahead .size) 0) (now (storage .entry)))) (located place) ⌝ }
 {
-    let at = ahead.at;
-    match place {
-        Location::Bug(x) => {
-            let i = x.0 as usize;
-            bugs[i]
-        }
-        Location::Field(address, left, right) => {
-            let word = word_after(b, s1, storage, ahead.address, ahead.size, at, address);
-            read_field(b, left, right, word)
-        }
+    if place < FIELDS {
+        let i = place as usize;
+        return bugs[i];
     }
+    let bits = bits_of(place);
+    let word = word_after(
+        b,
+        s1,
+        storage,
+        ahead.address,
+        ahead.size,
+        ahead.at,
+        bits.address,
+    );
+    read_field(b, bits.left, bits.right, word)
 }
 
 // One link, by the field's definition and the size of the live block at the pointer, 0 if there is none: refusals 14, 15, 16 in this
@@ -133,33 +130,14 @@ fn link(b: u64, s1: u16, storage: &[u64], x: Definition, size: u64, pointer: u64
     let left = x.left as u64;
     let right = x.right as u64;
     let spot = Spot {
-        at: Location::Field(address, left, right),
+        at: field_number(address, left, right),
         holds: read_field(b, left, right, word_at(s1, storage, address)),
     };
     Linked::At(spot)
 }
 
-// The link from a pointer, by the name of a field.
-fn link_to(
-    b: u64,
-    fields: &[u32; 36],
-    setup: SetUp,
-    map: &[u8],
-    storage: &[u64],
-    pointer: u64,
-    name: FieldName,
-) -> Linked
-    requires { ⌜ Readable b (seen [] (now fields) setup (now map) (now storage)) × (name .0 < 36) ⌝ }
-    ensures { λ r. ⌜ toldLinked r ≡ told (standing (contentsOf b [] (setup .s1) (now (storage .entry)))
-        (linkOf (seen [] (now (fields .entry)) setup (now (map .entry)) (now (storage .entry))) pointer name)) ⌝ }
-{
-    let size = live_size(setup, map, pointer);
-    let i = name.0 as usize;
-    link(b, setup.s1, storage, unpack(fields[i]), size, pointer)
-}
-
 // The size of the live block at an address, 0 if there is none, once n words at an address are delivered.
-fn size_after(setup: SetUp, map: &[u8], from: u64, n: u64, pointer: u64) -> u64
+fn size_after(setup: SetUp, map: &[u8; 4096], from: u64, n: u64, pointer: u64) -> u64
     requires { ⌜ (words setup % sizeOf (top (setup .d)) ≡ 0) × (keeps setup (now map) ≡ true) ⌝ }
     ensures { λ r. ⌜ r ≡ cond (eqb from pointer) n (sizeAt pointer (live setup (now (map .entry)))) ⌝ }
 {
@@ -175,24 +153,26 @@ pub fn locate_through(
     bugs: &[u64; 26],
     fields: &[u32; 36],
     setup: SetUp,
-    map: &[u8],
+    map: &[u8; 4096],
     storage: &[u64],
     ahead: Delivery,
     value: u64,
 ) -> Linked
     requires { ⌜ Readable b (seen (now bugs) (now fields) setup (now map) (now storage))
-        × Deliverable b (seen (now bugs) (now fields) setup (now map) (now storage)) (ahead .address) (ahead .size) (ahead .at)
+        × Deliverable b (seen (now bugs) (now fields) setup (now map) (now storage)) (ahead .address) (ahead .size)
+        (located (ahead .at))
         × (isReference value ≡ true) ⌝ }
-    ensures { λ r. ⌜ toldLinked r ≡ told (standing (contents b (through b ahead
+    ensures { λ r. ⌜ toldLinked r ≡ told (standing (contents b (through b (delivered ahead)
         (seen (now (bugs .entry)) (now (fields .entry)) setup (now (map .entry)) (now (storage .entry)))))
-        (leads b (through b ahead (seen (now (bugs .entry)) (now (fields .entry)) setup (now (map .entry)) (now (storage .entry))))
+        (leads b (through b (delivered ahead)
+        (seen (now (bugs .entry)) (now (fields .entry)) setup (now (map .entry)) (now (storage .entry))))
         value)) ⌝ }
 {
     let mut bits = bits_after(value);
     let bug = bug_before(value, bits);
     let i = bug.0 as usize;
     let mut spot = Spot {
-        at: Location::Bug(bug),
+        at: bug.0,
         holds: bugs[i],
     };
     while 0 < bits {
@@ -214,46 +194,45 @@ pub fn locate_through(
     Linked::At(spot)
 }
 
-// Where a reference of more than a bug leads: from its bug along the fields, up to the first link that is refused.
+// Where a reference of more than a bug leads: from its bug along the fields, up to the first link that is refused. Of the set-up it is told
+// the first address alone, so the promise is of every set-up that can be read with it.
 fn follow(
     b: u64,
     bugs: &[u64; 26],
     fields: &[u32; 36],
-    setup: SetUp,
-    map: &[u8],
+    s1: u16,
+    map: &[u8; 4096],
     storage: &[u64],
     value: u64,
 ) -> Linked
-    requires { ⌜ Readable b (seen (now bugs) (now fields) setup (now map) (now storage)) × (isReference value ≡ true)
-        × (64 ≤ value) ⌝ }
-    ensures { λ r. ⌜ toldLinked r ≡ told
-        (standing (contents b (seen (now (bugs .entry)) (now (fields .entry)) setup (now (map .entry)) (now (storage .entry))))
-        (leads b (seen (now (bugs .entry)) (now (fields .entry)) setup (now (map .entry)) (now (storage .entry))) value)) ⌝ }
+    requires { ⌜ ((d : ℕ) × (s2 : ℕ) × Readable b (seen (now bugs) (now fields) (setUpOf d s1 s2) (now map) (now storage)))
+        × (isReference value ≡ true) × (64 ≤ value) ⌝ }
+    ensures { λ r. ⌜ ((d s2 : ℕ) → Readable b (seen (now (bugs .entry)) (now (fields .entry)) (setUpOf d s1 s2) (now (map .entry))
+        (now (storage .entry))) → toldLinked r ≡ told (standing
+        (contents b (seen (now (bugs .entry)) (now (fields .entry)) (setUpOf d s1 s2) (now (map .entry)) (now (storage .entry))))
+        (leads b (seen (now (bugs .entry)) (now (fields .entry)) (setUpOf d s1 s2) (now (map .entry)) (now (storage .entry)))
+        value))) ⌝ }
 {
     if value < 4096 {
         let bug = bug_before(value, 6);
         let i = bug.0 as usize;
-        return link_to(
-            b,
-            fields,
-            setup,
-            map,
-            storage,
-            bugs[i],
-            name_before(value, 0),
-        );
+        let j = name_before(value, 0).0 as usize;
+        let size = size_at(s1, map, bugs[i]);
+        return link(b, s1, storage, unpack(fields[j]), size, bugs[i]);
     }
     let mut left = bits_after(value);
     let bug = bug_before(value, left);
     let i = bug.0 as usize;
     let mut spot = Spot {
-        at: Location::Bug(bug),
+        at: bug.0,
         holds: bugs[i],
     };
     while 0 < left {
         left -= 6;
         let name = name_before(value, left);
-        let answer = link_to(b, fields, setup, map, storage, spot.holds, name);
+        let j = name.0 as usize;
+        let size = size_at(s1, map, spot.holds);
+        let answer = link(b, s1, storage, unpack(fields[j]), size, spot.holds);
         let Linked::At(next) = answer else {
             return answer;
         };
@@ -268,38 +247,25 @@ pub fn locate(
     bugs: &[u64; 26],
     fields: &[u32; 36],
     setup: SetUp,
-    map: &[u8],
+    map: &[u8; 4096],
     storage: &[u64],
-    operand: Pair,
+    value: u64,
 ) -> Linked
-    requires { ⌜ Readable b (seen (now bugs) (now fields) setup (now map) (now storage))
-        × (isReference (operand .value) ≡ true) ⌝ }
+    requires { ⌜ Readable b (seen (now bugs) (now fields) setup (now map) (now storage)) × (isReference value ≡ true) ⌝ }
     ensures { λ r. ⌜ toldLinked r ≡ told
         (standing (contents b (seen (now (bugs .entry)) (now (fields .entry)) setup (now (map .entry)) (now (storage .entry))))
-        (locationOf b (seen (now (bugs .entry)) (now (fields .entry)) setup (now (map .entry)) (now (storage .entry)))
-        operand)) ⌝ }
+        (leads b (seen (now (bugs .entry)) (now (fields .entry)) setup (now (map .entry)) (now (storage .entry))) value)) ⌝ }
 {
-    if operand.value < 64 {
-        let bug = bug_before(operand.value, 0);
+    if value < 64 {
+        let bug = bug_before(value, 0);
         let i = bug.0 as usize;
         let spot = Spot {
-            at: Location::Bug(bug),
+            at: bug.0,
             holds: bugs[i],
         };
         return Linked::At(spot);
     }
-    follow(b, bugs, fields, setup, map, storage, operand.value)
-}
-
-// The bits of a location.
-pub fn width_of(b: u64, at: Location) -> u64
-    requires { ⌜ Narrow at ⌝ }
-    ensures { λ r. ⌜ r ≡ widthOf b at ⌝ }
-{
-    match at {
-        Location::Bug(_) => b,
-        Location::Field(_, left, right) => width(left, right),
-    }
+    follow(b, bugs, fields, setup.s1, map, storage, value)
 }
 
 // An operand that is used: a literal, or what stands where a reference leads; a bug's word is found at once.
@@ -308,38 +274,27 @@ pub fn operand(
     bugs: &[u64; 26],
     fields: &[u32; 36],
     setup: SetUp,
-    map: &[u8],
+    map: &[u8; 4096],
     storage: &[u64],
     p: Pair,
-) -> Got
+) -> Linked
     requires { ⌜ Readable b (seen (now bugs) (now fields) setup (now map) (now storage)) × Taken b p ⌝ }
-    ensures { λ r. ⌜ toldGot r ≡ told (operandOf b (seen (now (bugs .entry)) (now (fields .entry)) setup (now (map .entry))
+    ensures { λ r. ⌜ toldValue b r ≡ told (operandOf b (seen (now (bugs .entry)) (now (fields .entry)) setup (now (map .entry))
         (now (storage .entry))) p) ⌝ }
 {
     if p.form == codes::LITERAL {
         let v = p.value;
-        let literal = Operand { value: v, width: b };
-        return Got::Value(literal);
+        let literal = Spot { at: 0, holds: v };
+        return Linked::At(literal);
     }
     if p.value < 64 {
         let bug = bug_before(p.value, 0);
         let i = bug.0 as usize;
-        let word = Operand {
-            value: bugs[i],
-            width: b,
+        let word = Spot {
+            at: bug.0,
+            holds: bugs[i],
         };
-        return Got::Value(word);
+        return Linked::At(word);
     }
-    let answer = follow(b, bugs, fields, setup, map, storage, p.value);
-    match answer {
-        Linked::At(spot) => {
-            let at = spot.at;
-            let field = Operand {
-                value: spot.holds,
-                width: width_of(b, at),
-            };
-            Got::Value(field)
-        }
-        Linked::Stopped(r) => Got::Stopped(r),
-    }
+    follow(b, bugs, fields, setup.s1, map, storage, p.value)
 }

@@ -8,6 +8,7 @@ use Rattle.machine.specs.Answer.{Checked, refused, passed, told}
 use Rattle.machine.proofs.Checks.{passed-same}
 use Rattle.machine.proofs.Numbers.{told-passed, told-refused}
 use Rattle.operations.specs.declared.Action.{Action}
+use Rattle.operations.specs.Deeds.{Deed, meant}
 use Rattle.operations.specs.declared.Computed.{Computed}
 use Rattle.operations.specs.declared.Computed.the-variants as computing
 use Rattle.operations.specs.declared.Planned.{Planned}
@@ -17,20 +18,20 @@ use Rattle.operations.specs.declared.Fetched.the-variants as fetching
 use Rattle.operations.specs.Answers.{toldPlanned, toldComputed, Run, toldFetched, fetched}
 
 -- a plan of an action, by what its checks come to
-module _ {k : Checked Action} where
-  pub does : {x : Action} → k ≡ passed x → toldPlanned (Does x) ≡ told k
+module _ {k : Checked Deed} where
+  pub does : (x : Action) → k ≡ passed (meant x) → toldPlanned (Does x) ≡ told k
   unfolding toldPlanned told
-  does e = rw e
+  does x e = rw e
 
   pub stops : {r : Refusal} → k ≡ refused r → toldPlanned (Stopped r) ≡ told k
   unfolding toldPlanned told
   stops e = rw e
 
-  pub follows : {j : Checked Action} {t : Told Action} → k ≡ j → t ≡ told j → t ≡ told k
+  pub follows : {j : Checked Deed} {t : Told Deed} → k ≡ j → t ≡ told j → t ≡ told k
   follows e is = rw e is
 
-module _ (k : Checked Action) {answer : Planned} (is : toldPlanned answer ≡ told k) where
-  pub plan-is : {x : Action} → answer ≡ Does x → k ≡ passed x
+module _ (k : Checked Deed) {answer : Planned} (is : toldPlanned answer ≡ told k) where
+  pub plan-is : {x : Action} → answer ≡ Does x → k ≡ passed (meant x)
   unfolding toldPlanned
   plan-is made = told-passed k (sym (ap toldPlanned made) ∙ is)
 

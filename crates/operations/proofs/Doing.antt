@@ -46,8 +46,9 @@ use Rattle.operands.specs.Storing.{bugsStored}
 use Rattle.operands.specs.Through.{through, Deliverable}
 use Rattle.operands.proofs.Storing.{bugs-below}
 use Rattle.operands.proofs.Answers.{at-is, stopped-is}
-use Rattle.operations.specs.declared.Action.{Action}
-use Rattle.operations.specs.declared.Action.the-variants.{Store, StoreTwo, Deliver, DeliverTwo, Free, Input, Print}
+use Rattle.operands.specs.Locating.{located}
+use Rattle.operations.specs.Deeds.{Deed}
+use Rattle.operations.specs.Deeds.{Store, StoreTwo, Deliver, DeliverTwo, Free, Input, Print}
 use Rattle.operations.specs.declared.Computed.{Computed}
 use Rattle.operations.specs.declared.Computed.the-variants as computing
 use Rattle.operations.specs.declared.Fetched.{Fetched}
@@ -104,7 +105,7 @@ module _ (b : ℕ) (w : World) (third : Pair) (a : Location) (address n : ℕ) w
       (leads b (through b (record { address = address; size = n; at = a })
       (record { bugs = bugs; definitions = w .definitions; setup = w .setup; map = w .map; storage = w .storage })) (third .value)))) where
     pub delivers-two : {a2 : Spot} → answer ≡ links.At a2 → {old : ℕ} → old ≡ contents b w a
-        → delivering b w third a address n ≡ passed (DeliverTwo address n a (a2 .at) old)
+        → delivering b w third a address n ≡ passed (DeliverTwo address n a (located (a2 .at)) old)
     unfolding delivering afterDelivery leads locate _>>=_
     delivers-two to same = rw (ne-eqb _ _ some, ← after, at-is _ _ is to, same)
 
@@ -318,10 +319,10 @@ module _ (code b : ℕ) (w : World) (taken : ℕ) (input : List ℕ) (third : Pa
   unfolding acting
   act-take e = rw e
 
-  pub act-make : (code ≡ 3 → ⊥) → (code ≡ 4 → ⊥) → (code ≡ 5 → ⊥) → (code ≡ 24 → ⊥) → {old aw : ℕ} → old ≡ contents b w a → aw ≡ widthOf b a
-      → acting code b w taken input third a x ≡ storing a (valueBy code b (valued old aw) x)
+  pub act-make : (code ≡ 3 → ⊥) → (code ≡ 4 → ⊥) → (code ≡ 5 → ⊥) → (code ≡ 24 → ⊥) → {old : ℕ} → old ≡ contents b w a
+      → acting code b w taken input third a x ≡ storing a (valueBy code b (valued old (widthOf b a)) x)
   unfolding acting read
-  act-make g f d t was wide = rw (ne-eqb code 3 g, ne-eqb code 4 f, ne-eqb code 5 d, ne-eqb code 24 t, ← was, ← wide)
+  act-make g f d t was = rw (ne-eqb code 3 g, ne-eqb code 4 f, ne-eqb code 5 d, ne-eqb code 24 t, ← was)
 
 -- 25 print, by its checks
 module _ (written room n : ℕ) (x : Value) where
@@ -349,9 +350,6 @@ pub makes : {code : ℕ} → Acts code → (code ≡ 3 → ⊥) → (code ≡ 4 
 makes {code} h g f d t =
     let low = h .low in
     record { low = omega arith; high = h .high; noInterchange = h .noInterchange; noInput = t; noPrint = h .noPrint }
-
-pub no-wider : {n m b : ℕ} → n ≡ m → m ≤ b → n ≤ b
-no-wider same h = omega arith
 
 -- what is lent with other bugs
 module _ (b : ℕ) (w : World) (a : Location) (address : ℕ) {bugs : List ℕ} where

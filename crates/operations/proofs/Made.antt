@@ -25,6 +25,13 @@ pub made : (b : ℕ) (a x : Value) {code k v r : ℕ} → code ≡ k → r ≡ v
 unfolding toldComputed told
 made b a x e same is = rw (e, is, same)
 
+-- a code that is none of the lower ones is higher, and the highest is left
+pub past : {k code : ℕ} → k ≤ code → (code ≡ k → ⊥) → suc k ≤ code
+past low other = omega arith
+
+pub highest : {k code : ℕ} → k ≤ code → code ≤ k → code ≡ k
+highest low high = omega arith
+
 -- an answer, at a code that is known
 pub answered : (b : ℕ) (a x : Value) {code k : ℕ} {t : Told ℕ} → code ≡ k → t ≡ told (valueBy k b a x) → t ≡ told (valueBy code b a x)
 answered b a x e is = rw e is

@@ -13,8 +13,8 @@ use Rattle.machine.specs.declared.Refusal.the-variants.{StackFull, StackEmpty}
 use Rattle.machine.specs.Answer.{Checked, refused, passed, _>>=_, _>>_, need}
 use Rattle.machine.specs.Locate.{World, contents, locate}
 use Rattle.machine.proofs.Checks.{need-yes, need-no, bind-yes, cond-yes, cond-no}
-use Rattle.operations.specs.declared.Action.{Action}
-use Rattle.operations.specs.declared.Action.the-variants.{Save, Restore, SaveDefinition, RestoreDefinition, Call}
+use Rattle.operations.specs.Deeds.{Deed}
+use Rattle.operations.specs.Deeds.{Save, Restore, SaveDefinition, RestoreDefinition, Call}
 use Rattle.operations.specs.Plans.{nameOf, contentsPlan, recordPlan}
 
 -- 32 and 33, once a is located

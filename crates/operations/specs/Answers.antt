@@ -2,7 +2,7 @@
 use Prim.Native.Nat.{ℕ}
 use Rattle.word.specs.Told.{Told, gives, refuses}
 use Rattle.machine.specs.Answer.{Checked, refused, passed, refusalNumber}
-use Rattle.operations.specs.declared.Action.{Action}
+use Rattle.operations.specs.Deeds.{Deed, meant}
 use Rattle.operations.specs.declared.Computed.{Computed}
 use Rattle.operations.specs.declared.Computed.the-variants as computing
 use Rattle.operations.specs.declared.Planned.{Planned}
@@ -14,8 +14,8 @@ unfoldable pub toldComputed : Computed → Told ℕ
 toldComputed (computing.Made v) = gives v
 toldComputed (computing.Stopped r) = refuses (refusalNumber r)
 
-unfoldable pub toldPlanned : Planned → Told Action
-toldPlanned (planning.Does x) = gives x
+unfoldable pub toldPlanned : Planned → Told Deed
+toldPlanned (planning.Does x) = gives (meant x)
 toldPlanned (planning.Stopped r) = refuses (refusalNumber r)
 
 -- a run by its address and its words

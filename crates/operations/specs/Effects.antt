@@ -10,10 +10,10 @@ use Rattle.machine.specs.State.{undefined, testsOf, theEnd, movedTo, withDefini
 use Rattle.machine.specs.Storage.{noStore, noReport}
 use Rattle.machine.specs.Effects.{Effects, quietly, reporting, assigned, storeTo, storing}
 use Rattle.machine.specs.Operations.{delivering, andStoring}
-use Rattle.operations.specs.declared.Action.{Action}
-use Rattle.operations.specs.declared.Action.the-variants.{Nothing, Store, StoreTwo, SetUpWords, Define, Deliver, DeliverTwo, Free, Input, Print, Save, Restore, SaveDefinition, RestoreDefinition, Call, Return}
+use Rattle.operations.specs.Deeds.{Deed}
+use Rattle.operations.specs.Deeds.{Nothing, Store, StoreTwo, SetUpWords, Define, Deliver, DeliverTwo, Free, Input, Print, Save, Restore, SaveDefinition, RestoreDefinition, Call, Return}
 
-unfoldable pub effects : ℕ → Action → State → Effects
+unfoldable pub effects : ℕ → Deed → State → Effects
 effects b Nothing s = quietly s
 effects b (Store at v) s = storing b at v s
 effects b (StoreTwo a v c x) s = andStoring b c x (storing b a v s)

@@ -4,8 +4,11 @@ ghost use mathlib.Core.Path.{_≡_};
 ghost use Prim.Native.Nat.{_^_, _≤_, _<_};
 ghost use lib.ListN.{length};
 ghost use Rattle.table.specs.Reference.{isReference};
+ghost use Rattle.table.specs.Row.{asRow};
+ghost use Rattle.operands.specs.Locating.{located, bitsAt};
 ghost use Rattle.operands.specs.Reading.{seen, valued, Readable, Reached, Taken};
-ghost use Rattle.operations.specs.Plans.{setUpPlan, defining, definePlan, taking, storing, acting, twoPlan, swapPlan, printing, printPlan, contentsPlan, recordPlan, valueBy, Computes, Acts};
+ghost use Rattle.operations.specs.Plans.{setUpPlan, defining, definePlan, taking, storing, acting, twoPlan, swapPlan, printing};
+ghost use Rattle.operations.specs.Plans.{printPlan, contentsPlan, recordPlan, valueBy, Computes, Acts};
 ghost use Rattle.machine.specs.Answer.{told};
 ghost use Rattle.machine.specs.Locate.{contents};
 ghost use Rattle.operations.specs.Answers.{toldPlanned};
@@ -24,27 +27,33 @@ use character::Packed;
 use character::line_ends;
 use character::pack_input;
 use machine::Definition;
-use machine::Location;
 use machine::Refusal;
 use machine::STACK;
-use operands::Got;
 use operands::Linked;
-use operands::Operand;
 use operands::Spot;
+use operands::locations::width_of;
 use operands::references::locate;
 use operands::references::operand;
-use operands::references::width_of;
 use table::FieldName;
-use table::Row;
+use table::Pair;
 use table::codes;
+use table::rows::CODE;
+use table::rows::FIRST;
+use table::rows::FIRST_FORM;
+use table::rows::NAME;
+use table::rows::SECOND;
+use table::rows::SECOND_FORM;
+use table::rows::THIRD;
+use table::rows::THIRD_FORM;
 
 // Operation 1, set up: refusal 3.
-pub fn plan_set_up(lent: usize, row: Row) -> Planned
-    ensures { λ r. ⌜ toldPlanned r ≡ told (setUpPlan lent row) ⌝ }
+pub fn plan_set_up(lent: usize, row: &[u64]) -> Planned
+    requires { ⌜ 10 ≤ length (now row) ⌝ }
+    ensures { λ r. ⌜ toldPlanned r ≡ told (setUpPlan lent (asRow (now (row .entry)))) ⌝ }
 {
-    let d = row.first.value;
-    let s1 = row.second.value;
-    let s2 = row.third.value;
+    let d = row[FIRST];
+    let s1 = row[SECOND];
+    let s2 = row[THIRD];
     if !fits(lent, d, s1, s2) {
         return Planned::Stopped(Refusal::SetUpNumbers);
     }
@@ -72,7 +81,10 @@ fn define(b: u64, name: u64, word: u64, left: u64, right: u64) -> Planned
         left: left as u8,
         right: right as u8,
     };
-    Planned::Does(Action::Define(field, definition))
+    Planned::Does(Action::Define {
+        field: field,
+        definition: definition,
+    })
 }
 
 // 2, define.
@@ -81,65 +93,86 @@ pub fn plan_define(
     bugs: &[u64; 26],
     fields: &[u32; 36],
     setup: SetUp,
-    map: &[u8],
+    map: &[u8; 4096],
     storage: &[u64],
-    row: Row,
+    row: &[u64],
 ) -> Planned
-    requires { ⌜ Readable b (seen (now bugs) (now fields) setup (now map) (now storage)) × Taken b (row .first)
-        × Taken b (row .second) × Taken b (row .third) × (row .name < 36) ⌝ }
+    requires { ⌜ Readable b (seen (now bugs) (now fields) setup (now map) (now storage)) × Taken b (asRow (now row) .first)
+        × Taken b (asRow (now row) .second) × Taken b (asRow (now row) .third) × (asRow (now row) .name < 36)
+        × (10 ≤ length (now row)) ⌝ }
     ensures { λ r. ⌜ toldPlanned r ≡ told
-        (definePlan b (seen (now (bugs .entry)) (now (fields .entry)) setup (now (map .entry)) (now (storage .entry))) row) ⌝ }
+        (definePlan b (seen (now (bugs .entry)) (now (fields .entry)) setup (now (map .entry)) (now (storage .entry)))
+        (asRow (now (row .entry)))) ⌝ }
 {
-    let first = row.first;
-    let second = row.second;
-    let third = row.third;
+    let first = Pair {
+        form: row[FIRST_FORM],
+        value: row[FIRST],
+    };
+    let second = Pair {
+        form: row[SECOND_FORM],
+        value: row[SECOND],
+    };
+    let third = Pair {
+        form: row[THIRD_FORM],
+        value: row[THIRD],
+    };
     let x = operand(b, bugs, fields, setup, map, storage, first);
     let word = match x {
-        Got::Value(v) => v.value,
-        Got::Stopped(r) => return Planned::Stopped(r),
+        Linked::At(v) => v.holds,
+        Linked::Stopped(r) => return Planned::Stopped(r),
     };
     let y = operand(b, bugs, fields, setup, map, storage, second);
     let left = match y {
-        Got::Value(v) => v.value,
-        Got::Stopped(r) => return Planned::Stopped(r),
+        Linked::At(v) => v.holds,
+        Linked::Stopped(r) => return Planned::Stopped(r),
     };
     let z = operand(b, bugs, fields, setup, map, storage, third);
     match z {
-        Got::Value(right) => define(b, row.name, word, left, right.value),
-        Got::Stopped(r) => Planned::Stopped(r),
+        Linked::At(right) => define(b, row[NAME], word, left, right.holds),
+        Linked::Stopped(r) => Planned::Stopped(r),
     }
 }
 
 // 24, input: refusals 10, 5, 4. Where the input has length 0, its characters are octal 77 and nothing is taken.
-fn take(b: u64, at: Location, taken: usize, input: &[u8], n: u64) -> Planned
+fn take(b: u64, at: u64, taken: usize, input: &[u8], n: u64) -> Planned
     requires { ⌜ (b ≤ 48) × (taken ≤ length (now input)) ⌝ }
-    ensures { λ r. ⌜ toldPlanned r ≡ told (taking b taken (now (input .entry)) at n) ⌝ }
+    ensures { λ r. ⌜ toldPlanned r ≡ told (taking b taken (now (input .entry)) (located at) n) ⌝ }
 {
     if b / 6 < n {
         return Planned::Stopped(Refusal::CharacterCount);
     }
     let count = n as usize;
     if input.len() == 0 {
-        return Planned::Does(Action::Input(at, line_ends(count), 0));
+        return Planned::Does(Action::Input {
+            at: at,
+            value: line_ends(count),
+            taken: 0,
+        });
     }
     if input.len() - taken < count {
         return Planned::Stopped(Refusal::InputShort);
     }
     let packed = pack_input(input, taken, count);
     match packed {
-        Packed::Value(v) => Planned::Does(Action::Input(at, v, n)),
+        Packed::Value(v) => Planned::Does(Action::Input {
+            at: at,
+            value: v,
+            taken: n,
+        }),
         Packed::TooLarge => Planned::Stopped(Refusal::InputByte),
     }
 }
 
 // The operations that compute a value and store it in a.
-fn make(b: u64, code: u64, at: Location, a: u64, aw: u64, x: u64, xw: u64) -> Planned
-    requires { ⌜ (b ≤ 48) × (a < 2 ^ b) × (x < 2 ^ b) × (aw ≤ b) × (xw ≤ b) × Computes code ⌝ }
-    ensures { λ r. ⌜ toldPlanned r ≡ told (storing at (valueBy code b (valued a aw) (valued x xw))) ⌝ }
+fn make(b: u64, code: u64, a: Spot, x: Spot) -> Planned
+    requires { ⌜ (b ≤ 48) × (a .holds < 2 ^ b) × (x .holds < 2 ^ b) × (bitsAt b (a .at) ≤ b) × (bitsAt b (x .at) ≤ b)
+        × Computes code ⌝ }
+    ensures { λ r. ⌜ toldPlanned r ≡ told (storing (located (a .at))
+        (valueBy code b (valued (a .holds) (bitsAt b (a .at))) (valued (x .holds) (bitsAt b (x .at))))) ⌝ }
 {
-    let made = compute(b, code, a, aw, x, xw);
+    let made = compute(b, code, a, x);
     match made {
-        Computed::Made(v) => Planned::Does(Action::Store(at, v)),
+        Computed::Made(v) => Planned::Does(Action::Store { at: a.at, value: v }),
         Computed::Stopped(r) => Planned::Stopped(r),
     }
 }
@@ -149,34 +182,40 @@ fn act(
     known: Known,
     bugs: &[u64; 26],
     fields: &[u32; 36],
-    map: &[u8],
+    map: &[u8; 4096],
     storage: &[u64],
     input: &[u8],
-    row: Row,
+    row: &[u64],
     a: Spot,
-    x: Operand,
+    x: Spot,
 ) -> Planned
     requires { ⌜ Readable (known .b) (seenBy known (now bugs) (now fields) (now map) (now storage))
-        × (known .counts .taken ≤ length (now input)) × Reached (known .b) (known .setup .s1) (now storage) (a .at)
-        × (x .value < 2 ^ known .b) × (x .width ≤ known .b) × Acts (row .code)
-        × ((row .third .form ≡ 0 → ⊥) → isReference (row .third .value) ≡ true)
-        × (a .holds ≡ contents (known .b) (seenBy known (now bugs) (now fields) (now map) (now storage)) (a .at)) ⌝ }
-    ensures { λ r. ⌜ toldPlanned r ≡ told (acting (row .code) (known .b)
+        × (known .counts .taken ≤ length (now input)) × Reached (known .b) (known .setup .s1) (now storage) (located (a .at))
+        × (x .holds < 2 ^ known .b) × (bitsAt (known .b) (x .at) ≤ known .b) × Acts (asRow (now row) .code)
+        × ((asRow (now row) .third .form ≡ 0 → ⊥) → isReference (asRow (now row) .third .value) ≡ true)
+        × (a .holds ≡ contents (known .b) (seenBy known (now bugs) (now fields) (now map) (now storage)) (located (a .at)))
+        × (10 ≤ length (now row)) ⌝ }
+    ensures { λ r. ⌜ toldPlanned r ≡ told (acting (asRow (now (row .entry)) .code) (known .b)
         (seenBy known (now (bugs .entry)) (now (fields .entry)) (now (map .entry)) (now (storage .entry)))
-        (known .counts .taken) (now (input .entry)) (row .third) (a .at) (valued (x .value) (x .width))) ⌝ }
+        (known .counts .taken) (now (input .entry)) (asRow (now (row .entry)) .third) (located (a .at))
+        (valued (x .holds) (bitsAt (known .b) (x .at)))) ⌝ }
 {
     let b = known.b;
     let setup = known.setup;
     let counts = known.counts;
-    let code = row.code;
-    let third = row.third;
-    let at = a.at;
+    let code = row[CODE];
     match code {
-        codes::GET => get(known, bugs, fields, map, storage, third, a, x.value),
-        codes::FREE => free(setup, map, at, a.holds, x.value),
-        codes::DUPLICATE => duplicate(setup, map, at, x.value),
-        codes::INPUT => take(b, at, counts.taken, input, x.value),
-        _ => make(b, code, at, a.holds, width_of(b, at), x.value, x.width),
+        codes::GET => {
+            let third = Pair {
+                form: row[THIRD_FORM],
+                value: row[THIRD],
+            };
+            get(known, bugs, fields, map, storage, third, a, x.holds)
+        }
+        codes::FREE => free(setup, map, a.at, a.holds, x.holds),
+        codes::DUPLICATE => duplicate(setup, map, a.at, x.holds),
+        codes::INPUT => take(b, a.at, counts.taken, input, x.holds),
+        _ => make(b, code, a, x),
     }
 }
 
@@ -185,31 +224,35 @@ pub fn plan_two(
     known: Known,
     bugs: &[u64; 26],
     fields: &[u32; 36],
-    map: &[u8],
+    map: &[u8; 4096],
     storage: &[u64],
     input: &[u8],
-    row: Row,
+    row: &[u64],
 ) -> Planned
     requires { ⌜ Readable (known .b) (seenBy known (now bugs) (now fields) (now map) (now storage))
-        × (known .counts .taken ≤ length (now input)) × Acts (row .code) × (isReference (row .first .value) ≡ true)
-        × Taken (known .b) (row .second) × ((row .third .form ≡ 0 → ⊥) → isReference (row .third .value) ≡ true) ⌝ }
+        × (known .counts .taken ≤ length (now input)) × Acts (asRow (now row) .code)
+        × (isReference (asRow (now row) .first .value) ≡ true)
+        × Taken (known .b) (asRow (now row) .second)
+        × ((asRow (now row) .third .form ≡ 0 → ⊥) → isReference (asRow (now row) .third .value) ≡ true) × (10 ≤ length (now row)) ⌝ }
     ensures { λ r. ⌜ toldPlanned r ≡ told (twoPlan (known .b)
         (seenBy known (now (bugs .entry)) (now (fields .entry)) (now (map .entry)) (now (storage .entry)))
-        (known .counts .taken) (now (input .entry)) row) ⌝ }
+        (known .counts .taken) (now (input .entry)) (asRow (now (row .entry)))) ⌝ }
 {
     let b = known.b;
     let setup = known.setup;
-    let first = row.first;
-    let second = row.second;
-    let found = locate(b, bugs, fields, setup, map, storage, first);
+    let found = locate(b, bugs, fields, setup, map, storage, row[FIRST]);
     let a = match found {
         Linked::At(x) => x,
         Linked::Stopped(r) => return Planned::Stopped(r),
     };
+    let second = Pair {
+        form: row[SECOND_FORM],
+        value: row[SECOND],
+    };
     let got = operand(b, bugs, fields, setup, map, storage, second);
     match got {
-        Got::Value(x) => act(known, bugs, fields, map, storage, input, row, a, x),
-        Got::Stopped(r) => Planned::Stopped(r),
+        Linked::At(x) => act(known, bugs, fields, map, storage, input, row, a, x),
+        Linked::Stopped(r) => Planned::Stopped(r),
     }
 }
 
@@ -219,30 +262,33 @@ pub fn plan_swap(
     bugs: &[u64; 26],
     fields: &[u32; 36],
     setup: SetUp,
-    map: &[u8],
+    map: &[u8; 4096],
     storage: &[u64],
-    row: Row,
+    row: &[u64],
 ) -> Planned
     requires { ⌜ Readable b (seen (now bugs) (now fields) setup (now map) (now storage))
-        × (isReference (row .first .value) ≡ true) × (isReference (row .second .value) ≡ true) ⌝ }
+        × (isReference (asRow (now row) .first .value) ≡ true) × (isReference (asRow (now row) .second .value) ≡ true)
+        × (10 ≤ length (now row)) ⌝ }
     ensures { λ r. ⌜ toldPlanned r ≡ told
-        (swapPlan b (seen (now (bugs .entry)) (now (fields .entry)) setup (now (map .entry)) (now (storage .entry))) row) ⌝ }
+        (swapPlan b (seen (now (bugs .entry)) (now (fields .entry)) setup (now (map .entry)) (now (storage .entry)))
+        (asRow (now (row .entry)))) ⌝ }
 {
-    let first = row.first;
-    let second = row.second;
-    let found = locate(b, bugs, fields, setup, map, storage, first);
+    let found = locate(b, bugs, fields, setup, map, storage, row[FIRST]);
     let a = match found {
         Linked::At(x) => x,
         Linked::Stopped(r) => return Planned::Stopped(r),
     };
-    let other = locate(b, bugs, fields, setup, map, storage, second);
+    let other = locate(b, bugs, fields, setup, map, storage, row[SECOND]);
     let c = match other {
         Linked::At(x) => x,
         Linked::Stopped(r) => return Planned::Stopped(r),
     };
-    let at = a.at;
-    let other_at = c.at;
-    Planned::Does(Action::StoreTwo(at, c.holds, other_at, a.holds))
+    Planned::Does(Action::StoreTwo {
+        at: a.at,
+        value: c.holds,
+        then_at: c.at,
+        then_value: a.holds,
+    })
 }
 
 // 25, print, once its operands are taken: refusals 10, 21.
@@ -256,7 +302,11 @@ fn print(written: usize, room: usize, n: u64, v: u64, width: u64) -> Planned
     if ((room - written) as u64) < n {
         return Planned::Stopped(Refusal::OutputFull);
     }
-    Planned::Does(Action::Print(n, width, v))
+    Planned::Does(Action::Print {
+        count: n,
+        width: width,
+        value: v,
+    })
 }
 
 // 25, print.
@@ -264,30 +314,37 @@ pub fn plan_print(
     known: Known,
     bugs: &[u64; 26],
     fields: &[u32; 36],
-    map: &[u8],
+    map: &[u8; 4096],
     storage: &[u64],
-    row: Row,
+    row: &[u64],
 ) -> Planned
     requires { ⌜ Readable (known .b) (seenBy known (now bugs) (now fields) (now map) (now storage))
-        × (known .counts .written ≤ known .room) × Taken (known .b) (row .first) × Taken (known .b) (row .second) ⌝ }
+        × (known .counts .written ≤ known .room) × Taken (known .b) (asRow (now row) .first)
+        × Taken (known .b) (asRow (now row) .second) × (10 ≤ length (now row)) ⌝ }
     ensures { λ r. ⌜ toldPlanned r ≡ told (printPlan (known .b)
         (seenBy known (now (bugs .entry)) (now (fields .entry)) (now (map .entry)) (now (storage .entry)))
-        (known .counts .written) (known .room) row) ⌝ }
+        (known .counts .written) (known .room) (asRow (now (row .entry)))) ⌝ }
 {
     let b = known.b;
     let setup = known.setup;
     let counts = known.counts;
-    let first = row.first;
-    let second = row.second;
+    let first = Pair {
+        form: row[FIRST_FORM],
+        value: row[FIRST],
+    };
+    let second = Pair {
+        form: row[SECOND_FORM],
+        value: row[SECOND],
+    };
     let x = operand(b, bugs, fields, setup, map, storage, first);
     let n = match x {
-        Got::Value(v) => v.value,
-        Got::Stopped(r) => return Planned::Stopped(r),
+        Linked::At(v) => v.holds,
+        Linked::Stopped(r) => return Planned::Stopped(r),
     };
     let y = operand(b, bugs, fields, setup, map, storage, second);
     match y {
-        Got::Value(v) => print(counts.written, known.room, n, v.value, v.width),
-        Got::Stopped(r) => Planned::Stopped(r),
+        Linked::At(v) => print(counts.written, known.room, n, v.holds, width_of(b, v.at)),
+        Linked::Stopped(r) => Planned::Stopped(r),
     }
 }
 
@@ -296,27 +353,26 @@ pub fn plan_contents(
     known: Known,
     bugs: &[u64; 26],
     fields: &[u32; 36],
-    map: &[u8],
+    map: &[u8; 4096],
     storage: &[u64],
     entries: &[u64; 128],
-    row: Row,
+    row: &[u64],
 ) -> Planned
     requires { ⌜ Readable (known .b) (seenBy known (now bugs) (now fields) (now map) (now storage))
-        × (known .counts .contents ≤ 128) × (isReference (row .first .value) ≡ true) ⌝ }
+        × (known .counts .contents ≤ 128) × (isReference (asRow (now row) .first .value) ≡ true) × (10 ≤ length (now row)) ⌝ }
     ensures { λ r. ⌜ toldPlanned r ≡ told (contentsPlan (known .b)
         (seenBy known (now (bugs .entry)) (now (fields .entry)) (now (map .entry)) (now (storage .entry)))
-        (known .counts .contents) (now (entries .entry)) row) ⌝ }
+        (known .counts .contents) (now (entries .entry)) (asRow (now (row .entry)))) ⌝ }
 {
     let setup = known.setup;
     let counts = known.counts;
-    let first = row.first;
-    let found = locate(known.b, bugs, fields, setup, map, storage, first);
+    let found = locate(known.b, bugs, fields, setup, map, storage, row[FIRST]);
     let a = match found {
         Linked::At(x) => x,
         Linked::Stopped(r) => return Planned::Stopped(r),
     };
     let count = counts.contents;
-    if row.code == codes::SAVE {
+    if row[CODE] == codes::SAVE {
         if STACK <= count {
             return Planned::Stopped(Refusal::StackFull);
         }
@@ -326,17 +382,19 @@ pub fn plan_contents(
         return Planned::Stopped(Refusal::StackEmpty);
     }
     let i = count - 1;
-    let at = a.at;
-    Planned::Does(Action::Restore(at, entries[i]))
+    Planned::Does(Action::Restore {
+        at: a.at,
+        value: entries[i],
+    })
 }
 
 // 34, save a definition: refusal 19. 35, restore it: refusal 20. 36, DO: refusal 19.
-pub fn plan_records(saved: usize, calls: usize, row: Row) -> Planned
-    requires { ⌜ row .name < 36 ⌝ }
-    ensures { λ r. ⌜ toldPlanned r ≡ told (recordPlan saved calls row) ⌝ }
+pub fn plan_records(saved: usize, calls: usize, row: &[u64]) -> Planned
+    requires { ⌜ asRow (now row) .name < 36 × (10 ≤ length (now row)) ⌝ }
+    ensures { λ r. ⌜ toldPlanned r ≡ told (recordPlan saved calls (asRow (now (row .entry)))) ⌝ }
 {
-    let field = FieldName(row.name as u8);
-    let code = row.code;
+    let field = FieldName(row[NAME] as u8);
+    let code = row[CODE];
     if code == codes::SAVE_DEFINITION {
         if STACK <= saved {
             return Planned::Stopped(Refusal::StackFull);
@@ -352,5 +410,5 @@ pub fn plan_records(saved: usize, calls: usize, row: Row) -> Planned
     if STACK <= calls {
         return Planned::Stopped(Refusal::StackFull);
     }
-    Planned::Does(Action::Call(row.first.value))
+    Planned::Does(Action::Call(row[FIRST]))
 }

@@ -7,6 +7,7 @@ ghost use Rattle.block.specs.SetUp.{top, words};
 ghost use Rattle.block.specs.Map.{keeps, live};
 ghost use Rattle.table.specs.Reference.{isReference};
 ghost use Rattle.machine.specs.Operations.{lowestRun, liesIn};
+ghost use Rattle.operands.specs.Locating.{located};
 ghost use Rattle.operands.specs.Reading.{Readable, Reached};
 ghost use Rattle.operands.specs.Through.{Deliverable};
 ghost use Rattle.operations.specs.Plans.{delivering, getting, freeing, duplicating};
@@ -25,11 +26,12 @@ use buddy::section::lowest_run;
 use buddy::sizes::level_of;
 use buddy::sizes::size_of;
 use buddy::sizes::top_of;
-use machine::Location;
 use machine::Refusal;
 use operands::Delivery;
+use operands::FIELDS;
 use operands::Linked;
 use operands::Spot;
+use operands::locations::bits_of;
 use operands::references::locate_through;
 use operands::stores::bugs_after;
 use table::Pair;
@@ -42,7 +44,10 @@ fn fetch(setup: SetUp, map: &[u8], j: u8) -> Fetched
 {
     let run = lowest_run(setup, map, j);
     match run {
-        Found::At(address) => Fetched::Run(address as u64, size_of(j) as u64),
+        Found::At(address) => Fetched::Run {
+            address: address as u64,
+            size: size_of(j) as u64,
+        },
         Found::Nothing => Fetched::Stopped(Refusal::NoRun),
     }
 }
@@ -52,7 +57,7 @@ fn deliver(
     known: Known,
     bugs: &[u64; 26],
     fields: &[u32; 36],
-    map: &[u8],
+    map: &[u8; 4096],
     storage: &[u64],
     third: Pair,
     ahead: Delivery,
@@ -60,25 +65,33 @@ fn deliver(
 ) -> Planned
     requires { ⌜ Readable (known .b) (seenBy known (now bugs) (now fields) (now map) (now storage))
         × Deliverable (known .b) (seenBy known (now bugs) (now fields) (now map) (now storage)) (ahead .address) (ahead .size)
-        (ahead .at) × ((third .form ≡ 0 → ⊥) → isReference (third .value) ≡ true)
-        × (held ≡ contents (known .b) (seenBy known (now bugs) (now fields) (now map) (now storage)) (ahead .at)) ⌝ }
+        (located (ahead .at)) × ((third .form ≡ 0 → ⊥) → isReference (third .value) ≡ true)
+        × (held ≡ contents (known .b) (seenBy known (now bugs) (now fields) (now map) (now storage)) (located (ahead .at))) ⌝ }
     ensures { λ r. ⌜ toldPlanned r ≡ told (delivering (known .b)
         (seenBy known (now (bugs .entry)) (now (fields .entry)) (now (map .entry)) (now (storage .entry)))
-        third (ahead .at) (ahead .address) (ahead .size)) ⌝ }
+        third (located (ahead .at)) (ahead .address) (ahead .size)) ⌝ }
 {
     let b = known.b;
     let setup = known.setup;
     let at = ahead.at;
     if third.form == codes::ABSENT {
-        return Planned::Does(Action::Deliver(ahead.address, ahead.size, 0, at));
+        return Planned::Does(Action::Deliver {
+            address: ahead.address,
+            size: ahead.size,
+            copied: 0,
+            at: at,
+        });
     }
     let after = bugs_after(b, bugs, at, ahead.address);
     let found = locate_through(b, &after, fields, setup, map, storage, ahead, third.value);
     match found {
-        Linked::At(second) => {
-            let a2 = second.at;
-            Planned::Does(Action::DeliverTwo(ahead.address, ahead.size, at, a2, held))
-        }
+        Linked::At(second) => Planned::Does(Action::DeliverTwo {
+            address: ahead.address,
+            size: ahead.size,
+            at: at,
+            then_at: second.at,
+            then_value: held,
+        }),
         Linked::Stopped(r) => Planned::Stopped(r),
     }
 }
@@ -88,19 +101,19 @@ pub fn get(
     known: Known,
     bugs: &[u64; 26],
     fields: &[u32; 36],
-    map: &[u8],
+    map: &[u8; 4096],
     storage: &[u64],
     third: Pair,
     a: Spot,
     wanted: u64,
 ) -> Planned
     requires { ⌜ Readable (known .b) (seenBy known (now bugs) (now fields) (now map) (now storage))
-        × Reached (known .b) (known .setup .s1) (now storage) (a .at)
+        × Reached (known .b) (known .setup .s1) (now storage) (located (a .at))
         × ((third .form ≡ 0 → ⊥) → isReference (third .value) ≡ true)
-        × (a .holds ≡ contents (known .b) (seenBy known (now bugs) (now fields) (now map) (now storage)) (a .at)) ⌝ }
+        × (a .holds ≡ contents (known .b) (seenBy known (now bugs) (now fields) (now map) (now storage)) (located (a .at))) ⌝ }
     ensures { λ r. ⌜ toldPlanned r ≡ told (getting (known .b)
         (seenBy known (now (bugs .entry)) (now (fields .entry)) (now (map .entry)) (now (storage .entry)))
-        third (a .at) wanted) ⌝ }
+        third (located (a .at)) wanted) ⌝ }
 {
     let setup = known.setup;
     if wanted == 0 {
@@ -111,12 +124,11 @@ pub fn get(
     }
     let run = fetch(setup, map, level_of(top_of(setup.d), wanted));
     match run {
-        Fetched::Run(address, n) => {
-            let at = a.at;
+        Fetched::Run { address, size } => {
             let ahead = Delivery {
                 address: address,
-                size: n,
-                at: at,
+                size: size,
+                at: a.at,
             };
             deliver(known, bugs, fields, map, storage, third, ahead, a.holds)
         }
@@ -125,24 +137,23 @@ pub fn get(
 }
 
 // The field to change lies in the block of n words at an address.
-fn lies_in(address: u64, n: u64, at: Location) -> bool
-    ensures { λ r. ⌜ r ≡ liesIn address n at ⌝ }
+fn lies_in(address: u64, n: u64, at: u64) -> bool
+    ensures { λ r. ⌜ r ≡ liesIn address n (located at) ⌝ }
 {
-    match at {
-        Location::Bug(_) => false,
-        Location::Field(word, _, _) => {
-            if word < address {
-                return false;
-            }
-            word - address < n
-        }
+    if at < FIELDS {
+        return false;
     }
+    let bits = bits_of(at);
+    if bits.address < address {
+        return false;
+    }
+    bits.address - address < n
 }
 
 // 4, free: refusals 15, 18.
-pub fn free(setup: SetUp, map: &[u8], at: Location, address: u64, v: u64) -> Planned
+pub fn free(setup: SetUp, map: &[u8; 4096], at: u64, address: u64, v: u64) -> Planned
     requires { ⌜ (words setup % size (top (setup .d)) ≡ 0) × (keeps setup (now map) ≡ true) ⌝ }
-    ensures { λ r. ⌜ toldPlanned r ≡ told (freeing address (sizeAt address (live setup (now (map .entry)))) at v) ⌝ }
+    ensures { λ r. ⌜ toldPlanned r ≡ told (freeing address (sizeAt address (live setup (now (map .entry)))) (located at) v) ⌝ }
 {
     let n = live_size(setup, map, address);
     if n == 0 {
@@ -151,14 +162,18 @@ pub fn free(setup: SetUp, map: &[u8], at: Location, address: u64, v: u64) -> Pla
     if lies_in(address, n, at) {
         return Planned::Stopped(Refusal::FieldFreed);
     }
-    Planned::Does(Action::Free(address, at, v))
+    Planned::Does(Action::Free {
+        address: address,
+        at: at,
+        value: v,
+    })
 }
 
 // 5, duplicate: refusals 15, 17.
-pub fn duplicate(setup: SetUp, map: &[u8], at: Location, from: u64) -> Planned
+pub fn duplicate(setup: SetUp, map: &[u8; 4096], at: u64, from: u64) -> Planned
     requires { ⌜ (words setup % size (top (setup .d)) ≡ 0) × (keeps setup (now map) ≡ true) ⌝ }
     ensures { λ r. ⌜ toldPlanned r ≡ told
-        (duplicating setup (now (map .entry)) at from (sizeAt from (live setup (now (map .entry))))) ⌝ }
+        (duplicating setup (now (map .entry)) (located at) from (sizeAt from (live setup (now (map .entry))))) ⌝ }
 {
     let n = live_size(setup, map, from);
     if n == 0 {
@@ -166,7 +181,12 @@ pub fn duplicate(setup: SetUp, map: &[u8], at: Location, from: u64) -> Planned
     }
     let run = fetch(setup, map, level_of(top_of(setup.d), n));
     match run {
-        Fetched::Run(address, m) => Planned::Does(Action::Deliver(address, m, from, at)),
+        Fetched::Run { address, size } => Planned::Does(Action::Deliver {
+            address: address,
+            size: size,
+            copied: from,
+            at: at,
+        }),
         Fetched::Stopped(r) => Planned::Stopped(r),
     }
 }

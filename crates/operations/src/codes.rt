@@ -1,6 +1,8 @@
 // An operation but the set-up, by its code.
 ghost use mathlib.Core.Path.{_≡_};
 ghost use Prim.Native.Nat.{_≤_};
+ghost use lib.ListN.{length};
+ghost use Rattle.table.specs.Row.{asRow};
 ghost use Rattle.operands.specs.Reading.{Readable};
 ghost use Rattle.machine.specs.Answer.{told};
 ghost use Rattle.operations.specs.Answers.{toldPlanned};
@@ -15,27 +17,27 @@ use crate::actions::plan_print;
 use crate::actions::plan_records;
 use crate::actions::plan_swap;
 use crate::actions::plan_two;
-use table::Row;
 use table::codes;
+use table::rows::CODE;
 
 // The stacks: operations 32 to 36.
 fn plan_stacks(
     known: Known,
     bugs: &[u64; 26],
     fields: &[u32; 36],
-    map: &[u8],
+    map: &[u8; 4096],
     storage: &[u64],
     entries: &[u64; 128],
-    row: Row,
+    row: &[u64],
 ) -> Planned
     requires { ⌜ Readable (known .b) (seenBy known (now bugs) (now fields) (now map) (now storage))
-        × (known .counts .contents ≤ 128) × Stacked row ⌝ }
+        × (known .counts .contents ≤ 128) × Stacked (asRow (now row)) × (10 ≤ length (now row)) ⌝ }
     ensures { λ r. ⌜ toldPlanned r ≡ told (stackPlan (known .b)
         (seenBy known (now (bugs .entry)) (now (fields .entry)) (now (map .entry)) (now (storage .entry)))
-        (known .counts) (now (entries .entry)) row) ⌝ }
+        (known .counts) (now (entries .entry)) (asRow (now (row .entry)))) ⌝ }
 {
     let counts = known.counts;
-    if codes::RESTORE < row.code {
+    if codes::RESTORE < row[CODE] {
         return plan_records(counts.saved, counts.calls, row);
     }
     plan_contents(known, bugs, fields, map, storage, entries, row)
@@ -46,21 +48,22 @@ pub fn plan_by_code(
     known: Known,
     bugs: &[u64; 26],
     fields: &[u32; 36],
-    map: &[u8],
+    map: &[u8; 4096],
     storage: &[u64],
     entries: &[u64; 128],
     input: &[u8],
-    row: Row,
+    row: &[u64],
 ) -> Planned
     requires { ⌜ Ready (known .b)
-        (sees known (now bugs) (now fields) (now map) (now storage) (now entries) (now input)) × Operates (known .b) row ⌝ }
+        (sees known (now bugs) (now fields) (now map) (now storage) (now entries) (now input))
+        × Operates (known .b) (asRow (now row)) × (10 ≤ length (now row)) ⌝ }
     ensures { λ r. ⌜ toldPlanned r ≡ told (planOf (known .b)
         (sees known (now (bugs .entry)) (now (fields .entry)) (now (map .entry)) (now (storage .entry))
-        (now (entries .entry)) (now (input .entry))) row) ⌝ }
+        (now (entries .entry)) (now (input .entry))) (asRow (now (row .entry)))) ⌝ }
 {
     let b = known.b;
     let setup = known.setup;
-    let code = row.code;
+    let code = row[CODE];
     if codes::ZEROS_TO_BLANKS < code {
         return plan_stacks(known, bugs, fields, map, storage, entries, row);
     }

@@ -7,7 +7,6 @@ mod values;
 
 use block::SetUp;
 use machine::Definition;
-use machine::Location;
 use machine::Refusal;
 use table::FieldName;
 
@@ -30,27 +29,64 @@ pub struct Known {
     pub judged: bool,
 }
 
-// What a step does besides going to a place.
+// What a step does besides going to a place. Locations are numbers (operands::FIELDS); what an action means is a deed (Deeds).
 pub enum Action {
     Nothing,
     // a value stored at a location, and two stores one after the other
-    Store(Location, u64),
-    StoreTwo(Location, u64, Location, u64),
+    Store {
+        at: u64,
+        value: u64,
+    },
+    StoreTwo {
+        at: u64,
+        value: u64,
+        then_at: u64,
+        then_value: u64,
+    },
     SetUpWords(SetUp),
-    Define(FieldName, Definition),
+    Define {
+        field: FieldName,
+        definition: Definition,
+    },
     // a block by its address, size and the address that it is a copy of (0: none), its address stored at a location
-    Deliver(u64, u64, u64, Location),
+    Deliver {
+        address: u64,
+        size: u64,
+        copied: u64,
+        at: u64,
+    },
     // the same without a copy, and then a second store
-    DeliverTwo(u64, u64, Location, Location, u64),
+    DeliverTwo {
+        address: u64,
+        size: u64,
+        at: u64,
+        then_at: u64,
+        then_value: u64,
+    },
     // the block at an address, and a store
-    Free(u64, Location, u64),
+    Free {
+        address: u64,
+        at: u64,
+        value: u64,
+    },
     // a store of what so many characters give
-    Input(Location, u64, u64),
+    Input {
+        at: u64,
+        value: u64,
+        taken: u64,
+    },
     // so many characters, of a value so wide
-    Print(u64, u64, u64),
+    Print {
+        count: u64,
+        width: u64,
+        value: u64,
+    },
     Save(u64),
     // a store of the newest saved value
-    Restore(Location, u64),
+    Restore {
+        at: u64,
+        value: u64,
+    },
     SaveDefinition(FieldName),
     RestoreDefinition(FieldName),
     Call(u64),
@@ -71,6 +107,6 @@ pub enum Computed {
 
 // An aligned run by its address and size, or why there is none.
 pub enum Fetched {
-    Run(u64, u64),
+    Run { address: u64, size: u64 },
     Stopped(Refusal),
 }

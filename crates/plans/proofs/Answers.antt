@@ -9,6 +9,8 @@ use Rattle.machine.specs.Answer.{Checked, refused, passed, told}
 use Rattle.machine.specs.Test.{Made}
 use Rattle.machine.proofs.Numbers.{told-passed, told-refused}
 use Rattle.operations.specs.declared.Action.{Action}
+use Rattle.operations.specs.declared.Action.the-variants as nothing
+use Rattle.operations.specs.Deeds.{Nothing, meant}
 use Rattle.plans.specs.declared.Tested.{Tested}
 use Rattle.plans.specs.declared.Tested.the-variants as testing
 use Rattle.plans.specs.declared.Settled.{Settled}
@@ -19,9 +21,14 @@ use Rattle.plans.specs.Answers.{toldTested, toldSettled, Plan, toldStep}
 
 -- a plan of a step
 module _ {k : Checked Plan} where
-  pub goes : {to : Place} {x : Action} → k ≡ passed (record { to = to; action = x }) → toldStep (Goes to x) ≡ told k
+  pub goes : {to : Place} (x : Action) → k ≡ passed (record { to = to; action = meant x }) → toldStep (Goes to x) ≡ told k
   unfolding toldStep told
-  goes e = rw e
+  goes x e = rw e
+
+  pub goes-there : {to : Place} {answer : Step} → answer ≡ Goes to nothing.Nothing → k ≡ passed (record { to = to; action = Nothing })
+      → toldStep answer ≡ told k
+  unfolding toldStep told meant
+  goes-there is e = rw (is, e)
 
   pub halts : {r : Refusal} → k ≡ refused r → toldStep (Stopped r) ≡ told k
   unfolding toldStep told
@@ -31,7 +38,7 @@ module _ {k : Checked Plan} where
   leads e is = rw e is
 
 module _ (k : Checked Plan) {answer : Step} (is : toldStep answer ≡ told k) where
-  pub goes-is : {to : Place} {x : Action} → answer ≡ Goes to x → k ≡ passed (record { to = to; action = x })
+  pub goes-is : {to : Place} {x : Action} → answer ≡ Goes to x → k ≡ passed (record { to = to; action = meant x })
   unfolding toldStep
   goes-is made = told-passed k (sym (ap toldStep made) ∙ is)
 

@@ -32,8 +32,8 @@ use Rattle.machine.proofs.Checks.{need-bind, bind-bind, bind-same, cond-bind, n
 use Rattle.machine.proofs.Checks.{clash}
 use Rattle.machine.proofs.Facts.{Facts}
 use Rattle.machine.proofs.Located.{located}
-use Rattle.operations.specs.declared.Action.{Action}
-use Rattle.operations.specs.declared.Action.the-variants.{Store}
+use Rattle.operations.specs.Deeds.{Deed}
+use Rattle.operations.specs.Deeds.{Store}
 use Rattle.operations.specs.Seen.{sight}
 use Rattle.operations.specs.Plans.{setUpPlan, defining, definePlan, sizeOf, afterDelivery, delivering, getting, freeing}
 use Rattle.operations.specs.Plans.{duplicating, taking, valueOf, valueBy, Computes, storing, acting, twoPlan, swapPlan, printing}
@@ -84,10 +84,10 @@ module _ (b : ℕ) (row : Row) (l : Lent) (e : Engine) where
   abbrev g : Given
   g = record { row = row; lent = l; engine = e }
 
-  abbrev carried : Action → Checked Effects
+  abbrev carried : Deed → Checked Effects
   carried x = passed (effects b x (e .state))
 
-  abbrev As : Checked Action → Meaning → Type 0
+  abbrev As : Checked Deed → Meaning → Type 0
   As x m = (x >>= carried) ≡ m b g
 
   -- 1 set up
@@ -151,7 +151,7 @@ module _ (b : ℕ) (row : Row) (l : Lent) (e : Engine) where
       rw (ne-eqb (row .code) 34 (λ z. absurd (omega arith)), ne-eqb (row .code) 35 (λ z. absurd (omega arith))) (need-bind _ _ _ carried)
 
   -- an operation (a, x): a located, x taken, and then
-  abbrev act : Location → Value → Checked Action
+  abbrev act : Location → Value → Checked Deed
   act a x = acting (row .code) b (world e) (e .state .core .taken) (l .input) (row .third) a x
 
   two-then : {h : Location → Value → Checked Effects}
@@ -243,7 +243,7 @@ module _ (b : ℕ) (row : Row) (l : Lent) (e : Engine) where
       (stored-as a _))
 
   -- at a code that is known
-  at-code : (x : Checked Action) {k : ℕ} {m : Meaning} → row .code ≡ k → meaning k ≡ m → As x m → As x (meaning (row .code))
+  at-code : (x : Checked Deed) {k : ℕ} {m : Meaning} → row .code ≡ k → meaning k ≡ m → As x m → As x (meaning (row .code))
   at-code x is same h = h ∙ sym (ap (λ (m : Meaning). m b g) (ap meaning is ∙ same))
 
   set-up-first : row .code ≡ 1 → As (setUpPlan (length (e .storage)) row) (meaning (row .code))
@@ -299,7 +299,7 @@ module _ (b : ℕ) (row : Row) (l : Lent) (e : Engine) where
         } in
         at-code _ refl (computes-as (row .code) h) (computing-as h)))))
       where
-        plan-two : Checked Action
+        plan-two : Checked Deed
         plan-two = twoPlan b (world e) (e .state .core .taken) (l .input) row
 
     -- an operation but the set-up
@@ -320,10 +320,10 @@ module _ (b : ℕ) (row : Row) (l : Lent) (e : Engine) where
         (λ is. at-code _ is refl print-as)
         (λ noPrint. two-as low (omega arith) noDefine noInterchange noPrint))))
       where
-        plan-two : Checked Action
+        plan-two : Checked Deed
         plan-two = twoPlan b (world e) (e .state .core .taken) (l .input) row
 
-        others : Checked Action
+        others : Checked Deed
         others =
             cond (eqb (row .code) 2) (definePlan b (world e) row)
             (cond (eqb (row .code) 7) (swapPlan b (world e) row)

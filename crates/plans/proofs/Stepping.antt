@@ -19,8 +19,8 @@ use Rattle.machine.specs.Locate.{World}
 use Rattle.machine.specs.Step.{nextLine, operationOrExit}
 use Rattle.machine.specs.Test.{satisfied}
 use Rattle.machine.proofs.Checks.{need-yes, need-no, bind-yes, bind-no, cond-yes, cond-no}
-use Rattle.operations.specs.declared.Action.{Action}
-use Rattle.operations.specs.declared.Action.the-variants.{Nothing, Return}
+use Rattle.operations.specs.Deeds.{Deed}
+use Rattle.operations.specs.Deeds.{Nothing, Return}
 use Rattle.operations.specs.Seen.{Sight}
 use Rattle.operations.specs.Plans.{setUpPlan, planOf}
 use Rattle.plans.specs.Steps.{goingTo, testsPlan, orderedPlan, operationPlan, exitPlan, stepPlan}
@@ -62,7 +62,7 @@ module _ (b : ℕ) (s : Sight) (row : Row) where
 
 -- at an operation: its action, and the place after it
 module _ (b : ℕ) (s : Sight) (table : List ℕ) (place : Place) (u : usable 3 b table (place .row) ≡ true) {row : Row} (e : row ≡ rowAt table (place .row)) where
-  pub operation-goes : {x : Action} → orderedPlan b s row ≡ passed x → {to : Place}
+  pub operation-goes : {x : Deed} → orderedPlan b s row ≡ passed x → {to : Place}
       → to ≡ operationOrExit (row .next) (place .line) → operationPlan b s table place ≡ passed (record { to = to; action = x })
   unfolding operationPlan
   operation-goes is at = need-yes _ _ _ u ∙ rw (← e, at) (bind-yes _ _ is)

@@ -4,7 +4,7 @@ use Rattle.word.specs.Told.{Told, gives, refuses}
 use Rattle.machine.specs.Answer.{refusalNumber}
 use Rattle.machine.specs.declared.Place.{Place}
 use Rattle.machine.specs.Test.{Made}
-use Rattle.operations.specs.declared.Action.{Action}
+use Rattle.operations.specs.Deeds.{Deed, meant}
 use Rattle.plans.specs.declared.Tested.{Tested}
 use Rattle.plans.specs.declared.Tested.the-variants as testing
 use Rattle.plans.specs.declared.Settled.{Settled}
@@ -23,8 +23,8 @@ toldSettled (settling.Stopped r) = refuses (refusalNumber r)
 -- what a step that is not refused does: the place to go to, and the action there
 pub record Plan : Type 0 where
   pub to : Place
-  pub action : Action
+  pub action : Deed
 
 unfoldable pub toldStep : Step → Told Plan
-toldStep (stepping.Goes to x) = gives (record { to = to; action = x })
+toldStep (stepping.Goes to x) = gives (record { to = to; action = meant x })
 toldStep (stepping.Stopped r) = refuses (refusalNumber r)

@@ -14,8 +14,8 @@ use Rattle.machine.specs.State.{testsOf, theEnd}
 use Rattle.machine.specs.Locate.{World}
 use Rattle.machine.specs.Test.{satisfied}
 use Rattle.machine.specs.Step.{nextLine, operationOrExit}
-use Rattle.operations.specs.declared.Action.{Action}
-use Rattle.operations.specs.declared.Action.the-variants.{Nothing, Return}
+use Rattle.operations.specs.Deeds.{Deed}
+use Rattle.operations.specs.Deeds.{Nothing, Return}
 use Rattle.operations.specs.Seen.{Sight}
 use Rattle.operations.specs.Plans.{setUpPlan, planOf}
 use Rattle.plans.specs.Answers.{Plan}
@@ -33,7 +33,7 @@ testsPlan b w table line = do
   passed (goingTo (cond holds (operationOrExit (firstOperation row) line) (nextLine (row .next))))
 
 -- a set-up happens once (13) and precedes every other operation (12)
-unfoldable pub orderedPlan : ℕ → Sight → Row → Checked Action
+unfoldable pub orderedPlan : ℕ → Sight → Row → Checked Deed
 orderedPlan b s row =
     cond (eqb (row .code) 1) (need (eqb (s .world .setup .d) 0) SecondSetUp >> setUpPlan (length (s .world .storage)) row)
     (need (not (eqb (s .world .setup .d) 0)) BeforeSetUp >> planOf b s row)

@@ -9,7 +9,7 @@ use operations::Action;
 
 // Whether a test holds and the row of the next one, or why it is refused.
 pub enum Tested {
-    Outcome(bool, u64),
+    Outcome { holds: bool, next: u64 },
     Stopped(Refusal),
 }
 
@@ -21,6 +21,6 @@ pub enum Settled {
 
 // What a step does: the place to go to and the action there, or why it is refused.
 pub enum Step {
-    Goes(Place, Action),
+    Goes { to: Place, action: Action },
     Stopped(Refusal),
 }

@@ -1,11 +1,14 @@
 // The plan of a step: at a line's tests, at an operation, at a line's exit.
 ghost use mathlib.Core.Bool.{true};
 ghost use mathlib.Core.Path.{_≡_};
+ghost use Prim.Native.Nat.{_≤_};
+ghost use lib.ListN.{length};
 ghost use Rattle.table.specs.declared.TableCheck.the-variants.{Lowest};
-ghost use Rattle.table.specs.Row.{lengthFits};
+ghost use Rattle.table.specs.Row.{asRow, lengthFits};
 ghost use Rattle.table.specs.Table.{checked};
 ghost use Rattle.operands.specs.Reading.{Readable};
 ghost use Rattle.machine.specs.Answer.{told};
+ghost use Rattle.operations.specs.declared.Action.the-variants.{Nothing};
 ghost use Rattle.operations.specs.Answers.{toldPlanned};
 ghost use Rattle.operations.specs.Rows.{Operates};
 ghost use Rattle.operations.specs.Seen.{seenBy, sees, Ready};
@@ -25,9 +28,23 @@ use operations::Planned;
 use operations::actions::plan_set_up;
 use operations::codes::plan_by_code;
 use operations::places::tests_of;
-use table::Row;
 use table::codes;
-use table::rows::row_at;
+use table::rows::CODE;
+use table::rows::FIRST;
+use table::rows::FIRST_FORM;
+use table::rows::NEXT;
+use table::rows::SECOND_FORM;
+use table::rows::from_row;
+
+// A step that goes to a place and does nothing else.
+fn going_to(to: Place) -> Step
+    ensures { λ r. ⌜ r ≡ Step.Goes to Nothing ⌝ }
+{
+    Step::Goes {
+        to: to,
+        action: Action::Nothing,
+    }
+}
 
 // The step at a line's tests.
 fn plan_tests(
@@ -35,7 +52,7 @@ fn plan_tests(
     line: u16,
     bugs: &[u64; 26],
     fields: &[u32; 36],
-    map: &[u8],
+    map: &[u8; 4096],
     storage: &[u64],
     table: &[u64],
 ) -> Step
@@ -49,8 +66,7 @@ fn plan_tests(
     if !can_use(codes::LINE, known.b, table, i, known.judged) {
         return Step::Stopped(Refusal::BadRow);
     }
-    let row = row_at(table, i);
-    let first = row.first;
+    let row = from_row(table, i);
     let held = satisfied(
         known,
         bugs,
@@ -58,15 +74,15 @@ fn plan_tests(
         map,
         storage,
         table,
-        row.code,
-        first.form,
+        row[CODE],
+        row[FIRST_FORM],
     );
     match held {
         Settled::Holds(holds) => {
             if holds {
-                return Step::Goes(operation_or_exit(first.value, line), Action::Nothing);
+                return going_to(operation_or_exit(row[FIRST], line));
             }
-            Step::Goes(next_line(row.next), Action::Nothing)
+            going_to(next_line(row[NEXT]))
         }
         Settled::Stopped(r) => Step::Stopped(r),
     }
@@ -77,20 +93,20 @@ fn plan_ordered(
     known: Known,
     bugs: &[u64; 26],
     fields: &[u32; 36],
-    map: &[u8],
+    map: &[u8; 4096],
     storage: &[u64],
     entries: &[u64; 128],
     input: &[u8],
-    row: Row,
+    row: &[u64],
 ) -> Planned
     requires { ⌜ Ready (known .b) (sees known (now bugs) (now fields) (now map) (now storage) (now entries) (now input))
-        × ((row .code ≡ 1 → ⊥) → Operates (known .b) row) ⌝ }
+        × ((asRow (now row) .code ≡ 1 → ⊥) → Operates (known .b) (asRow (now row))) × (10 ≤ length (now row)) ⌝ }
     ensures { λ r. ⌜ toldPlanned r ≡ told (orderedPlan (known .b)
         (sees known (now (bugs .entry)) (now (fields .entry)) (now (map .entry)) (now (storage .entry))
-        (now (entries .entry)) (now (input .entry))) row) ⌝ }
+        (now (entries .entry)) (now (input .entry))) (asRow (now (row .entry)))) ⌝ }
 {
     let setup = known.setup;
-    if row.code == codes::SET_UP {
+    if row[CODE] == codes::SET_UP {
         if setup.d != 0 {
             return Planned::Stopped(Refusal::SecondSetUp);
         }
@@ -108,7 +124,7 @@ fn plan_operation(
     place: Place,
     bugs: &[u64; 26],
     fields: &[u32; 36],
-    map: &[u8],
+    map: &[u8; 4096],
     storage: &[u64],
     entries: &[u64; 128],
     input: &[u8],
@@ -124,11 +140,14 @@ fn plan_operation(
     if !can_use(codes::OPERATION, known.b, table, i, known.judged) {
         return Step::Stopped(Refusal::BadRow);
     }
-    let row = row_at(table, i);
-    let to = operation_or_exit(row.next, place.line);
+    let row = from_row(table, i);
+    let to = operation_or_exit(row[NEXT], place.line);
     let planned = plan_ordered(known, bugs, fields, map, storage, entries, input, row);
     match planned {
-        Planned::Does(action) => Step::Goes(to, action),
+        Planned::Does(action) => Step::Goes {
+            to: to,
+            action: action,
+        },
         Planned::Stopped(r) => Step::Stopped(r),
     }
 }
@@ -144,19 +163,21 @@ fn plan_exit(known: Known, line: u16, table: &[u64]) -> Step
     if !can_use(codes::LINE, known.b, table, i, known.judged) {
         return Step::Stopped(Refusal::BadRow);
     }
-    let row = row_at(table, i);
-    let second = row.second;
-    let goes = second.form;
+    let row = from_row(table, i);
+    let goes = row[SECOND_FORM];
     if goes == codes::DONE {
         if counts.calls == 0 {
             return Step::Stopped(Refusal::StackEmpty);
         }
-        return Step::Goes(next_line(0), Action::Return);
+        return Step::Goes {
+            to: next_line(0),
+            action: Action::Return,
+        };
     }
     if goes == 0 {
-        return Step::Goes(next_line(row.next), Action::Nothing);
+        return going_to(next_line(row[NEXT]));
     }
-    Step::Goes(tests_of(goes), Action::Nothing)
+    going_to(tests_of(goes))
 }
 
 // The step at a place, with a table of the right length. Where the whole table is judged well-formed, rows are not judged again.
@@ -165,7 +186,7 @@ pub fn plan_step(
     place: Place,
     bugs: &[u64; 26],
     fields: &[u32; 36],
-    map: &[u8],
+    map: &[u8; 4096],
     storage: &[u64],
     entries: &[u64; 128],
     input: &[u8],

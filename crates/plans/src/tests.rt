@@ -13,13 +13,21 @@ ghost use Rattle.plans.specs.Answers.{toldTested, toldSettled};
 use crate::Settled;
 use crate::Tested;
 use machine::Refusal;
-use operands::Got;
+use operands::Linked;
 use operands::references::operand;
 use operations::Known;
+use table::Pair;
 use table::check::is_usable;
 use table::codes;
+use table::rows::CODE;
+use table::rows::FIRST;
+use table::rows::FIRST_FORM;
+use table::rows::KIND;
+use table::rows::NEXT;
 use table::rows::NUMBERS;
-use table::rows::row_at;
+use table::rows::SECOND;
+use table::rows::SECOND_FORM;
+use table::rows::from_row;
 
 // Row r can be used as this kind. Where the whole table is judged well-formed, its kind alone tells.
 pub fn can_use(kind: u64, b: u64, table: &[u64], r: usize, judged: bool) -> bool
@@ -35,8 +43,8 @@ pub fn can_use(kind: u64, b: u64, table: &[u64], r: usize, judged: bool) -> bool
     if table.len() / NUMBERS <= r {
         return false;
     }
-    let row = row_at(table, r);
-    row.kind == kind
+    let row = from_row(table, r);
+    row[KIND] == kind
 }
 
 // The outcome of a test that settles a line of this mode.
@@ -74,7 +82,7 @@ fn test_at(
     known: Known,
     bugs: &[u64; 26],
     fields: &[u32; 36],
-    map: &[u8],
+    map: &[u8; 4096],
     storage: &[u64],
     table: &[u64],
     r: u64,
@@ -90,18 +98,27 @@ fn test_at(
     if !can_use(codes::TEST, b, table, i, known.judged) {
         return Tested::Stopped(Refusal::BadRow);
     }
-    let row = row_at(table, i);
-    let first = row.first;
-    let second = row.second;
+    let row = from_row(table, i);
+    let first = Pair {
+        form: row[FIRST_FORM],
+        value: row[FIRST],
+    };
+    let second = Pair {
+        form: row[SECOND_FORM],
+        value: row[SECOND],
+    };
     let x = operand(b, bugs, fields, setup, map, storage, first);
     let c = match x {
-        Got::Value(v) => v.value,
-        Got::Stopped(q) => return Tested::Stopped(q),
+        Linked::At(v) => v.holds,
+        Linked::Stopped(q) => return Tested::Stopped(q),
     };
     let y = operand(b, bugs, fields, setup, map, storage, second);
     match y {
-        Got::Value(cd) => Tested::Outcome(compared(b, row.code, c, cd.value), row.next),
-        Got::Stopped(q) => Tested::Stopped(q),
+        Linked::At(cd) => Tested::Outcome {
+            holds: compared(b, row[CODE], c, cd.holds),
+            next: row[NEXT],
+        },
+        Linked::Stopped(q) => Tested::Stopped(q),
     }
 }
 
@@ -110,7 +127,7 @@ pub fn satisfied(
     known: Known,
     bugs: &[u64; 26],
     fields: &[u32; 36],
-    map: &[u8],
+    map: &[u8; 4096],
     storage: &[u64],
     table: &[u64],
     mode: u64,
@@ -129,7 +146,7 @@ pub fn satisfied(
         }
         let answer = test_at(known, bugs, fields, map, storage, table, r);
         match answer {
-            Tested::Outcome(holds, next) => {
+            Tested::Outcome { holds, next } => {
                 if holds == settling(mode) {
                     break Settled::Holds(settled_as(mode));
                 }

@@ -75,7 +75,7 @@ pub in-parts : (n s w : ℕ) → w ≡ w / 2 ^ (n + s) * 2 ^ (n + s) + w / 2 ^ s
 in-parts n s w =
     let high : w / 2 ^ s / 2 ^ n ≡ w / 2 ^ (n + s) = shr-shr w s n ∙ ap (λ (i : ℕ). w / 2 ^ i) (omega arith) in
     let inner : w / 2 ^ s ≡ w / 2 ^ (n + s) * 2 ^ n + w / 2 ^ s % 2 ^ n =
-        sym (div-add-mod' (w / 2 ^ s) (2 ^ n)) ∙ ap (λ (i : ℕ). i * 2 ^ n + w / 2 ^ s % 2 ^ n) high in
+    sym (div-add-mod' (w / 2 ^ s) (2 ^ n)) ∙ ap (λ (i : ℕ). i * 2 ^ n + w / 2 ^ s % 2 ^ n) high in
     sym (div-add-mod' w (2 ^ s)) ∙ ap (λ (i : ℕ). i * 2 ^ s + w % 2 ^ s) inner ∙ rw pow-add (omega arith)
 
 -- a store takes what the field reads away and adds what is kept

@@ -7,7 +7,7 @@ use super::arithmetic::power;
 
 // The width: right - left + 1, or 0 for the null field.
 pub fn width(left: u64, right: u64) -> u64
-    requires { ⌜ right < 64 ⌝ }
+    requires { ⌜ right < 256 ⌝ }
     ensures { λ r. ⌜ r ≡ widthOf left right ⌝ }
 {
     let there = (left <= right) as u64;

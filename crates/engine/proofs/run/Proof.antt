@@ -19,7 +19,7 @@ begin-requires : tie.Need-begin-requires
 begin-requires c κs = search needs
 
 walk-requires : tie.Need-walk-requires
-walk-requires c κs = (omega arith, c .before .before .begin .ensures)
+walk-requires c κs = (omega arith, c .before .before .begin .ensures .0, c .before .before .begin .ensures .1)
 
 same-length : tie.Need-same-length
 same-length c = search needs

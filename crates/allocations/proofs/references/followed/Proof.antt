@@ -43,9 +43,9 @@ locate-requires c κs =
     let at-are-words = c .before .before .before in
     let at-if = at-are-words .before .before in
     let at-keeps-section = at-if .before in
-    let at-if-2 = at-keeps-section .before in
+    let at-if-2 = at-keeps-section .before .before in
     let at-fits = at-if-2 .before in
-    let start = at-fits .before .before .before .before .before .before in (
+    let start = at-fits .before .before .before .before .before in (
       tested-readable _ _ _ _ _ (known-true (at-fits .fits2 .ensures) (at-if-2 .if1 .left))
           (known-true (at-keeps-section .keeps-section .ensures) (at-if .if2 .left)) (start .pre)
           (known-true (at-are-words .are-words .ensures) (c .before .before .if3 .left)),

@@ -23,6 +23,9 @@ definitions-requires c κs = search needs
 pack-all-requires : tie.Need-pack-all-requires
 pack-all-requires c κs = search needs
 
+widened-requires : tie.Need-widened-requires
+widened-requires c κs = search needs
+
 small-requires : tie.Need-small-requires
 small-requires c κs = search needs
 
@@ -31,9 +34,10 @@ slice-aggregate-followed c = search needs
 
 followed-requires : tie.Need-followed-requires
 followed-requires c κs =
-    let at-pack-all = c .before .before .before .before .before in
+    let at-pack-all = c .before .before .before .before .before .before in
     let at-definitions = at-pack-all .before .before in
-    subst (λ (ds : List Definition). every (isDefinition 36) ds ≡ true) (sym (at-pack-all .pack-all .ensures)) (at-definitions .definitions .ensures)
+    subst (λ (ds : List Definition). every (isDefinition 36) ds ≡ true) (sym (at-pack-all .pack-all .ensures))
+    (at-definitions .definitions .ensures)
 
 returns : tie.Need-returns
 returns c = search needs
@@ -47,6 +51,7 @@ result-spec =
     drawn-requires
     definitions-requires
     pack-all-requires
+    widened-requires
     small-requires
     slice-aggregate-followed
     followed-requires

@@ -28,26 +28,36 @@ cast-left c = search needs
 cast-right : tie.Need-cast-right
 cast-right c = search needs
 
+field-number-requires : tie.Need-field-number-requires
+field-number-requires c κs =
+    let some = c .before .before .before .before .before .before .before .before .pre .1 .some (c .before .before .before .before .if2 .left) in
+    let small = c .before .before .before .before .before .before .before .before .pre .1 .small (c .before .before .before .before .if2 .left) in
+    (omega arith, omega arith, search needs, search needs)
+
 word-at-requires : tie.Need-word-at-requires
 word-at-requires c κs =
-    let at-if = c .before .before .before .before in
-    let start = at-if .before .before .before .before in
-    let low = start .pre .1 .low (at-if .if2 .left) in let high = start .pre .1 .high (at-if .if2 .left) in let less = c .before .before .if3 .left in
+    let at-if = c .before .before .before in
+    let at-if-2 = at-if .before .before in
+    let start = at-if-2 .before .before .before .before in
+    let low = start .pre .1 .low (at-if-2 .if2 .left) in
+    let high = start .pre .1 .high (at-if-2 .if2 .left) in
+    let less = at-if .if3 .left in
     (omega arith, omega arith)
 
 read-field-requires : tie.Need-read-field-requires
 read-field-requires c κs =
-    let at-if = c .before .before .before .before .before .before in
+    let at-if = c .before .before .before .before .before .before .before in
     let start = at-if .before .before .before in
     (omega (arith, start .pre .0), start .pre .1 .right (not-false _ (at-if .if1 .left)))
 
 returns-4 : tie.Need-returns-4
 unfolding wordAt
 returns-4 c =
-    let at-if = c .before .before .before .before in
+    let at-if = c .before .before .before .before .before in
     let at-if-2 = at-if .before .before in
     let at-if-3 = at-if-2 .before in
-    link-inside _ _ _ _ _ _ (not-false _ (at-if-3 .if1 .left)) (at-if-2 .if2 .left) (at-if .if3 .left) (c .before .word-at .ensures) (c .read-field .ensures)
+    link-inside _ _ _ _ _ _ (not-false _ (at-if-3 .if1 .left)) (at-if-2 .if2 .left) (at-if .if3 .left) _
+    (c .before .before .field-number .ensures .0) (c .before .word-at .ensures) (c .read-field .ensures)
 
 pub link-spec : {M : Type 1} → statement M
 link-spec =
@@ -60,6 +70,7 @@ link-spec =
     add-address
     cast-left
     cast-right
+    field-number-requires
     word-at-requires
     read-field-requires
     returns-4)

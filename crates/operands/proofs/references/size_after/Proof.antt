@@ -12,7 +12,7 @@ live-size-requires : tie.Need-live-size-requires
 live-size-requires c κs = c .before .before .pre
 
 returns-2 : tie.Need-returns-2
-returns-2 c = rw (ne-eqb _ _ (λ z. c .before .if1 .left (sym z))) (c .live-size .ensures)
+returns-2 c = rw (ne-eqb _ _ (λ z. c .before .before .if1 .left (sym z))) (c .live-size .ensures)
 
 pub size-after-spec : {M : Type 1} → statement M
 size-after-spec =

@@ -1,80 +1,81 @@
 -- `operands::stores::store` meets its contract: a bug's word is replaced, or a field's bits. Assumes nothing.
 use native.Mathlib.Omega.{arith}
 use Rattle.operands.proofs.Links.{bug-letter, field-reached}
+use Rattle.operands.proofs.Numbers.{bug-number}
 use Rattle.operands.proofs.Storing.{stored-bug, stored-field}
 use borrow.Author.Needs.{needs}
 use Rattle.operands.proofs.stores.store.Statement.{statement}
 use Rattle.operands.proofs.stores.store.Tie as tie
 
-enum-known-at : tie.Need-enum-known-at
-enum-known-at c = search needs
-
 low-bits-requires : tie.Need-low-bits-requires
 low-bits-requires c κs = search needs
 
 mul-bugs : tie.Need-mul-bugs
-mul-bugs c =
-    let start = c .before .before .before .before .before in
-    let letter = bug-letter _ _ _ (c .before .before .at .given .1) (start .pre .1) in search needs
+mul-bugs c = let letter = bug-letter _ _ _ (bug-number _ (c .before .if1 .taken)) (c .before .before .before .pre .1) in search needs
 
 element-write-bugs : tie.Need-element-write-bugs
-element-write-bugs c = bug-letter _ _ _ (c .before .before .at .given .1) (c .before .before .before .before .before .pre .1)
+element-write-bugs c = bug-letter _ _ _ (bug-number _ (c .before .if1 .taken)) (c .before .before .before .pre .1)
 
-enum-known-at-2 : tie.Need-enum-known-at-2
-enum-known-at-2 c = search needs
+returns : tie.Need-returns
+returns c = stored-bug _ _ _ _ _ (bug-number _ (c .before .if1 .taken)) (c .low-bits .ensures)
+
+bits-of-requires : tie.Need-bits-of-requires
+bits-of-requires c κs = c .if1 .left
 
 sub-offset : tie.Need-sub-offset
-sub-offset c = field-reached _ _ _ (c .before .at2 .given .1) (c .before .before .before .before .pre .1) .1
+sub-offset c = field-reached _ _ _ (c .before .bits-of .ensures .0) (c .before .before .before .before .pre .1) .1
 
 mul-store-field : tie.Need-mul-store-field
-mul-store-field c = let (_, _, high) = field-reached _ _ _ (c .before .at2 .given .1) (c .before .before .before .before .pre .1) in search needs
+mul-store-field c =
+    let start = c .before .before .before .before in
+    let (_, _, high) = field-reached _ _ _ (c .before .bits-of .ensures .0) (start .pre .1) in
+    search needs
 
 slice-read-store-field : tie.Need-slice-read-store-field
 slice-read-store-field c =
     let start = c .before .before .before .before .before in
-    let (_, low, high) = field-reached _ _ _ (c .before .before .at2 .given .1) (start .pre .1) in omega arith
+    let (_, low, high) = field-reached _ _ _ (c .before .before .bits-of .ensures .0) (start .pre .1) in
+    omega arith
 
 store-field-requires : tie.Need-store-field-requires
 store-field-requires c κs =
     let start = c .before .before .before .before .before in
-    (omega (arith, start .pre .0), field-reached _ _ _ (c .before .before .at2 .given .1) (start .pre .1) .0)
+    (omega (arith, start .pre .0), field-reached _ _ _ (c .before .before .bits-of .ensures .0) (start .pre .1) .0)
 
 mul-storage : tie.Need-mul-storage
 mul-storage c =
-    let at-at = c .before .before .before in
-    let start = at-at .before .before .before in
-    let (_, _, high) = field-reached _ _ _ (at-at .at2 .given .1) (start .pre .1) in search needs
+    let at-bits-of = c .before .before .before in
+    let start = at-bits-of .before .before .before in
+    let (_, _, high) = field-reached _ _ _ (at-bits-of .bits-of .ensures .0) (start .pre .1) in
+    search needs
 
 slice-write-storage : tie.Need-slice-write-storage
 slice-write-storage c =
-    let at-at = c .before .before .before in
-    let start = at-at .before .before .before in
-    let (_, low, high) = field-reached _ _ _ (at-at .at2 .given .1) (start .pre .1) in omega arith
-
-returns : tie.Need-returns
-returns c = stored-bug _ _ _ _ _ (c .before .before .at .given .1) (c .low-bits .ensures)
+    let at-bits-of = c .before .before .before in
+    let start = at-bits-of .before .before .before in
+    let (_, low, high) = field-reached _ _ _ (at-bits-of .bits-of .ensures .0) (start .pre .1) in
+    omega arith
 
 same-length : tie.Need-same-length
 same-length c = search needs
 
 returns-2 : tie.Need-returns-2
-returns-2 c = stored-field _ _ _ _ _ (c .before .before .before .at2 .given .1) (c .store-field .ensures)
+returns-2 c = stored-field _ _ _ _ _ (c .before .before .before .bits-of .ensures .0) (c .store-field .ensures)
 
 pub store-spec : {M : Type 1} → statement M
 store-spec =
     tie.close
     (tie.spec
-    enum-known-at
     low-bits-requires
     mul-bugs
     element-write-bugs
-    enum-known-at-2
+    returns
+    bits-of-requires
     sub-offset
     mul-store-field
     slice-read-store-field
     store-field-requires
     mul-storage
     slice-write-storage
-    returns
     same-length
     returns-2)

@@ -3,6 +3,7 @@ use native.Mathlib.Omega.{arith}
 use borrow.Author.Tests.{not-true, not-false}
 use Rattle.machine.specs.Sound.{inRange}
 use Rattle.machine.proofs.Checks.{need-yes, need-no}
+use Rattle.operations.specs.Deeds.{meant}
 use Rattle.operations.specs.Plans.{defining}
 use Rattle.operations.proofs.Answers.{does, stops}
 use Rattle.operations.proofs.Doing.{in-range}
@@ -33,8 +34,8 @@ cast-t16 c =
     omega (arith, fits .2, c .before .pre .0)
 
 returns-2 : tie.Need-returns-2
-unfolding defining inRange
-returns-2 c = does (need-yes _ _ _ (not-false _ (c .if1 .left)))
+unfolding defining inRange meant
+returns-2 c = does _ (need-yes _ _ _ (not-false _ (c .if1 .left)))
 
 pub define-spec : {M : Type 1} → statement M
 define-spec =

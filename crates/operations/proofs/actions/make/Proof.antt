@@ -1,4 +1,5 @@
 -- `operations::actions::make` meets its contract: what is made is stored. Assumes nothing.
+use Rattle.operations.specs.Deeds.{meant}
 use Rattle.operations.proofs.Answers.{does, stops}
 use Rattle.operations.proofs.Doing.{store-made, store-stopped}
 use borrow.Author.Needs.{needs}
@@ -15,7 +16,8 @@ enum-known-made-2 : tie.Need-enum-known-made-2
 enum-known-made-2 c = search needs
 
 returns : tie.Need-returns
-returns c = does (store-made _ _ (c .before .before .before .compute .ensures) (c .before .made .given .1))
+unfolding meant
+returns c = does _ (store-made _ _ (c .before .before .before .compute .ensures) (c .before .made .given .1))
 
 returns-2 : tie.Need-returns-2
 returns-2 c = stops (store-stopped _ _ (c .before .before .before .compute .ensures) (c .before .made2 .given .1))

@@ -1,5 +1,6 @@
 -- `operations::actions::print` meets its contract: 10, 21. Assumes nothing.
 use native.Mathlib.Omega.{arith}
+use Rattle.operations.specs.Deeds.{meant}
 use Rattle.operations.proofs.Answers.{does, stops}
 use Rattle.operations.proofs.Doing.{print-many, print-full, print-done}
 use borrow.Author.Needs.{needs}
@@ -19,10 +20,10 @@ returns-2 c =
     stops (print-full _ _ _ _ (c .before .if1 .left) (omega arith))
 
 returns-3 : tie.Need-returns-3
-returns-3 c =
-    let room = c .before .before .pre in
+unfolding meant
+returns-3 c = let room = c .before .before .pre in
     let there = c .if2 .left in
-    does (print-done _ _ _ _ (c .before .if1 .left) (omega arith))
+    does _ (print-done _ _ _ _ (c .before .if1 .left) (omega arith))
 
 pub print-spec : {M : Type 1} → statement M
 print-spec =

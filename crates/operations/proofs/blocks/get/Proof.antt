@@ -38,7 +38,8 @@ deliver-requires c κs =
     let start = at-top-of .before .before .before .before .before .before .before in (
       start .pre .0,
       run-deliverable _ _ _ (start .pre .0) (start .pre .1) _
-          (level-fits _ _ (at-top-of .top-of .ensures) (at-level-of .level-of .ensures)) (at-fetch .fetch .ensures) (c .before .run .given .1),
+          (level-fits _ _ (at-top-of .top-of .ensures) (at-level-of .level-of .ensures)) (at-fetch .fetch .ensures)
+          (c .before .run .given .1),
       start .pre .2,
       start .pre .3,
     )
@@ -51,20 +52,20 @@ returns-3 c =
     let at-fetch = c .before .before .before .before in
     let at-level-of = at-fetch .before in
     let at-top-of = at-level-of .before in
-    let at-if = at-top-of .before in
+    let at-if = at-top-of .before .before in
     let at-if-2 = at-if .before .before in
-    follows (get-run _ _ _ _ _ (at-if-2 .if1 .left) (at-if .if2 .left) (at-top-of .top-of .ensures) (at-level-of .level-of .ensures)
-    (at-fetch .fetch .ensures) (c .before .before .run .given .1)) (c .deliver .ensures)
+    follows (get-run _ _ _ _ _ (at-if-2 .if1 .left) (at-if .if2 .left) (at-top-of .top-of .ensures)
+    (at-level-of .level-of .ensures) (at-fetch .fetch .ensures) (c .before .before .run .given .1)) (c .deliver .ensures)
 
 returns-4 : tie.Need-returns-4
 returns-4 c =
     let at-fetch = c .before .before .before in
     let at-level-of = at-fetch .before in
     let at-top-of = at-level-of .before in
-    let at-if = at-top-of .before in
+    let at-if = at-top-of .before .before in
     let at-if-2 = at-if .before .before in
-    stops (get-no-run _ _ _ _ _ (at-if-2 .if1 .left) (at-if .if2 .left) (at-top-of .top-of .ensures) (at-level-of .level-of .ensures)
-    (at-fetch .fetch .ensures) (c .before .run2 .given .1))
+    stops (get-no-run _ _ _ _ _ (at-if-2 .if1 .left) (at-if .if2 .left) (at-top-of .top-of .ensures)
+    (at-level-of .level-of .ensures) (at-fetch .fetch .ensures) (c .before .run2 .given .1))
 
 pub get-spec : {M : Type 1} → statement M
 get-spec =

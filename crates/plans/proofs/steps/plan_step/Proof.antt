@@ -7,18 +7,16 @@ use Rattle.plans.proofs.steps.plan_step.Tie as tie
 
 plan-tests-requires : tie.Need-plan-tests-requires
 plan-tests-requires c κs =
-    let start = c .before .before .before .before .before in
+    let start = c .before .before .before .before in
     (start .pre .0 .readable, start .pre .1, start .pre .2)
 
 plan-operation-requires : tie.Need-plan-operation-requires
 plan-operation-requires c κs =
-    let start = c .before .before .before .before .before in
+    let start = c .before .before .before .before in
     (start .pre .0, start .pre .1, start .pre .2)
 
 plan-exit-requires : tie.Need-plan-exit-requires
-plan-exit-requires c κs =
-    let start = c .before .before .before .before .before in
-    (start .pre .1, start .pre .2)
+plan-exit-requires c κs = (c .before .before .before .before .pre .1, c .before .before .before .before .pre .2)
 
 returns : tie.Need-returns
 returns c = leads (kind-tests _ _ _ _ (c .before .match .keys1)) (c .plan-tests .ensures)

@@ -1,6 +1,7 @@
 -- `plans::tests::can_use` meets its contract: a row is judged, or its kind tells. Assumes nothing.
 use native.Mathlib.Omega.{arith}
 use borrow.Author.Tests.{not-false}
+use Rattle.table.specs.Row.{asRow}
 use Rattle.table.proofs.Formed.{missing-low, missing-high}
 use Rattle.plans.proofs.Judged.{kind-tells}
 use borrow.Author.Needs.{needs}
@@ -19,15 +20,20 @@ returns-2 c = missing-low _ _ _ _ (c .if2 .taken)
 returns-3 : tie.Need-returns-3
 returns-3 c = missing-high _ _ _ _ (c .before .if2 .left) (c .if3 .taken)
 
-row-at-requires : tie.Need-row-at-requires
-row-at-requires c κs = search needs
+from-row-requires : tie.Need-from-row-requires
+from-row-requires c κs = search needs
+
+shared-slice-read-result : tie.Need-shared-slice-read-result
+shared-slice-read-result c = search needs
 
 returns-4 : tie.Need-returns-4
+unfolding asRow
 returns-4 c =
     let at-if = c .before .before .before in
     let at-if-2 = at-if .before in
     let start = at-if-2 .before .before in
-    kind-tells _ _ _ _ (start .pre (not-false _ (at-if-2 .if1 .left))) (at-if .if2 .left) (c .before .before .if3 .left) (c .before .row-at .ensures)
+    kind-tells _ _ _ _ (start .pre (not-false _ (at-if-2 .if1 .left))) (at-if .if2 .left) (c .before .before .if3 .left)
+    (c .before .from-row .ensures .0)
 
 pub can-use-spec : {M : Type 1} → statement M
 can-use-spec =
@@ -37,5 +43,6 @@ can-use-spec =
     returns
     returns-2
     returns-3
-    row-at-requires
+    from-row-requires
+    shared-slice-read-result
     returns-4)

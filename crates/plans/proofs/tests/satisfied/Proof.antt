@@ -16,15 +16,13 @@ abbrev μ-loop : tie.MeasureT-loop
 μ-loop known bugs fields map storage table mode first r₀ r = testsLeft (rows table) r
 
 loop-holds : tie.Need-loop-holds Inv-loop μ-loop
-loop-holds c = open-first _ _ _ _ _ (c .before .before .before .pre .2)
+loop-holds c = open-first _ _ _ _ _ (c .before .before .pre .2)
 
 settled-as-requires : tie.Need-settled-as-requires Inv-loop μ-loop
 settled-as-requires c κs = search needs
 
 test-at-requires : tie.Need-test-at-requires Inv-loop μ-loop
-test-at-requires c κs =
-    let start = c .before .before .before .before .before in
-    (start .pre .0, start .pre .1)
+test-at-requires c κs = (c .before .before .before .before .pre .0, c .before .before .before .before .pre .1)
 
 enum-known-answer : tie.Need-enum-known-answer Inv-loop μ-loop
 enum-known-answer c = search needs
@@ -41,15 +39,17 @@ loop-less c =
     let at-test-at = at-answer .before .before in
     let at-if = at-test-at .before in
     let at-loop = at-if .before in
-    fewer-left _ _ _ _ _ (at-loop .loop .inv) (at-if .if1 .left) (outcome-is _ (at-test-at .test-at .ensures) (at-answer .answer .given .1))
+    fewer-left _ _ _ _ _ (at-loop .loop .inv) (at-if .if1 .left)
+    (outcome-is _ (at-test-at .test-at .ensures) (at-answer .answer .given .1))
 
 loop-again : tie.Need-loop-again Inv-loop μ-loop
 loop-again c =
     let at-answer = c .before .before .before in
     let at-test-at = at-answer .before .before in
-    let at-if1 = at-test-at .before in
-    let turn = at-if1 .before in
-    open-next _ _ _ _ _ (turn .loop .inv) (at-if1 .if1 .left) (outcome-is _ (at-test-at .test-at .ensures) (at-answer .answer .given .1))
+    let at-if = at-test-at .before in
+    let at-loop = at-if .before in
+    open-next _ _ _ _ _ (at-loop .loop .inv) (at-if .if1 .left)
+    (outcome-is _ (at-test-at .test-at .ensures) (at-answer .answer .given .1))
     (against (at-answer .answer .given .0 .0) (c .before .settling .result) (c .if2 .left) (c .before .settling .ensures))
 
 enum-known-answer-2 : tie.Need-enum-known-answer-2 Inv-loop μ-loop
@@ -60,13 +60,13 @@ returns c = open-ends _ _ _ _ _ (c .before .before .loop .inv) (c .before .if1 .
 
 returns-2 : tie.Need-returns-2 Inv-loop μ-loop
 returns-2 c =
-    let at-settling = c .before .before in
-    let at-answer = at-settling .before .before in
+    let at-answer = c .before .before .before .before in
     let at-test-at = at-answer .before .before in
-    let at-if1 = at-test-at .before in
-    let turn = at-if1 .before in
-    open-settles _ _ _ _ _ (turn .loop .inv) (at-if1 .if1 .left) (outcome-is _ (at-test-at .test-at .ensures) (at-answer .answer .given .1))
-    (against (at-answer .answer .given .0 .0) (at-settling .settling .result) (c .before .if2 .taken) (at-settling .settling .ensures))
+    let at-if = at-test-at .before in
+    let at-loop = at-if .before in
+    open-settles _ _ _ _ _ (at-loop .loop .inv) (at-if .if1 .left)
+    (outcome-is _ (at-test-at .test-at .ensures) (at-answer .answer .given .1)) (against (at-answer .answer .given .0 .0)
+    (c .before .before .settling .result) (c .before .if2 .taken) (c .before .before .settling .ensures))
     (c .settled-as2 .ensures)
 
 returns-3 : tie.Need-returns-3 Inv-loop μ-loop
@@ -74,7 +74,8 @@ returns-3 c =
     let at-test-at = c .before .before .before in
     let at-if = at-test-at .before in
     let at-loop = at-if .before in
-    open-stopped _ _ _ _ _ (at-loop .loop .inv) (at-if .if1 .left) (no-outcome-is _ (at-test-at .test-at .ensures) (c .before .answer2 .given .1))
+    open-stopped _ _ _ _ _ (at-loop .loop .inv) (at-if .if1 .left)
+    (no-outcome-is _ (at-test-at .test-at .ensures) (c .before .answer2 .given .1))
 
 pub satisfied-spec : {M : Type 1} → statement M
 satisfied-spec =

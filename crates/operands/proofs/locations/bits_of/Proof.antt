@@ -1,0 +1,15 @@
+-- `operands::locations::bits_of` meets its contract. Assumes nothing.
+use native.Mathlib.Omega.{arith}
+use Rattle.operands.proofs.Numbers.{field-number}
+use borrow.Author.Needs.{needs}
+use Rattle.operands.proofs.locations.bits_of.Statement.{statement}
+use Rattle.operands.proofs.locations.bits_of.Tie as tie
+
+returns : tie.Need-returns
+returns c = (field-number _ (c .pre), omega arith, omega arith)
+
+pub bits-of-spec : {M : Type 1} → statement M
+bits-of-spec =
+    tie.close
+    (tie.spec
+    returns)
