@@ -57,13 +57,19 @@ neither false t e = (refl, e)
 abbrev pub returning : Walked → List ℕ → List ℕ → Walk
 returning r storage output = record { walked = r; storage = storage; output = output }
 
-module _ (b : ℕ) (table input : List ℕ) (start : Walk) (limit count : ℕ) (output : List ℕ) (place : Place) (bugs : List ℕ) (records : Records)
-    (entries : List ℕ) (counts : Counts) (setup : SetUp) (map storage fields : List ℕ)
-    (g : Going b table input start limit count output (engineWith b place bugs records entries counts setup map storage)) (packed : unpackedAll fields
-    ≡ records .definitions)
-    (wide : isWidth b ≡ true) (fits : lengthFits table ≡ true) where
+-- where a turn starts, by the walk's locals: what is left of the walk leads where the whole does, and the definitions are those packed
+pub record Turn (b : ℕ) (table input : List ℕ) (start : Walk) (limit count : ℕ) (output : List ℕ) (place : Place) (bugs : List ℕ)
+    (records : Records) (entries : List ℕ) (counts : Counts) (setup : SetUp) (map storage fields : List ℕ) : Type 0 where
+  pub going : Going b table input start limit count output (engineWith b place bugs records entries counts setup map storage)
+  pub packed : unpackedAll fields ≡ records .definitions
+  pub wide : isWidth b ≡ true
+  pub fits : lengthFits table ≡ true
+
+module _ {b : ℕ} {table input : List ℕ} {start : Walk} {limit count : ℕ} {output : List ℕ} {place : Place} {bugs : List ℕ} {records : Records}
+    {entries : List ℕ} {counts : Counts} {setup : SetUp} {map storage fields : List ℕ}
+    (t : Turn b table input start limit count output place bugs records entries counts setup map storage fields) where
   abbrev narrow : b ≤ 48
-  narrow = width-range b wide .1
+  narrow = width-range b (t .wide) .1
 
   abbrev e : Engine
   e = engineWith b place bugs records entries counts setup map storage
@@ -81,12 +87,13 @@ module _ (b : ℕ) (table input : List ℕ) (start : Walk) (limit count : ℕ) (
 
   pub ready-now : Ready b (with-fields (unpackedAll fields))
   unfolding world
-  ready-now = subst (λ (ds : List Definition). Ready b (with-fields ds)) (sym packed) (ready-is b (lends table input output) e (g .fine) narrow)
+  ready-now =
+      subst (λ (ds : List Definition). Ready b (with-fields ds)) (sym (t .packed)) (ready-is b (lends table input output) e (t .going .fine) narrow)
 
   -- what is told of a plan with the packed definitions is told of it with the engine's
-  so : {t : Told Plan} → t ≡ told (stepPlan b (with-fields (unpackedAll fields)) table place)
-      → t ≡ told (stepPlan b (with-fields (records .definitions)) table place)
-  so is = is ∙ ap (λ (ds : List Definition). told (stepPlan b (with-fields ds) table place)) packed
+  so : {said : Told Plan} → said ≡ told (stepPlan b (with-fields (unpackedAll fields)) table place)
+      → said ≡ told (stepPlan b (with-fields (records .definitions)) table place)
+  so is = is ∙ ap (λ (ds : List Definition). told (stepPlan b (with-fields ds) table place)) (t .packed)
 
   module _ {answer : Step} (is : toldStep answer ≡ told (stepPlan b (with-fields (unpackedAll fields)) table place)) where
     pub refused-now : {q : Refusal} → answer ≡ Stopped q → {report : Report} → report ≡ noReport → {r : Walked}
@@ -98,7 +105,7 @@ module _ (b : ℕ) (table input : List ℕ) (start : Walk) (limit count : ℕ) (
         }
         → returning r storage output ≡ start
     unfolding world
-    refused-now to none same = rw (same, none) (going-refused b table input start limit count output e g wide fits (halts-is _ (so is) to))
+    refused-now to none same = rw (same, none) (going-refused b table input start limit count output e (t .going) (t .wide) (t .fits) (halts-is _ (so is) to))
 
     module _ {to : Place} {action : Action} (made : answer ≡ Goes to action) (long : length map ≡ 4096) where
       abbrev x : Deed
@@ -106,7 +113,7 @@ module _ (b : ℕ) (table input : List ℕ) (start : Walk) (limit count : ℕ) (
 
       able : Able b (lends table input output) e x
       unfolding world
-      able = plan-able b (lends table input output) e (g .fine) narrow fits (rw long (omega arith)) _ (goes-is _ (so is) made)
+      able = plan-able b (lends table input output) e (t .going .fine) narrow (t .fits) (rw long (omega arith)) _ (goes-is _ (so is) made)
 
       pub feasible-now : Feasible b (ground setup map storage counts (length input) (length output)) x
       feasible-now = able .feasible
@@ -149,15 +156,22 @@ module _ (b : ℕ) (table input : List ℕ) (start : Walk) (limit count : ℕ) (
             rw (same, answers, reports ∙ ap reportOf (turn .same), carried .4)
             (ap (λ (f : Engine). walks (f .state) (cond (eqb (place′ .kind) 3) Finished Running) (reportOf x) (count + 1) (f .storage)
             (outputAfter (counts .written) x output)) (sym then-now)
-            ∙ going-ends b table input start limit count output e g wide fits _ (goes-is _ (so is) made) (able .sure) _ (ends refl) over)
+            ∙ going-ends b table input start limit count output e (t .going) (t .wide) (t .fits) _ (goes-is _ (so is) made) (able .sure) _ (ends refl) over)
 
-        pub next-now : (eqb (place′ .kind) 3 || eqb (count + 1) limit) ≡ false → Going b table input start limit (count + 1) output′ f
+        pub next-now : (eqb (place′ .kind) 3 || eqb (count + 1) limit) ≡ false
+            → Turn b table input start limit (count + 1) output′ place′ bugs′ (recording ds ss ps) entries′ (next .counts) (next .setup) map′ storage′ fields′
         unfolding world
         next-now on =
             let (unfinished, more) = neither _ _ on in
-            subst (λ (out : List ℕ). Going b table input start limit (count + 1) out f) (sym (carried .4))
-            (subst (Going b table input start limit (count + 1) (outputAfter (counts .written) x output)) then-now
-            (going-next b table input start limit count output e g wide fits _ (goes-is _ (so is) made) (able .sure) (ends unfinished) (eqb-false _ _ more)))
+            record {
+              going = subst (λ (out : List ℕ). Going b table input start limit (count + 1) out f) (sym (carried .4))
+                  (subst (Going b table input start limit (count + 1) (outputAfter (counts .written) x output)) then-now
+                  (going-next b table input start limit count output e (t .going) (t .wide) (t .fits) _ (goes-is _ (so is) made) (able .sure)
+                  (ends unfinished) (eqb-false _ _ more)));
+              packed = turn .packed;
+              wide = t .wide;
+              fits = t .fits;
+            }
 
 -- what a walk returns, by its core
 pub with-core : {c d : Core} → c ≡ d → {width : ℕ} {map : List ℕ} {answer : Answer} {report : Report} {count : ℕ}

@@ -8,7 +8,6 @@ use mathlib.Core.Path.{_≡_, refl, sym, ap, subst, _∙_}
 use lib.ListN.{length}
 use Rattle.word.proofs.Width.{width-range}
 use Rattle.machine.specs.State.{undefined, theEnd}
-use Rattle.operands.specs.Packing.{unpackedAll}
 use Rattle.operations.specs.Deeds.{Return, meant}
 use Rattle.commit.specs.declared.Onward.{Onward}
 use Rattle.commit.specs.Carried.{recording}
@@ -22,8 +21,7 @@ use Rattle.engine.specs.Starting.{Ready}
 use Rattle.engine.specs.Walking.{walkFrom}
 use Rattle.machine.specs.Sound.{lends}
 use Rattle.engine.proofs.First.{first-goes, first-stops, halted}
-use Rattle.engine.proofs.Turns.{Going}
-use Rattle.engine.proofs.Now.{started, starts, ready-now, refused-now, feasible-now, countable-now, counted-now}
+use Rattle.engine.proofs.Now.{Turn, started, starts, ready-now, refused-now, feasible-now, countable-now, counted-now}
 use Rattle.engine.proofs.Now.{reportable-now, ended-now, next-now, with-core}
 use borrow.Author.Needs.{needs}
 use Rattle.engine.proofs.walks.walk.Statement.{statement}
@@ -33,12 +31,11 @@ abbrev Inv-loop : tie.InvT-loop
 Inv-loop table storage₀ input output₀ limit judged width place₀ bugs₀ entries₀ setup₀ definitions₀ saved₀ calls₀ counts₀
     map₀ fields₀ count₀ storage output place bugs entries setup definitions saved calls counts map fields count =
     (length storage ≡ length storage₀) × (length output ≡ length output₀) × (length map ≡ 4096) ×
-    Going width table input
+    Turn width table input
     (walkFrom 0 (limit - 1) (lends table input output₀)
     (engineWith width place₀ bugs₀ (recording definitions₀ saved₀ calls₀) entries₀ counts₀ setup₀ map₀ storage₀))
-    limit count output
-    (engineWith width place bugs (recording definitions saved calls) entries counts setup map storage) ×
-    (unpackedAll fields ≡ definitions) × (length calls ≡ 128)
+    limit count output place bugs (recording definitions saved calls) entries counts setup map storage fields ×
+    (length calls ≡ 128)
 
 abbrev μ-loop : tie.MeasureT-loop
 μ-loop table storage₀ input output₀ limit judged width place₀ bugs₀ entries₀ setup₀ definitions₀ saved₀ calls₀ counts₀
@@ -63,19 +60,13 @@ countable : (c : tie.After-planned2 Inv-loop μ-loop) → let turn = c .before .
 countable k =
     let at-plan-step = k .before .before in
     let turn = at-plan-step .before .before .before .before .before .before in
-    let at-state = turn .before .before .before .before .before .before .before .before .before .before .before .before .before .before
-    .before .before in
-    let ready = judged (at-state) in countable-now _ _ _ _ _ _ _ _ _ _ _ _ _ _ _ _ (turn .loop .inv .3) (turn .loop .inv .4) (ready .wide)
-    (ready .fits) (at-plan-step .plan-step .ensures) (k .planned2 .given .1) (turn .loop .inv .2)
+    countable-now (turn .loop .inv .3) (at-plan-step .plan-step .ensures) (k .planned2 .given .1) (turn .loop .inv .2)
 
 reportable : (c : tie.After-planned2 Inv-loop μ-loop) → Reportable (meant (c .planned2 .given .0 .1 .0))
 reportable k =
     let at-plan-step = k .before .before in
     let turn = at-plan-step .before .before .before .before .before .before in
-    let at-state = turn .before .before .before .before .before .before .before .before .before .before .before .before .before .before
-    .before .before in
-    let ready = judged (at-state) in reportable-now _ _ _ _ _ _ _ _ _ _ _ _ _ _ _ _ (turn .loop .inv .3) (turn .loop .inv .4) (ready .wide)
-    (ready .fits) (at-plan-step .plan-step .ensures) (k .planned2 .given .1) (turn .loop .inv .2)
+    reportable-now (turn .loop .inv .3) (at-plan-step .plan-step .ensures) (k .planned2 .given .1) (turn .loop .inv .2)
 
 -- the newest call is one of the entries
 last-call : (c : tie.Joined1 Inv-loop μ-loop)
@@ -86,7 +77,7 @@ last-call k e =
     let at-planned2 = k .before .before .before .before .before .before .before .before .before .before .before .before .before .before in
     let turn = at-planned2 .before .before .before .before .before .before .before .before in
     let room = return-room (countable (at-planned2)) e in
-    omega (arith, room .0, room .1, turn .loop .inv .5)
+    omega (arith, room .0, room .1, turn .loop .inv .4)
 
 -- the turn that an action makes
 turn-of : (c : tie.Joined1 Inv-loop μ-loop)
@@ -99,21 +90,21 @@ unfolding meant undefined theEnd
 turn-of k =
     let at-go-on = k .before .before .before .before .before .before .before .before .before .before .before .before in
     let turn = at-go-on .before .before .before .before .before .before .before .before .before .before in
-    ⊎-elim (λ w. turned-define _ _ _ _ (turn .loop .inv .4) (ap meant (w .2 .given .1)) _ (w .5 .ensures) (w .6) (w .7) (w .8) (w .9) (w .10)
+    ⊎-elim (λ w. turned-define _ _ _ _ (turn .loop .inv .3 .packed) (ap meant (w .2 .given .1)) _ (w .5 .ensures) (w .6) (w .7) (w .8) (w .9) (w .10)
     (ap meant (w .11 ∙ sym (w .2 .given .1))))
-    (⊎-elim (λ w. turned-save _ _ _ _ (turn .loop .inv .4) (ap meant (w .2 .given .1)) (w .6) (w .7) (w .8) (w .9) (w .10)
+    (⊎-elim (λ w. turned-save _ _ _ _ (turn .loop .inv .3 .packed) (ap meant (w .2 .given .1)) (w .6) (w .7) (w .8) (w .9) (w .10)
     (ap meant (w .11 ∙ sym (w .2 .given .1))))
-    (⊎-elim (λ w. turned-restore _ _ _ _ (turn .loop .inv .4) (ap meant (w .2 .given .1)) _ (w .7 .ensures) (w .8) (w .9) (w .10) (w .11) (w .12)
+    (⊎-elim (λ w. turned-restore _ _ _ _ (turn .loop .inv .3 .packed) (ap meant (w .2 .given .1)) _ (w .7 .ensures) (w .8) (w .9) (w .10) (w .11) (w .12)
     (ap meant (w .13 ∙ sym (w .2 .given .1))))
-    (⊎-elim (λ w. turned-call _ _ _ _ (turn .loop .inv .4) (ap meant (w .2 .given .1)) (w .5 ∙ w .4 .ensures) (w .6) (w .7) (w .8) (w .9)
+    (⊎-elim (λ w. turned-call _ _ _ _ (turn .loop .inv .3 .packed) (ap meant (w .2 .given .1)) (w .5 ∙ w .4 .ensures) (w .6) (w .7) (w .8) (w .9)
     (ap meant (w .10 ∙ sym (w .2 .given .1))))
-    (⊎-elim (λ w. turned-return _ _ _ _ (turn .loop .inv .4) (ap meant (w .2 .given .1))
+    (⊎-elim (λ w. turned-return _ _ _ _ (turn .loop .inv .3 .packed) (ap meant (w .2 .given .1))
     (w .5 ∙ any-place (turn .loop .calls) (turn .loop .counts .calls - 1) (record { kind = 0; row = 0; line = 0 }) theEnd
     (last-call (k) (ap meant (w .2 .given .1)))) (w .6) (w .7) (w .8) (w .9)
     (ap meant (w .10)))
-    (⊎-elim (λ w. turned-kept _ _ _ _ (turn .loop .inv .4)
+    (⊎-elim (λ w. turned-kept _ _ _ _ (turn .loop .inv .3 .packed)
     (unrecorded (at-go-on .before .before .planned2 .given .0 .1 .0) (w .1 .keys6)) (w .2) (w .3) (w .4) (w .5) (w .6) (ap meant (w .7)))
-    (λ w. turned-kept _ _ _ _ (turn .loop .inv .4) (ap (λ (n : Onward). n .recorded) (sym (at-go-on .go-on .ensures)) ∙ w .0 .left) (w .1) (w .2)
+    (λ w. turned-kept _ _ _ _ (turn .loop .inv .3 .packed) (ap (λ (n : Onward). n .recorded) (sym (at-go-on .go-on .ensures)) ∙ w .0 .left) (w .1) (w .2)
     (w .3) (w .4) (w .5) (ap meant (w .6))))))))
     (k .if1 .came)
 
@@ -138,18 +129,22 @@ loop-holds : tie.Need-loop-holds Inv-loop μ-loop
 loop-holds c =
     let at-counts-of = c .before .before .before in
     let at-state = at-counts-of .before .before .before .before .before .before .before .before .before .before .before .before in
-    let at-state2 = at-state .before .before .before .before .before .before in (
+    let at-state2 = at-state .before .before .before .before .before .before in
+    let ready = judged (at-state) in (
       refl,
       refl,
       map-long (at-state2),
-      starts _ _ _ _ _ _ _ _ refl (at-counts-of .counts-of .ensures .0) (at-state2 .pre .0) (judged (at-state) .fine)
-          (judged (at-state) .going),
-      c .pack-all .ensures,
+      record {
+        going = starts _ _ _ _ _ _ _ _ refl (at-counts-of .counts-of .ensures .0) (at-state2 .pre .0) (ready .fine) (ready .going);
+        packed = c .pack-all .ensures;
+        wide = ready .wide;
+        fits = ready .fits;
+      },
       at-counts-of .counts-of .ensures .1,
     )
 
 add-count : tie.Need-add-count Inv-loop μ-loop
-add-count c = let few = c .loop .inv .3 .few in omega arith
+add-count c = let few = c .loop .inv .3 .going .few in omega arith
 
 cast-t52 : tie.Need-cast-t52 Inv-loop μ-loop
 cast-t52 c = search needs
@@ -160,7 +155,7 @@ plan-step-requires c κs =
     let at-state = turn .before .before .before .before .before .before .before .before .before .before .before .before .before .before
     .before .before in
     let ready = judged (at-state) in (
-      ready-now _ _ _ _ _ _ _ _ _ _ _ _ _ _ _ _ (turn .loop .inv .3) (turn .loop .inv .4) (ready .wide) (ready .fits),
+      ready-now (turn .loop .inv .3),
       ready .fits,
       ready .formed,
     )
@@ -191,11 +186,9 @@ returns-2 c =
     let at-plan-step = at-planned .before .before in
     let turn = at-plan-step .before .before .before .before .before .before in
     let at-counts-of = turn .before .before .before .before in
-    let at-state = at-counts-of .before .before .before .before .before .before .before .before .before .before .before .before in
-    let ready = judged (at-state) in refused-now _ _ _ _ _ _ _ _ _ _ _ _ _ _ _ _ (turn .loop .inv .3) (turn .loop .inv .4) (ready .wide) (ready .fits)
-    (at-plan-step .plan-step .ensures) (at-planned .planned .given .1) (at-no-report .no-report .ensures) (c .ended .ensures
-    ∙ with-core (at-core-of .core-of .ensures)) ∙ started _ _ _ _ _ _ _
-    _ refl (at-counts-of .counts-of .ensures .0)
+    refused-now (turn .loop .inv .3) (at-plan-step .plan-step .ensures) (at-planned .planned .given .1) (at-no-report .no-report .ensures)
+    (c .ended .ensures ∙ with-core (at-core-of .core-of .ensures))
+    ∙ started _ _ _ _ _ _ _ _ refl (at-counts-of .counts-of .ensures .0)
 
 enum-known-planned-2 : tie.Need-enum-known-planned-2 Inv-loop μ-loop
 enum-known-planned-2 c = search needs
@@ -205,9 +198,7 @@ go-on-requires c κs =
     let at-planned2 = c .before in
     let at-plan-step = at-planned2 .before .before in
     let turn = at-plan-step .before .before .before .before .before .before in
-    let at-state = turn .before .before .before .before .before .before .before .before .before .before .before .before .before .before
-    .before .before in
-    let ready = judged (at-state) in counted-now _ _ _ _ _ _ _ _ _ _ _ _ _ _ _ _ (turn .loop .inv .3) (turn .loop .inv .4) (ready .wide) (ready .fits)
+    counted-now (turn .loop .inv .3)
     (at-plan-step .plan-step .ensures) (at-planned2 .planned2 .given .1) (turn .loop .inv .2)
 
 slice-aggregate-carry-out : tie.Need-slice-aggregate-carry-out Inv-loop μ-loop
@@ -218,17 +209,13 @@ carry-out-requires c κs =
     let at-planned2 = c .before .before .before .before .before .before .before in
     let at-plan-step = at-planned2 .before .before in
     let turn = at-plan-step .before .before .before .before .before .before in
-    let at-state = turn .before .before .before .before .before .before .before .before .before .before .before .before .before .before
-    .before .before in
-    let ready = judged (at-state) in let readable = ready-now _ _ _ _ _ _ _ _ _ _ _ _ _ _ _ _ (turn .loop .inv .3) (turn .loop .inv .4) (ready .wide)
-    (ready .fits) .readable in (
+    let readable = ready-now (turn .loop .inv .3) .readable in (
       readable .width,
       readable .whole,
       readable .kept,
       (
         _,
-        feasible-now _ _ _ _ _ _ _ _ _ _ _ _ _ _ _ _
-            (turn .loop .inv .3) (turn .loop .inv .4) (ready .wide) (ready .fits) (at-plan-step .plan-step .ensures) (at-planned2 .planned2 .given .1)
+        feasible-now (turn .loop .inv .3) (at-plan-step .plan-step .ensures) (at-planned2 .planned2 .given .1)
             (turn .loop .inv .2),
       ),
     )
@@ -432,18 +419,16 @@ returns-3 c =
     let at-plan-step = at-planned2 .before .before in
     let turn = at-plan-step .before .before .before .before .before .before in
     let at-counts-of = turn .before .before .before .before in
-    let at-state2 = at-counts-of .before .before .before .before .before .before .before .before .before .before .before .before in
-    let ready = judged (at-state2) in ended-now _ _ _ _ _ _ _ _ _ _ _ _ _ _ _ _ (turn .loop .inv .3) (turn .loop .inv .4) (ready .wide) (ready .fits)
-    (at-plan-step .plan-step .ensures) (at-planned2 .planned2 .given .1) (turn .loop .inv .2) (turn-of (at-state)) (at-carry-out .carry-out .ensures)
-    (at-go-on .go-on .ensures) (at-if2 .if2 .taken) (at-answer-at .answer-at .ensures) (at-report-of .report-of .ensures) (c .ended2 .ensures
-    ∙ with-core (at-core-of .core-of2 .ensures)) ∙
-    started _ _ _ _ _ _ _ _ refl (at-counts-of .counts-of .ensures .0)
+    ended-now (turn .loop .inv .3) (at-plan-step .plan-step .ensures) (at-planned2 .planned2 .given .1) (turn .loop .inv .2) (turn-of (at-state))
+    (at-carry-out .carry-out .ensures) (at-go-on .go-on .ensures) (at-if2 .if2 .taken) (at-answer-at .answer-at .ensures)
+    (at-report-of .report-of .ensures) (c .ended2 .ensures ∙ with-core (at-core-of .core-of2 .ensures))
+    ∙ started _ _ _ _ _ _ _ _ refl (at-counts-of .counts-of .ensures .0)
 
 loop-less : tie.Need-loop-less Inv-loop μ-loop
 loop-less c =
     let turn = c .before .before .before .before .before .before .before .before .before .before .before .before .before .before .before .before
     .before .before .before .before .before .before .before .before .before .before in
-    let few = turn .loop .inv .3 .few in omega arith
+    let few = turn .loop .inv .3 .going .few in omega arith
 
 loop-again : tie.Need-loop-again Inv-loop μ-loop
 loop-again c =
@@ -454,18 +439,13 @@ loop-again c =
     let at-go-on = at-carry-out .before .before .before .before .before .before in
     let at-planned2 = at-go-on .before .before in
     let at-plan-step = at-planned2 .before .before in
-    let turn = at-plan-step .before .before .before .before .before .before in
-    let at-state2 = turn .before .before .before .before .before .before .before .before .before .before .before .before .before .before
-    .before .before in
-    let ready = judged (at-state2) in (
+    let turn = at-plan-step .before .before .before .before .before .before in (
       at-storage .storage .given ∙ turn .loop .inv .0,
       at-output .output .given ∙ turn .loop .inv .1,
       search needs,
-      next-now _ _ _ _ _ _ _ _ _ _ _ _ _ _ _ _ (turn .loop .inv .3) (turn .loop .inv .4) (ready .wide) (ready .fits) (at-plan-step .plan-step .ensures)
-          (at-planned2 .planned2 .given .1) (turn .loop .inv .2) (turn-of (at-state)) (at-carry-out .carry-out .ensures) (at-go-on .go-on .ensures)
-          (c .if2 .left),
-      turn-of (at-state) .packed,
-      turn-of (at-state) .long ∙ turn .loop .inv .5,
+      next-now (turn .loop .inv .3) (at-plan-step .plan-step .ensures) (at-planned2 .planned2 .given .1) (turn .loop .inv .2) (turn-of (at-state))
+          (at-carry-out .carry-out .ensures) (at-go-on .go-on .ensures) (c .if2 .left),
+      turn-of (at-state) .long ∙ turn .loop .inv .4,
     )
 
 pub walk-spec : {M : Type 1} → statement M
