@@ -110,8 +110,8 @@ fn contents_after(
     read_field(b, bits.left, bits.right, word)
 }
 
-// One link, by the field's definition and the size of the live block at the pointer, 0 if there is none: refusals 14, 15, 16 in this
-// order. Where it leads, which is never a bug, and what stands there.
+// One link, by the field's definition and the size of the live block at the pointer, 0 if there is none: refusals 14, 15, 16 in
+// this order. Where it leads, which is never a bug, and what stands there.
 fn link(b: u64, s1: u16, storage: &[u64], x: Definition, size: u64, pointer: u64) -> Linked
     requires { ⌜ (b ≤ 48) × Lying b s1 (now storage) x size pointer ⌝ }
     ensures { λ r. ⌜ toldLinked r ≡ told (standing (contentsOf b [] s1 (now (storage .entry))) (linkBy x size pointer)) ⌝ }
@@ -194,8 +194,8 @@ pub fn locate_through(
     Linked::At(spot)
 }
 
-// Where a reference of more than a bug leads: from its bug along the fields, up to the first link that is refused. Of the set-up it is told
-// the first address alone, so the promise is of every set-up that can be read with it.
+// Where a reference of more than a bug leads: from its bug along the fields, up to the first link that is refused. Of the set-up it
+// is told the first address alone, so the promise is of every set-up that can be read with it.
 fn follow(
     b: u64,
     bugs: &[u64; 26],
@@ -241,7 +241,8 @@ fn follow(
     Linked::At(spot)
 }
 
-// Where a reference leads: that of a bug alone is found at once.
+// Where a reference leads: that of a bug alone is found at once. The storage is lent anew to `follow`, so that its place and length
+// are put into memory on that way alone.
 pub fn locate(
     b: u64,
     bugs: &[u64; 26],
@@ -265,7 +266,7 @@ pub fn locate(
         };
         return Linked::At(spot);
     }
-    follow(b, bugs, fields, setup.s1, map, storage, value)
+    follow(b, bugs, fields, setup.s1, map, &*storage, value)
 }
 
 // An operand that is used: a literal, or what stands where a reference leads; a bug's word is found at once.
@@ -296,5 +297,5 @@ pub fn operand(
         };
         return Linked::At(word);
     }
-    follow(b, bugs, fields, setup.s1, map, storage, p.value)
+    follow(b, bugs, fields, setup.s1, map, &*storage, p.value)
 }
