@@ -1,5 +1,6 @@
-// The block allocator and references tried: a checksum over generated cases for each function on sizes, over sequences of operations
-// for each set-up, and over references; then bench cases of document 01. reference/leaves.rs computes the same lines independently.
+// The block allocator and references tried: a checksum over generated cases for each function on sizes, over sequences of
+// operations for each set-up, and over references; then bench cases of document 01. reference/leaves.rs computes the same lines
+// independently.
 mod maps;
 mod references;
 

@@ -5,7 +5,8 @@ pub const MOST_WORDS: u64 = 4096;
 
 pub const TOP: u8 = 7;
 
-// The numbers of a set-up: the largest size, and the first and last address. All zero: no set-up yet. What they mean stands in specs/.
+// The numbers of a set-up: the largest size, and the first and last address. All zero: no set-up yet. What they mean stands in
+// specs/.
 pub struct SetUp {
     pub d: u16,
     pub s1: u16,

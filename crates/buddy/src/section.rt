@@ -175,8 +175,8 @@ fn bytes_past(words: usize, length: usize) -> usize
     if words <= length { length - words } else { 0 }
 }
 
-// Whether a map keeps the section "Blocks": it is as long as its trees and the bytes past them, no tree is broken, and the tags of their
-// blocks are all that is not zero, which is so if there are as many bytes that are not zero as blocks.
+// Whether a map keeps the section "Blocks": it is as long as its trees and the bytes past them, no tree is broken, and the tags of
+// their blocks are all that is not zero, which is so if there are as many bytes that are not zero as blocks.
 pub fn keeps_section(setup: SetUp, map: &[u8]) -> bool
     ensures { λ r. ⌜ r ≡ keeps setup (now (map .entry)) ⌝ }
 {
@@ -246,8 +246,8 @@ fn skip(map: &[u8], from: usize, end: usize, least: u8, n: usize) -> usize
     i
 }
 
-// The lowest aligned run of the j-th size outside the live blocks, from block to block: where a smaller block stands there is none in as many
-// words as are wanted, a free block of that size or a larger starts one, and a live block has none in its words.
+// The lowest aligned run of the j-th size outside the live blocks, from block to block: where a smaller block stands there is none
+// in as many words as are wanted, a free block of that size or a larger starts one, and a live block has none in its words.
 pub fn lowest_run(setup: SetUp, map: &[u8], j: u8) -> Found
     requires { ⌜ (words setup % size (top (setup .d)) ≡ 0) × (keeps setup (now map) ≡ true) × (j ≤ top (setup .d)) ⌝ }
     ensures { λ r. ⌜ toldFound r ≡ firstTold (runs (size j) setup (live setup (now (map .entry)))) ⌝ }

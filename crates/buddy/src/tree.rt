@@ -82,8 +82,8 @@ fn starts_block(k: u8, i: usize, bytes: &[u8]) -> bool
     !is_rest(tag, n, i, bytes)
 }
 
-// How many blocks a tree of the k-th size has, counted one after the other, 0 if one breaks the section. Bytes between them are not looked
-// at.
+// How many blocks a tree of the k-th size has, counted one after the other, 0 if one breaks the section. Bytes between them are not
+// looked at.
 pub(crate) fn count_blocks(k: u8, bytes: &[u8]) -> usize
     requires { ⌜ (k ≤ 7) × (length (now bytes) ≡ size k) ⌝ }
     ensures { λ r. ⌜ r ≡ counted k (now (bytes .entry)) ⌝ }

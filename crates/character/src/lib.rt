@@ -6,7 +6,8 @@ ghost use mathlib.Core.Path.{_≡_};
 ghost use mathlib.Core.List.{_++_};
 ghost use Prim.Native.Nat.{_+_, _*_, _/_, _%_, _^_, _≤_, _<_, min};
 ghost use lib.ListN.{length, take, drop, getD, replicate};
-ghost use Rattle.character.specs.Character.{holds, leading, characters, packed, printed, blanksToZeros, toBinary, fromBinary, zerosToBlanks};
+ghost use Rattle.character.specs.Character.{holds, leading, characters, packed, printed, blanksToZeros, toBinary, fromBinary};
+ghost use Rattle.character.specs.Character.{zerosToBlanks};
 ghost use Rattle.character.specs.Converted.{toldConverted, toldPacked, converting, packing};
 
 // The blank.

@@ -18,7 +18,8 @@ fn entry(k: usize) -> u16
     ((hundreds * 64 + tens) * 64 + ones) as u16
 }
 
-// Fills a buffer of 1,000 with what is worked out, which is the constant, and answers 1,000. Any other buffer stays as it was, and the answer is 0.
+// Fills a buffer of 1,000 with what is worked out, which is the constant, and answers 1,000. Any other buffer stays as it was, and
+// the answer is 0.
 pub fn fill(buffer: &mut [u16]) -> usize
     ensures { λ r. ⌜ (r ≡ answered (now (buffer .entry))) × (now (buffer .exit) ≡ filled (now (buffer .entry))) ⌝ }
 {

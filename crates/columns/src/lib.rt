@@ -7,7 +7,8 @@ ghost use lib.Dec.{eqb};
 ghost use lib.ListN.{length, getD, take, drop};
 ghost use lib.Seq.{sets};
 ghost use Rattle.character.specs.Character.{number};
-ghost use Rattle.columns.specs.Columns.{groupsOf, filledUp, turnedGroups, saved, fitsWidth, eachBelow, isSaved, saving, loading, toldKept, savingTold, loadingTold, bitsAt, turned};
+ghost use Rattle.columns.specs.Columns.{groupsOf, filledUp, turnedGroups, saved, fitsWidth, eachBelow, isSaved, saving};
+ghost use Rattle.columns.specs.Columns.{loading, toldKept, savingTold, loadingTold, bitsAt, turned};
 ghost use Rattle.columns.specs.Packing.{unpacked, spreadOf, packedTurned, octets, longer};
 use word::is_width;
 
@@ -78,8 +79,8 @@ fn group_at(words: &[u64], at: usize) -> [u64; GROUP]
     group
 }
 
-// The bits of a byte as eight bytes of 0 or 1, the leftmost bit in the lowest byte: eight copies of the byte, one bit kept of each, and a
-// one in the place of each that is not zero.
+// The bits of a byte as eight bytes of 0 or 1, the leftmost bit in the lowest byte: eight copies of the byte, one bit kept of each,
+// and a one in the place of each that is not zero.
 fn spread(x: u64) -> u64
     requires { ⌜ x < 256 ⌝ }
     ensures { λ r. ⌜ r ≡ spreadOf x ⌝ }

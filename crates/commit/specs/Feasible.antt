@@ -14,7 +14,8 @@ use Rattle.machine.specs.Answer.{passed}
 use Rattle.operands.specs.Reading.{Reached}
 use Rattle.operations.specs.declared.Counts.{Counts}
 use Rattle.operations.specs.Deeds.{Deed}
-use Rattle.operations.specs.Deeds.{Nothing, Store, StoreTwo, SetUpWords, Define, Deliver, DeliverTwo, Free, Input, Print, Save, Restore, SaveDefinition, RestoreDefinition, Call, Return}
+use Rattle.operations.specs.Deeds.{Nothing, Store, StoreTwo, SetUpWords, Define, Deliver, DeliverTwo, Free, Input, Print, Save, Restore}
+use Rattle.operations.specs.Deeds.{SaveDefinition, RestoreDefinition, Call, Return}
 use Rattle.machine.specs.Operations.{lowestRun}
 
 -- what an action is carried out on: set-up numbers, map and storage, how far stacks, input and output are used, and the lengths of

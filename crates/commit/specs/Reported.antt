@@ -7,7 +7,8 @@ use Rattle.machine.specs.declared.Report.{Report}
 use Rattle.machine.specs.Storage.{noStore, noReport}
 use Rattle.machine.specs.Effects.{storeTo}
 use Rattle.operations.specs.Deeds.{Deed}
-use Rattle.operations.specs.Deeds.{Nothing, StoreTwo, SetUpWords, Define, Deliver, DeliverTwo, Free, Input, Print, Save, Restore, SaveDefinition, RestoreDefinition, Call, Return}
+use Rattle.operations.specs.Deeds.{Nothing, StoreTwo, SetUpWords, Define, Deliver, DeliverTwo, Free, Input, Print, Save, Restore}
+use Rattle.operations.specs.Deeds.{SaveDefinition, RestoreDefinition, Call, Return}
 use Rattle.operations.specs.Deeds as act
 
 -- a report by its parts

@@ -9,8 +9,8 @@ use machine::Definition;
 use machine::Place;
 use operations::Counts;
 
-// Where an action leads: the set-up numbers, how far stacks, input and output are used, and whether it changes the records or goes to
-// a place by the calls.
+// Where an action leads: the set-up numbers, how far stacks, input and output are used, and whether it changes the records or goes
+// to a place by the calls.
 pub struct Onward {
     pub setup: SetUp,
     pub counts: Counts,

@@ -1,8 +1,8 @@
-// The engine compared with reference/engine.rs, which wrote the cases of the input (reference/comparison.rs has their form) and the lines
-// that must be printed. Each case is stepped from its start, and then run from the same start. A line has the case's number; answer,
-// count of steps, and checksums over the steps and over all that they leave (state, storage, output); the run's answer, count and
-// checksum over all that it leaves; and the case's label. At the end there is a line for each count of what the cases reached, those of 36
-// bits and then those of 48.
+// The engine compared with reference/engine.rs, which wrote the cases of the input (reference/comparison.rs has their form) and the
+// lines that must be printed. Each case is stepped from its start, and then run from the same start. A line has the case's number;
+// answer, count of steps, and checksums over the steps and over all that they leave (state, storage, output); the run's answer,
+// count and checksum over all that it leaves; and the case's label. At the end there is a line for each count of what the cases
+// reached, those of 36 bits and then those of 48.
 use engine::answers::refusal_number;
 use layout::reading::read_state;
 use layout::writing::write_state;

@@ -37,7 +37,8 @@ fn round(rows: u64, places: u64) -> u64
     1 + cases::below(rows, places)
 }
 
-// The shape of a drawn list. In one case of eight its chain has no row, and in one of eight the last row's next index is that of any row.
+// The shape of a drawn list. In one case of eight its chain has no row, and in one of eight the last row's next index is that of
+// any row.
 fn shape_of(a: u64, y: u64) -> Shape {
     let rows = rows_of(a);
     let first = if a / 128 % 8 == 0 {

@@ -24,9 +24,9 @@ pub enum FirstUse {
     Nowhere,
 }
 
-// What the check answers: yes; no, with the row and the field; or what is wrong before paths are followed: the width (refusal 31), the
-// table's length (refusal 1), the lowest ill-formed row, or a row of the wrong kind (refusal 30), with the row that names it, or row 1
-// where it is no line.
+// What the check answers: yes; no, with the row and the field; or what is wrong before paths are followed: the width (refusal 31),
+// the table's length (refusal 1), the lowest ill-formed row, or a row of the wrong kind (refusal 30), with the row that names it,
+// or row 1 where it is no line.
 pub enum FieldsCheck {
     Yes,
     No { row: u64, field: u64 },

@@ -82,7 +82,8 @@ fn put_finding(text: &mut [u8; LINE], found: FieldsCheck) -> usize
     }
 }
 
-// Checks the table of a file's bytes, for words of b bits, and puts what tourcheck prints at the end of the text. Returns where it starts.
+// Checks the table of a file's bytes, for words of b bits, and puts what tourcheck prints at the end of the text. Returns where it
+// starts.
 pub fn diagnose(b: u64, tab: &[u8], text: &mut [u8; LINE]) -> usize
     ensures { λ r. ⌜ r + length (printed b (now (tab .entry))) ≡ 128 ⌝ }
     ensures { λ _. ⌜ now (text .exit) ≡ putBefore 128 (printed b (now (tab .entry))) (now (text .entry)) ⌝ }

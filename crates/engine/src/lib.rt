@@ -90,8 +90,8 @@ pub fn fresh_state(width: u8) -> State
     }
 }
 
-// A fresh engine of words of b bits: refusal 31. The second promise, as in the calls below, gives the answer in the papers' numbers,
-// which its definition has beside the enum; the first gives what a caller in Rattle takes apart.
+// A fresh engine of words of b bits: refusal 31. The second promise, as in the calls below, gives the answer in the papers'
+// numbers, which its definition has beside the enum; the first gives what a caller in Rattle takes apart.
 pub fn fresh(b: u64) -> Fresh
     ensures { λ r. ⌜ r ≡ freshOf b ⌝ }
     ensures numbered { λ r. ⌜ toldFresh (r .answer) ≡ cond (isWidth b) (gives tt) (refuses 31) ⌝ }
@@ -127,8 +127,8 @@ fn judge(b: u64, table: &[u64], limit: u64) -> bool
     lowest_ill_formed(b, table) == 0
 }
 
-// What is judged before a walk: what its first step answers where it stops there, running where it goes on, and whether the table is then
-// known to be well-formed.
+// What is judged before a walk: what its first step answers where it stops there, running where it goes on, and whether the table
+// is then known to be well-formed.
 pub struct Start {
     pub answer: Answer,
     pub judged: bool,
@@ -144,8 +144,8 @@ fn stops(answer: Answer) -> Start
     }
 }
 
-// What is judged once, before a walk: refusals 31 and 11, finished, and refusal 1. The map is lent: handed over in the state, it would
-// be copied once more.
+// What is judged once, before a walk: refusals 31 and 11, finished, and refusal 1. The map is lent: handed over in the state, it
+// would be copied once more.
 fn begin(
     width: u8,
     core: Core,

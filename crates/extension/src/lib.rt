@@ -47,8 +47,8 @@ fn grown(width: u8, core: Core, first: [u8; MAP], storage: &mut [u64], last: u16
     }
 }
 
-// A new last address for the words set up: refusals 31, 11, 12, 32. The second promise gives the answer as the papers' number, 0 where it
-// is no refusal.
+// A new last address for the words set up: refusals 31, 11, 12, 32. The second promise gives the answer as the papers' number, 0
+// where it is no refusal.
 pub fn extend(storage: &mut [u64], state: State, last: u64) -> Extended
     ensures { λ r. ⌜ record { extended = r; storage = now (storage .exit) }
         ≡ extendOf last (record { state = state; storage = now (storage .entry) }) ⌝ }

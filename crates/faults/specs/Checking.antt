@@ -39,7 +39,8 @@ soFar (atEnd l) = l
 unfoldable pub proper : ℕ → Line → Bool
 proper b l =
     (isEmpty (l .label) || isLabel (l .label))
-    && (leb (l .mode) 4 && (all (isTest b) (l .tests) && (all (isOperation b) (l .operations) && (isEmpty (l .goTo) || (isDone (l .goTo) || isLabel (l .goTo))))))
+    && (leb (l .mode) 4 && (all (isTest b) (l .tests) && (all (isOperation b) (l .operations)
+    && (isEmpty (l .goTo) || (isDone (l .goTo) || isLabel (l .goTo))))))
 
 unfoldable pub enough : Line → Bool
 enough l = cond (eqb (l .mode) 0) (isEmpty (l .tests)) (not (isEmpty (l .tests))) && not (isEmpty (l .operations) && isEmpty (l .goTo))
@@ -198,15 +199,45 @@ thenScan c end =
 
 abbrev pub moreTests : Scan → Scan
 moreTests c =
-    record { from = c .from; label = c .label; mode = c .mode; test = c .test; tests = c .tests + 1; operation = c .operation; operations = c .operations; goes = 0; ends = 0 }
+    record {
+      from = c .from;
+      label = c .label;
+      mode = c .mode;
+      test = c .test;
+      tests = c .tests + 1;
+      operation = c .operation;
+      operations = c .operations;
+      goes = 0;
+      ends = 0;
+    }
 
 abbrev pub moreOperations : Scan → Scan
 moreOperations c =
-    record { from = c .from; label = c .label; mode = c .mode; test = c .test; tests = c .tests; operation = c .operation; operations = c .operations + 1; goes = 0; ends = 0 }
+    record {
+      from = c .from;
+      label = c .label;
+      mode = c .mode;
+      test = c .test;
+      tests = c .tests;
+      operation = c .operation;
+      operations = c .operations + 1;
+      goes = 0;
+      ends = 0;
+    }
 
 abbrev pub goScan : Scan → ℕ → ℕ → Scan
 goScan c at end =
-    record { from = c .from; label = c .label; mode = c .mode; test = c .test; tests = c .tests; operation = c .operation; operations = c .operations; goes = at; ends = end }
+    record {
+      from = c .from;
+      label = c .label;
+      mode = c .mode;
+      test = c .test;
+      tests = c .tests;
+      operation = c .operation;
+      operations = c .operations;
+      goes = at;
+      ends = end;
+    }
 
 -- how a walk goes on with a word and with a parenthesis at a place
 unfoldable pub enteredWalk : ℕ → ℕ → ℕ → ℕ → Walk

@@ -5,8 +5,8 @@ pub mod line;
 pub mod names;
 pub mod seeking;
 
-// The places of a line's parts: where its label begins and ends, its mode, where its tests and its operations begin and how many they are, and where its
-// go-to begins and ends.
+// The places of a line's parts: where its label begins and ends, its mode, where its tests and its operations begin and how many
+// they are, and where its go-to begins and ends.
 pub struct Scan {
     pub from: usize,
     pub label: usize,

@@ -14,7 +14,8 @@ pub fn read_file(name: &[u8], bytes: &mut [u8]) -> usize
     count
 }
 
-// The word after the program's name, and how long it is, 0 where there is none. One that is empty or too long counts as eight characters.
+// The word after the program's name, and how long it is, 0 where there is none. One that is empty or too long counts as eight
+// characters.
 pub fn first_word(word: &mut [u8; 8]) -> usize
     ensures { λ r. ⌜ Counts r (now (word .exit)) ⌝ }
 {

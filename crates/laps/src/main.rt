@@ -1,7 +1,7 @@
-// laps run LIMIT CALLS WIDTH, laps step CALLS WIDTH: the engine on the tour of tour.tab and stops.in, for its speed. It makes so many calls of
-// run (one where CALLS is left out) or of step, fewer up to a finish or refusal, on words of WIDTH bits (36 where it is left out). Prints
-// the last answer's number (0 running, 100 finished), the count of steps and a checksum over the reports of the calls of step, the bugs and
-// the storage.
+// laps run LIMIT CALLS WIDTH, laps step CALLS WIDTH: the engine on the tour of tour.tab and stops.in, for its speed. It makes so
+// many calls of run (one where CALLS is left out) or of step, fewer up to a finish or refusal, on words of WIDTH bits (36 where it
+// is left out). Prints the last answer's number (0 running, 100 finished), the count of steps and a checksum over the reports of
+// the calls of step, the bugs and the storage.
 ghost use Prim.Native.Nat.{_≤_};
 use cases::fold_words;
 use cases::left_after;

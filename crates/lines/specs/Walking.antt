@@ -12,7 +12,8 @@ use Rattle.word.specs.Told.{Told, tells}
 use Rattle.lines.specs.declared.Spot.{Spot}
 use Rattle.lines.specs.declared.Spot.the-variants.{Word, Paren, Nothing}
 use Rattle.character.specs.Character.{number}
-use Rattle.lines.specs.Words.{spelled, same, isEmpty, all, literal, modeWords, isMode, Kind, itself, field, decimal, octal, hollerith, fieldOrDecimal, fieldOrOctal, name, definition, symbol}
+use Rattle.lines.specs.Words.{spelled, same, isEmpty, all, literal, modeWords, isMode, Kind, itself, field, decimal, octal, hollerith}
+use Rattle.lines.specs.Words.{fieldOrDecimal, fieldOrOctal, name, definition, symbol}
 use Rattle.lines.specs.Forms.{Form, testForms, operationForms, fits, expanded, formOf, symbolsIn}
 use Rattle.lines.specs.Grammar.{Line, Token, word, paren}
 use Rattle.lines.specs.Reading.{split, Found, placeOf}

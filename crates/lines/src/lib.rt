@@ -1,4 +1,5 @@
-// Tours typed as L6 lines: bytes, words, arguments and the forms of Table II. What a text says, and what is refused, stands in specs/.
+// Tours typed as L6 lines: bytes, words, arguments and the forms of Table II. What a text says, and what is refused, stands in
+// specs/.
 pub mod arguments;
 pub mod fitting;
 pub mod kinds;
@@ -13,7 +14,8 @@ pub const BAD_LABEL: u64 = 24;
 
 pub const TOO_LONG: u64 = 25;
 
-// What a reading answers: the row count, refusal 31, or the refusals 23, 24 and 25, each with the line of the fault, counted from 1.
+// What a reading answers: the row count, refusal 31, or the refusals 23, 24 and 25, each with the line of the fault, counted from
+// 1.
 pub enum Read {
     Rows(u64),
     NoWidth,

@@ -4,7 +4,10 @@ use Prim.Native.Nat.{ℕ}
 use mathlib.Core.Bool.{Bool, true, false}
 use Rattle.word.specs.Told.{Told, gives, refuses}
 use Rattle.machine.specs.declared.Refusal.{Refusal}
-use Rattle.machine.specs.declared.Refusal.the-variants.{TableLength, BadRow, SetUpNumbers, InputByte, InputShort, NotADigit, DefinitionNumber, BlockSize, ZeroDivisor, CharacterCount, Unsound, BeforeSetUp, SecondSetUp, UndefinedField, NotABlock, OutsideBlock, NoRun, FieldFreed, StackFull, StackEmpty, OutputFull, SubtrahendGreater, NoWidth}
+use Rattle.machine.specs.declared.Refusal.the-variants.{TableLength, BadRow, SetUpNumbers, InputByte, InputShort, NotADigit}
+use Rattle.machine.specs.declared.Refusal.the-variants.{DefinitionNumber, BlockSize, ZeroDivisor, CharacterCount, Unsound}
+use Rattle.machine.specs.declared.Refusal.the-variants.{BeforeSetUp, SecondSetUp, UndefinedField, NotABlock, OutsideBlock, NoRun}
+use Rattle.machine.specs.declared.Refusal.the-variants.{FieldFreed, StackFull, StackEmpty, OutputFull, SubtrahendGreater, NoWidth}
 use Rattle.machine.specs.declared.Answer.{Answer}
 use Rattle.machine.specs.declared.Answer.the-variants.{Running, Finished, Refused}
 

@@ -16,12 +16,15 @@ use Rattle.block.specs.Map.{live, freshMap, freedMap, deliveredMap}
 use Rattle.table.specs.declared.FieldName.{FieldName}
 use Rattle.table.specs.declared.Row.{Row}
 use Rattle.machine.specs.declared.Refusal.{Refusal}
-use Rattle.machine.specs.declared.Refusal.the-variants.{SetUpNumbers, InputByte, InputShort, NotADigit, DefinitionNumber, BlockSize, ZeroDivisor, CharacterCount, NotABlock, NoRun, FieldFreed, StackFull, StackEmpty, OutputFull, SubtrahendGreater}
+use Rattle.machine.specs.declared.Refusal.the-variants.{SetUpNumbers, InputByte, InputShort, NotADigit, DefinitionNumber, BlockSize}
+use Rattle.machine.specs.declared.Refusal.the-variants.{ZeroDivisor, CharacterCount, NotABlock, NoRun, FieldFreed, StackFull}
+use Rattle.machine.specs.declared.Refusal.the-variants.{StackEmpty, OutputFull, SubtrahendGreater}
 use Rattle.machine.specs.declared.State.{State}
 use Rattle.machine.specs.declared.Location.{Location}
 use Rattle.machine.specs.declared.Location.the-variants.{Bug, Field}
 use Rattle.machine.specs.Answer.{Checked, refused, passed, _>>=_, _>>_, need}
-use Rattle.machine.specs.State.{undefined, testsOf, movedTo, withDefinition, withContents, withSaved, withCalls, withSetUp, withTaken, withWritten, onCore, withMap}
+use Rattle.machine.specs.State.{undefined, testsOf, movedTo, withDefinition, withContents, withSaved, withCalls, withSetUp, withTaken}
+use Rattle.machine.specs.State.{withWritten, onCore, withMap}
 use Rattle.machine.specs.Storage.{noStore}
 use Rattle.machine.specs.Sound.{Lent, Engine, inRange}
 use Rattle.machine.specs.Locate.{world, Value, liveBlocks, definitionOf, contents, locate, read, operand}

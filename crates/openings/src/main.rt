@@ -185,8 +185,8 @@ const DAYS: [u64; 12] = [
 
 const MINUTES: [u64; 12] = [0, 1439, 1440, 59, 60, 119, 120, 0, 0, 1438, 1439, 1];
 
-// The edges: a window of a whole Saturday, one of Monday from minute 60 to 120, one of Sunday from minute 1 on. Day 7 is closed, and the
-// last day of all is open in its last minute alone.
+// The edges: a window of a whole Saturday, one of Monday from minute 60 to 120, one of Sunday from minute 1 on. Day 7 is closed,
+// and the last day of all is open in its last minute alone.
 fn edge(which: u64) -> u64 {
     let windows = [5, 0, 1440, 7, 0, 60, 120, 8, 6, 1, 1440, 9];
     let exceptions = [7, 0, 0, 0, 1, 18446744073709551615, 1439, 1440, 799, 0];

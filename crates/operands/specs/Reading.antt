@@ -28,8 +28,8 @@ abbrev pub seen : List ℕ → List ℕ → SetUp → List ℕ → List ℕ → 
 seen bugs fields setup map storage =
     record { bugs = bugs; definitions = unpackedAll fields; setup = setup; map = map; storage = storage }
 
--- what is relied on, and a sound engine has: set-up numbers that fit or are absent, and so in range, a map that keeps its section, a storage that has the set-up
--- words, definitions in range, bugs below 2 ^ b
+-- what is relied on, and a sound engine has: set-up numbers that fit or are absent, and so in range, a map that keeps its section,
+-- a storage that has the set-up words, definitions in range, bugs below 2 ^ b
 pub record Readable (b : ℕ) (w : World) : Type 0 where
   pub width : b ≤ 48
   pub numbers : (fitting (length (w .storage)) (w .setup) || absent (w .setup)) ≡ true

@@ -6,8 +6,8 @@ pub mod stores;
 
 use machine::Refusal;
 
-// A location as a number: a bug by its letter; a field by its word's address, its right and its left bit, the two bits in eight bits each
-// (Locating).
+// A location as a number: a bug by its letter; a field by its word's address, its right and its left bit, the two bits in eight
+// bits each (Locating).
 pub const FIELDS: u64 = 65536;
 
 // A location and what stands there. Of a literal the location is a bug's, since both are whole words.
@@ -22,8 +22,8 @@ pub enum Linked {
     Stopped(Refusal),
 }
 
-// What a reference is followed through before it is carried out: the delivery of a block, by its address and size, with the address stored
-// at a location.
+// What a reference is followed through before it is carried out: the delivery of a block, by its address and size, with the address
+// stored at a location.
 pub struct Delivery {
     pub address: u64,
     pub size: u64,

@@ -6,12 +6,14 @@ use Rattle.character.specs.Character.{printed}
 use Rattle.block.specs.SetUp.{words}
 use Rattle.block.specs.Map.{freshMap, freedMap}
 use Rattle.machine.specs.declared.State.{State}
-use Rattle.machine.specs.State.{undefined, testsOf, theEnd, movedTo, withDefinition, withContents, withSaved, withCalls, withSetUp, withTaken, withWritten, onCore, withMap}
+use Rattle.machine.specs.State.{undefined, testsOf, theEnd, movedTo, withDefinition, withContents, withSaved, withCalls, withSetUp}
+use Rattle.machine.specs.State.{withTaken, withWritten, onCore, withMap}
 use Rattle.machine.specs.Storage.{noStore, noReport}
 use Rattle.machine.specs.Effects.{Effects, quietly, reporting, assigned, storeTo, storing}
 use Rattle.machine.specs.Operations.{delivering, andStoring}
 use Rattle.operations.specs.Deeds.{Deed}
-use Rattle.operations.specs.Deeds.{Nothing, Store, StoreTwo, SetUpWords, Define, Deliver, DeliverTwo, Free, Input, Print, Save, Restore, SaveDefinition, RestoreDefinition, Call, Return}
+use Rattle.operations.specs.Deeds.{Nothing, Store, StoreTwo, SetUpWords, Define, Deliver, DeliverTwo, Free, Input, Print, Save}
+use Rattle.operations.specs.Deeds.{Restore, SaveDefinition, RestoreDefinition, Call, Return}
 
 unfoldable pub effects : ℕ → Deed → State → Effects
 effects b Nothing s = quietly s

@@ -15,7 +15,8 @@ use Rattle.table.specs.declared.FieldName.{FieldName}
 use Rattle.table.specs.declared.Pair.{Pair}
 use Rattle.table.specs.declared.Row.{Row}
 use Rattle.machine.specs.declared.Location.{Location}
-use Rattle.machine.specs.declared.Refusal.the-variants.{SetUpNumbers, InputByte, InputShort, DefinitionNumber, BlockSize, CharacterCount, NotABlock, FieldFreed, StackFull, StackEmpty, OutputFull}
+use Rattle.machine.specs.declared.Refusal.the-variants.{SetUpNumbers, InputByte, InputShort, DefinitionNumber, BlockSize, CharacterCount}
+use Rattle.machine.specs.declared.Refusal.the-variants.{NotABlock, FieldFreed, StackFull, StackEmpty, OutputFull}
 use Rattle.machine.specs.Answer.{Checked, refused, passed, _>>=_, _>>_, need}
 use Rattle.machine.specs.Sound.{inRange}
 use Rattle.machine.specs.Locate.{World, Value, contents, read, locate, operand}
@@ -24,7 +25,8 @@ use Rattle.operands.specs.Storing.{bugsStored}
 use Rattle.operands.specs.Through.{through}
 use Rattle.operations.specs.declared.Counts.{Counts}
 use Rattle.operations.specs.Deeds.{Deed}
-use Rattle.operations.specs.Deeds.{Store, StoreTwo, SetUpWords, Define, Deliver, DeliverTwo, Free, Input, Print, Save, Restore, SaveDefinition, RestoreDefinition, Call}
+use Rattle.operations.specs.Deeds.{Store, StoreTwo, SetUpWords, Define, Deliver, DeliverTwo, Free, Input, Print, Save, Restore}
+use Rattle.operations.specs.Deeds.{SaveDefinition, RestoreDefinition, Call}
 use Rattle.operations.specs.Seen.{Sight}
 
 -- 1 set up, in a storage of this length: 3

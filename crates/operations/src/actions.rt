@@ -7,7 +7,8 @@ ghost use Rattle.table.specs.Reference.{isReference};
 ghost use Rattle.table.specs.Row.{asRow};
 ghost use Rattle.operands.specs.Locating.{located, bitsAt};
 ghost use Rattle.operands.specs.Reading.{seen, valued, Readable, Reached, Taken};
-ghost use Rattle.operations.specs.Plans.{setUpPlan, defining, definePlan, taking, storing, acting, twoPlan, swapPlan, printing};
+ghost use Rattle.operations.specs.Plans.{setUpPlan, defining, definePlan, taking, storing, acting, twoPlan, swapPlan};
+ghost use Rattle.operations.specs.Plans.{printing};
 ghost use Rattle.operations.specs.Plans.{printPlan, contentsPlan, recordPlan, valueBy, Computes, Acts};
 ghost use Rattle.machine.specs.Answer.{told};
 ghost use Rattle.machine.specs.Locate.{contents};
@@ -233,7 +234,8 @@ pub fn plan_two(
         × (known .counts .taken ≤ length (now input)) × Acts (asRow (now row) .code)
         × (isReference (asRow (now row) .first .value) ≡ true)
         × Taken (known .b) (asRow (now row) .second)
-        × ((asRow (now row) .third .form ≡ 0 → ⊥) → isReference (asRow (now row) .third .value) ≡ true) × (10 ≤ length (now row)) ⌝ }
+        × ((asRow (now row) .third .form ≡ 0 → ⊥) → isReference (asRow (now row) .third .value) ≡ true)
+        × (10 ≤ length (now row)) ⌝ }
     ensures { λ r. ⌜ toldPlanned r ≡ told (twoPlan (known .b)
         (seenBy known (now (bugs .entry)) (now (fields .entry)) (now (map .entry)) (now (storage .entry)))
         (known .counts .taken) (now (input .entry)) (asRow (now (row .entry)))) ⌝ }

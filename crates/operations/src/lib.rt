@@ -19,8 +19,8 @@ pub struct Counts {
     pub written: usize,
 }
 
-// What a plan knows besides what it is lent: the bits of a word, the set-up numbers, how far stacks, input and output are used, how long
-// the output is, and whether the table is judged well-formed.
+// What a plan knows besides what it is lent: the bits of a word, the set-up numbers, how far stacks, input and output are used, how
+// long the output is, and whether the table is judged well-formed.
 pub struct Known {
     pub b: u64,
     pub setup: SetUp,

@@ -121,7 +121,6 @@ fn plan_ordered(
 // The step of an operation: refusal 2, then its action and the place after it.
 fn plan_operation(
     known: Known,
-    place: Place,
     bugs: &[u64; 26],
     fields: &[u32; 36],
     map: &[u8; 4096],
@@ -129,6 +128,7 @@ fn plan_operation(
     entries: &[u64; 128],
     input: &[u8],
     table: &[u64],
+    place: Place,
 ) -> Step
     requires { ⌜ Ready (known .b) (sees known (now bugs) (now fields) (now map) (now storage) (now entries) (now input))
         × (lengthFits (now table) ≡ true) × (known .judged ≡ true → checked (known .b) (now table) ≡ Lowest 0) ⌝ }
@@ -203,7 +203,6 @@ pub fn plan_step(
         machine::AT_TESTS => plan_tests(known, place.line, bugs, fields, map, storage, table),
         machine::AT_OPERATION => plan_operation(
             known,
-            place,
             bugs,
             fields,
             map,
@@ -211,6 +210,7 @@ pub fn plan_step(
             entries,
             input,
             table,
+            place,
         ),
         _ => plan_exit(known, place.line, table),
     }

@@ -11,8 +11,8 @@ use defined::check_fields;
 // The refusal of a row that names a row of the wrong kind.
 const WRONG_KIND: u64 = 30;
 
-// Whether each field of a table of words of width bits is defined before it is used; otherwise what is wrong, with its row, and of a field its name
-// number.
+// Whether each field of a table of words of width bits is defined before it is used; otherwise what is wrong, with its row, and of
+// a field its name number.
 #[no_mangle]
 pub extern "C" fn l6_defined(width: u64, table: &[u64], row: &mut u64, field: &mut u64) -> u64
     ensures { λ r. ⌜ record { answer = r; row = now (row .exit); field = now (field .exit) }

@@ -19,7 +19,9 @@ ghost use Rattle.machine.specs.State.{fresh as freshState};
 ghost use Rattle.machine.specs.Step.{step as stepOf, run as runOf};
 ghost use Rattle.machine.specs.Storage.{placed};
 ghost use Rattle.layout.specs.Layout.{stateLength, bytesOfState, stateOf};
-ghost use Rattle.player.specs.Calls.{version, code, moved, numbersOfStore, numbersOfReport, engineAt, freshLeft, unreported as unreportedOf, stepLeaves, stepLeft, runLeaves, runLeft, checkLeft, stateFault, countsLeft, blocksLeft};
+ghost use Rattle.player.specs.Calls.{version, code, moved, numbersOfStore, numbersOfReport, engineAt, freshLeft};
+ghost use Rattle.player.specs.Calls.{unreported as unreportedOf, stepLeaves, stepLeft, runLeaves, runLeft, checkLeft};
+ghost use Rattle.player.specs.Calls.{stateFault, countsLeft, blocksLeft};
 use engine::answers::refusal_number;
 use engine::fresh;
 use engine::run;
@@ -45,8 +47,8 @@ use word::is_width;
 // How many numbers a report has.
 const REPORT: usize = 12;
 
-// Answers that are no refusal of a paper: finished, a state, a report or a list of a wrong length, closed, a field that is not defined,
-// an ill-formed row.
+// Answers that are no refusal of a paper: finished, a state, a report or a list of a wrong length, closed, a field that is not
+// defined, an ill-formed row.
 const FINISHED: u64 = 100;
 
 const STATE_LENGTH: u64 = 101;

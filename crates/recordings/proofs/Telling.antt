@@ -97,7 +97,8 @@ module _ (xs output : List ℕ) where
       by-checks : (l h r : Bool) (n : ℕ) (after : List ℕ)
           → toldWritten
           (cond l
-          (cond h (record { answer = RowTwice; output = output }) (cond {A = Left} r (record { answer = Count n; output = after }) (record { answer = OutputShort; output = output })))
+          (cond h (record { answer = RowTwice; output = output })
+          (cond {A = Left} r (record { answer = Count n; output = after }) (record { answer = OutputShort; output = output })))
           (record { answer = BadList; output = output })
           .answer)
           ≡ cond l (cond h (refuses 27) (cond r (gives n) (refuses 28))) (refuses 26)

@@ -175,8 +175,8 @@ fn no_pairs() -> [u64; 2048]
     [0u64; 2048]
 }
 
-// Whether there is room for the stops of a chain with more than 1,023, which are counted only where the chain has more rows than there is
-// room for: in the order of their numbers, by a pass for each.
+// Whether there is room for the stops of a chain with more than 1,023, which are counted only where the chain has more rows than
+// there is room for: in the order of their numbers, by a pass for each.
 fn has_room(list: &[u64], steps: usize, room: usize) -> bool
     requires { ⌜ Walked (now list) steps × (1023 < length (allStanding (now list))) ⌝ }
     ensures { λ r. ⌜ r ≡ leb (length (allStanding (now (list .entry)))) room ⌝ }

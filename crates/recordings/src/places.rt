@@ -137,8 +137,8 @@ pub fn put_head(heads: &mut [u32], size: usize, output: &mut [u64], chain: usize
     put_second(output, chain, head * HALF + second % HALF);
 }
 
-// The place of a stop along the chain of its remainder, from the head back from place to place by the links; each is one more than a place,
-// and 0 at the end. Where there are more pairs than 32 bits can tell, all are looked through.
+// The place of a stop along the chain of its remainder, from the head back from place to place by the links; each is one more than
+// a place, and 0 at the end. Where there are more pairs than 32 bits can tell, all are looked through.
 pub fn find(
     list: &[u64],
     heads: &[u32],

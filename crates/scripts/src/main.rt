@@ -1,5 +1,5 @@
-// The reader of typed lines tried on the texts of the input, which reference/scripts.rs wrote with the lines that must be printed: what
-// it says of each labelled text, then a checksum over all answers and all of each table, and how often each answer came up.
+// The reader of typed lines tried on the texts of the input, which reference/scripts.rs wrote with the lines that must be printed:
+// what it says of each labelled text, then a checksum over all answers and all of each table, and how often each answer came up.
 ghost use Prim.Native.Nat.{_≤_};
 ghost use lib.ListN.{length};
 use lines::Read;

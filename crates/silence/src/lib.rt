@@ -6,7 +6,8 @@ ghost use mathlib.Core.Path.{_≡_};
 ghost use Prim.Native.Nat.{_+_, _≤_, _<_};
 ghost use lib.ListN.{length, drop, set};
 ghost use Rattle.recordings.specs.Recordings.{member};
-ghost use Rattle.silence.specs.Silence.{hasRecording, testOf, testAt, chosen, silent, repeated, telling, toldListed, tellingTold, Tells};
+ghost use Rattle.silence.specs.Silence.{hasRecording, testOf, testAt, chosen, silent, repeated, telling, toldListed};
+ghost use Rattle.silence.specs.Silence.{tellingTold, Tells};
 
 // What a call answers: how many stops it wrote, or that its output is too short for them: refusal 28.
 pub enum Listed {
@@ -120,7 +121,8 @@ fn put_picked(asked: Asked, stops: &[u64], pairs: &[u64], output: &mut [u64])
     }
 }
 
-// Writes the stops asked for, in the order of the list, and counts them; refusal 28 where the output is too short, which then stays.
+// Writes the stops asked for, in the order of the list, and counts them; refusal 28 where the output is too short, which then
+// stays.
 fn write_picked(asked: Asked, stops: &[u64], pairs: &[u64], output: &mut [u64]) -> Listed
     ensures { λ r. ⌜ Tells (chosen asked (now (pairs .entry)) (now (stops .entry))) (now (output .entry)) r (now (output .exit)) ⌝ }
 {
@@ -132,8 +134,8 @@ fn write_picked(asked: Asked, stops: &[u64], pairs: &[u64], output: &mut [u64]) 
     Listed::Count(count)
 }
 
-// Writes each stop of a list that no pair with a recording has, in the order of the list and as often as it stands there, and counts
-// them: refusal 28. Numbers past those written stay.
+// Writes each stop of a list that no pair with a recording has, in the order of the list and as often as it stands there, and
+// counts them: refusal 28. Numbers past those written stay.
 pub fn write_silent(stops: &[u64], pairs: &[u64], output: &mut [u64]) -> Listed
     ensures { λ r. ⌜ record { answer = r; output = now (output .exit) }
         ≡ telling (silent (now (pairs .entry)) (now (stops .entry))) (now (output .entry)) ⌝ }

@@ -11,8 +11,8 @@ use crate::numbers::write_text;
 use machine::Store;
 use std::num;
 
-// How many counts there are for a width: 36 operations, then from 36 on tests, from 50 modes, from 59 refusals, from 81 set-ups, from 89
-// stores, from 93 refusal 17 without and with free blocks, and 95 refusal 31.
+// How many counts there are for a width: 36 operations, then from 36 on tests, from 50 modes, from 59 refusals, from 81 set-ups,
+// from 89 stores, from 93 refusal 17 without and with free blocks, and 95 refusal 31.
 pub const COUNTS: usize = 96;
 
 // Where the map starts and ends among a state's bytes.

@@ -21,7 +21,8 @@ fn read_numbers(bytes: &[u8], n: usize, table: &mut [u64])
     }
 }
 
-// The table of a file's bytes, put at the start of the numbers lent. Returns how many numbers it has: none where the file is no table.
+// The table of a file's bytes, put at the start of the numbers lent. Returns how many numbers it has: none where the file is no
+// table.
 pub fn read_table(tab: &[u8], table: &mut [u64]) -> usize
     requires { ⌜ 8000 ≤ length (now table) ⌝ }
     ensures { λ r. ⌜ r ≡ length (tableOf (now (tab .entry))) ⌝ }

@@ -1,5 +1,5 @@
-// tourlist: reads tour.tab and stops.in, runs the tour as tourrun does, and lists what it leaves: set-up, bugs, fields, blocks, stacks. What it
-// prints is proved of what it reads (crate inventory).
+// tourlist: reads tour.tab and stops.in, runs the tour as tourrun does, and lists what it leaves: set-up, bugs, fields, blocks,
+// stacks. What it prints is proved of what it reads (crate inventory).
 use files::read_file;
 use inventory::LISTING;
 use inventory::list_tour;

@@ -10,7 +10,8 @@ ghost use Rattle.lines.specs.Program.{goToRow, rowsFrom, numbersOf, rowCount, t
 ghost use Rattle.faults.specs.Checking.{lineAt, lineRead};
 ghost use Rattle.faults.specs.Places.{linesIn, sizeOf};
 ghost use Rattle.faults.specs.Names.{labelRow, Ready};
-ghost use Rattle.typed.specs.Putting.{putRows, isGroup, groupRow, groupRows, lineNumbers, lineRows, readRows, zeroRow, Grouped, Laid, Roomy};
+ghost use Rattle.typed.specs.Putting.{putRows, isGroup, groupRow, groupRows, lineNumbers, lineRows, readRows, zeroRow};
+ghost use Rattle.typed.specs.Putting.{Grouped, Laid, Roomy};
 use crate::Group;
 use crate::pairs;
 use faults::Scan;

@@ -46,8 +46,8 @@ pub fn kept_bits(left: u64, right: u64, v: u64) -> u64
     low_bits(width(left, right), v)
 }
 
-// The word w with the rightmost n bits of v at the n places that have s places right of them: what stood there is taken away, and what is
-// kept is added. For n = 0 the weight 2^n is 1, so nothing is taken away and nothing kept.
+// The word w with the rightmost n bits of v at the n places that have s places right of them: what stood there is taken away, and
+// what is kept is added. For n = 0 the weight 2^n is 1, so nothing is taken away and nothing kept.
 pub fn store_bits(s: u64, n: u64, w: u64, v: u64) -> u64
     requires { ⌜ n + s < 64 ⌝ }
     ensures { λ r. ⌜ r ≡ storedIn n s w v ⌝ }

@@ -49,7 +49,8 @@ returns-4 : tie.Need-returns-4 Inv-loop μ-loop
 returns-4 c =
     let at-stop = c .before .before in
     let at-next-stop = at-stop .before .before in
-    sym (room-short _ _ _ _ (rw (at-stop .stop .given .1) at (least-is _ _ _ (at-next-stop .next-stop .ensures))) (c .if3 .taken)) ∙ at-next-stop .before .loop .inv
+    let least = rw (at-stop .stop .given .1) at (least-is _ _ _ (at-next-stop .next-stop .ensures)) in
+    sym (room-short _ _ _ _ least (c .if3 .taken)) ∙ at-next-stop .before .loop .inv
 
 sub-left : tie.Need-sub-left Inv-loop μ-loop
 sub-left c = search needs
