@@ -1,4 +1,4 @@
--- `character::line_ends` meets its contract. Assumes nothing.
+-- `character::line_ends` meets its contract: n characters of octal 77 are packed as 64^n - 1 (`ends-packed`). Assumes nothing.
 use mathlib.Core.Path.{sym, ap, _∙_}
 use Prim.Native.Nat.{ℕ, _-_}
 use native.Mathlib.Nat.{one-le-pow}

@@ -1,4 +1,5 @@
--- `columns::groups_of` meets its contract. Assumes nothing.
+-- `columns::groups_of` meets its contract: quotient and rounded-up remainder come to the definition's quotient, by arithmetic.
+-- Assumes nothing.
 use native.Mathlib.Omega.{arith}
 use Rattle.columns.specs.Columns.{groupsOf}
 use borrow.Author.Needs.{needs}

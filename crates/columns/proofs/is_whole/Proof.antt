@@ -1,4 +1,5 @@
--- `columns::is_whole` meets its contract. Assumes nothing.
+-- `columns::is_whole` meets its contract: remainder and quotient together tell whether a number is b times the groups (`whole-is`).
+-- Assumes nothing.
 use Rattle.columns.proofs.Calls.{whole-is}
 use borrow.Author.Needs.{needs}
 use Rattle.columns.proofs.is_whole.Statement.{statement}

@@ -1,4 +1,5 @@
--- `columns::spread` meets its contract. Assumes nothing.
+-- `columns::spread` meets its contract: each of the 256 bytes comes out as the definition has it, by computing (`spread-is`), and no sum
+-- leaves 64 bits. Assumes nothing.
 use native.Mathlib.Omega.{arith}
 use Prim.Native.Nat.{_*_}
 use lib.Bits.{and-le-r}

@@ -1,4 +1,5 @@
--- `columns::word_at` meets its contract. Assumes nothing.
+-- `columns::word_at` meets its contract: the row read is the word that the turned groups have at that place (`number-of`), and lies inside
+-- the bytes (`made-inside`). Assumes nothing.
 use mathlib.Core.Path.{sym, _∙_}
 use native.Mathlib.Omega.{arith}
 use Rattle.columns.proofs.Places.{made-inside, number-of}

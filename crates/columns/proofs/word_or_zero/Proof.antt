@@ -1,4 +1,4 @@
--- `columns::word_or_zero` meets its contract. Assumes nothing.
+-- `columns::word_or_zero` meets its contract: the word itself inside the list, and zero past its end (`past-end`). Assumes nothing.
 use Prim.Native.Nat.{_+_}
 use mathlib.Core.Path.{sym}
 use native.Mathlib.Omega.{arith}

@@ -1,4 +1,5 @@
--- `comparison::main` meets its contract. Assumes nothing.
+-- `comparison::main` meets its contract: the array has its full length, and what was read lies in it, so the part lent does.
+-- Assumes nothing.
 use mathlib.Core.Path.{sym}
 use Prim.Native.Nat.{ℕ}
 use lib.ListN.{length-replicate}

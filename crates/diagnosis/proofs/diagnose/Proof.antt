@@ -1,4 +1,5 @@
--- `diagnosis::diagnose` meets its contract. Assumes nothing.
+-- `diagnosis::diagnose` meets its contract: what was read is the file's table (`table-read`), which fits the array (`table-most`); the rest
+-- are the calls' answers. Assumes nothing.
 use native.Mathlib.Omega.{arith}
 use Prim.Native.Nat.{_≤_}
 use mathlib.Core.Path.{_≡_, sym, ap, _∙_}

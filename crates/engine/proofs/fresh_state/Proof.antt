@@ -1,4 +1,4 @@
--- `engine::fresh_state` meets its contract. Assumes nothing.
+-- `engine::fresh_state` meets its contract: the state built is the definition's own text. Assumes nothing.
 use mathlib.Core.Path.{refl}
 use Rattle.machine.specs.State.{testsOf, undefined, noSetUp, fresh}
 use borrow.Author.Needs.{needs}

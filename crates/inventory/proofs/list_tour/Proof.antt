@@ -1,4 +1,5 @@
--- `inventory::list_tour` meets its contract. Assumes nothing.
+-- `inventory::list_tour` meets its contract: what is put is the listing of what the run leaves, which is the definition (`puts-as`).
+-- Assumes nothing.
 use mathlib.Core.Path.{refl, ap}
 use Rattle.machine.specs.Step.{RunOutcome}
 use Rattle.inventory.specs.Inventory.{listing, printed}

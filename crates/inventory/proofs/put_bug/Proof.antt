@@ -1,4 +1,5 @@
--- `inventory::put_bug` meets its contract. Assumes nothing.
+-- `inventory::put_bug` meets its contract: a zero word puts nothing (`puts-none`), and another its parts, the last first (`puts-join`), in
+-- at most 96 bytes. Assumes nothing.
 use mathlib.Core.List.{_∷_, []}
 use native.Mathlib.Omega.{arith}
 use borrow.Author.Tests.{eq-eqb, ne-eqb}

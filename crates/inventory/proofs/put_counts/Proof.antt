@@ -1,4 +1,4 @@
--- `inventory::put_counts` meets its contract. Assumes nothing.
+-- `inventory::put_counts` meets its contract: the line put is the definition's, and has room in 96 bytes (`puts-wider`). Assumes nothing.
 use native.Mathlib.Omega.{arith}
 use Rattle.diagnosis.specs.Diagnosis.{spelled}
 use Rattle.inventory.specs.Inventory.{countsLine}

@@ -1,4 +1,5 @@
--- `inventory::put_definition` meets its contract. Assumes nothing.
+-- `inventory::put_definition` meets its contract. Each branch is one case of the definition, undefined or defined, in at most 96 bytes
+-- (`puts-wider`). Assumes nothing.
 use native.Mathlib.Omega.{arith}
 use borrow.Author.Tests.{not-true, not-false}
 use Rattle.diagnosis.specs.Diagnosis.{spelled}

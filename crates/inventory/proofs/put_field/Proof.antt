@@ -1,4 +1,5 @@
--- `inventory::put_field` meets its contract. Assumes nothing.
+-- `inventory::put_field` meets its contract: a field not defined puts nothing (`puts-none`), and another its parts, the last first
+-- (`puts-join`), in at most 96 bytes. Assumes nothing.
 use mathlib.Core.List.{_∷_, []}
 use native.Mathlib.Omega.{arith}
 use borrow.Author.Tests.{not-true, not-false}

@@ -1,4 +1,4 @@
--- `inventory::put_saved` meets its contract. Assumes nothing.
+-- `inventory::put_saved` meets its contract: its two parts, the last first (`puts-join`), in at most 96 bytes. Assumes nothing.
 use native.Mathlib.Omega.{arith}
 use Rattle.diagnosis.specs.Diagnosis.{spelled}
 use Rattle.inventory.specs.Inventory.{savedText}

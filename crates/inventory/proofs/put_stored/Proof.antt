@@ -1,4 +1,5 @@
--- `inventory::put_stored` meets its contract. Assumes nothing.
+-- `inventory::put_stored` meets its contract: its two parts, the last first (`puts-join`), of the address and the owner that the calls
+-- answer. Assumes nothing.
 use native.Mathlib.Omega.{arith}
 use Rattle.inventory.specs.Inventory.{storedText}
 use Rattle.inventory.proofs.Pieces.{puts-join, puts-room, puts-wider}

@@ -1,4 +1,4 @@
--- `listing::are_blocks` meets its contract. Assumes nothing.
+-- `listing::are_blocks` meets its contract: the three calls' answers joined are the definition. Assumes nothing.
 use Rattle.listing.specs.Listing.{areBlocks}
 use borrow.Author.Needs.{needs}
 use Rattle.listing.proofs.are_blocks.Statement.{statement}

@@ -1,4 +1,4 @@
--- `listing::is_wanted` meets its contract. Assumes nothing.
+-- `listing::is_wanted` meets its contract. Each branch is one case of the definition: an even tag or an odd one. Assumes nothing.
 use borrow.Author.Tests.{eq-eqb, ne-eqb}
 use Rattle.listing.specs.Listing.{wanted}
 use Rattle.listing.proofs.is_wanted.Statement.{statement}

@@ -1,4 +1,5 @@
--- `listing::put_block` meets its contract. Assumes nothing.
+-- `listing::put_block` meets its contract: two numbers set one after the other are the pair placed (`pair-put`), and nothing placed changes
+-- nothing (`placed-none`). Assumes nothing.
 use native.Mathlib.Omega.{arith}
 use Prim.Native.Nat.{_+_, _≤_}
 use native.Mathlib.Nat.{add-zero}

@@ -1,4 +1,5 @@
--- `player::has_moved` meets its contract. Assumes nothing.
+-- `player::has_moved` meets its contract. Each return is one case of the definition: a count that is not one, a finished engine, or one
+-- step, by its answer. Assumes nothing.
 use Rattle.player.specs.Calls.{isRefused}
 use Rattle.player.proofs.Moving.{moved-many, moved-finished, moved-one}
 use borrow.Author.Needs.{needs}

@@ -1,4 +1,5 @@
--- `player::keep_state` meets its contract. Assumes nothing.
+-- `player::keep_state` meets its contract: where nothing moved nothing is written (`not-written`), and otherwise the state's bytes, from
+-- which it comes back (`written`). Assumes nothing.
 use Rattle.word.proofs.Tests.{known-true, known-false}
 use Rattle.player.proofs.Moving.{not-written, written}
 use borrow.Author.Needs.{needs}

@@ -1,4 +1,5 @@
--- `player::l6_count_blocks` meets its contract. Assumes nothing.
+-- `player::l6_count_blocks` meets its contract. Each return is one case of the definition: a faulty state, a list of a wrong length,
+-- unsound blocks, or the two counts. Assumes nothing.
 use native.Mathlib.Omega.{arith}
 use mathlib.Core.Path.{sym, _∙_}
 use Rattle.word.proofs.Tests.{known-true, known-false}

@@ -1,4 +1,5 @@
--- `player::l6_fresh` meets its contract. Assumes nothing.
+-- `player::l6_fresh` meets its contract. Each return is one case of the definition: no width, a wrong length, or the fresh state's bytes,
+-- from which it comes back. Assumes nothing.
 use mathlib.Core.Path.{sym, _∙_, ap}
 use Rattle.word.proofs.Tests.{known-true, known-false}
 use Rattle.layout.specs.Layout.{stateOf}

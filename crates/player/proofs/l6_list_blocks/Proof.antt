@@ -1,4 +1,5 @@
--- `player::l6_list_blocks` meets its contract. Assumes nothing.
+-- `player::l6_list_blocks` meets its contract. Each return is one case of the definition: a faulty state, unsound blocks, a list of a wrong
+-- length, or the blocks. Assumes nothing.
 use native.Mathlib.Omega.{arith}
 use mathlib.Core.Path.{sym, _∙_, refl}
 use Rattle.word.proofs.Tests.{known-true, known-false}

@@ -1,4 +1,5 @@
--- `player::l6_run` meets its contract. Assumes nothing.
+-- `player::l6_run` meets its contract: a state of a wrong length changes nothing (`run-short`), and another is run (`run-leaves`) and comes
+-- back from its bytes (`run-told`). Assumes nothing.
 use Rattle.player.specs.Calls.{noRun}
 use Rattle.player.proofs.Leaving.{run-short, run-leaves, run-told}
 use borrow.Author.Needs.{needs}

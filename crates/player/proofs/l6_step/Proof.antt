@@ -1,4 +1,5 @@
--- `player::l6_step` meets its contract. Assumes nothing.
+-- `player::l6_step` meets its contract: a state or report of a wrong length changes nothing (`step-short`, `step-unreported`), and
+-- otherwise a step is made (`step-leaves`) whose state comes back from its bytes (`step-told`). Assumes nothing.
 use Rattle.player.specs.Calls.{noStep}
 use Rattle.player.proofs.Leaving.{step-short, step-unreported, step-leaves, step-told}
 use borrow.Author.Needs.{needs}

@@ -1,4 +1,4 @@
--- `player::l6_version` meets its contract. Assumes nothing.
+-- `player::l6_version` meets its contract: the number is the definition's own text. Assumes nothing.
 use mathlib.Core.Path.{refl}
 use Rattle.player.proofs.l6_version.Statement.{statement}
 use Rattle.player.proofs.l6_version.Tie as tie

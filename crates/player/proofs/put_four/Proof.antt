@@ -1,4 +1,4 @@
--- `player::put_four` meets its contract. Assumes nothing.
+-- `player::put_four` meets its contract: four numbers set one after the other (`one`) stand in a row (`four-row`). Assumes nothing.
 use native.Mathlib.Omega.{arith}
 use Prim.Native.Nat.{_+_}
 use mathlib.Core.List.{[], _∷_}

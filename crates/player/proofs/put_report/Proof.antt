@@ -1,4 +1,5 @@
--- `player::put_report` meets its contract. Assumes nothing.
+-- `player::put_report` meets its contract: three parts of four numbers stand in a row (`three-row`), which is all of the twelve (`whole`).
+-- Assumes nothing.
 use native.Mathlib.Omega.{arith}
 use mathlib.Core.List.{[], _∷_}
 use mathlib.Core.Path.{refl, sym, _∙_}

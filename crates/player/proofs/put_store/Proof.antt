@@ -1,4 +1,4 @@
--- `player::put_store` meets its contract. Assumes nothing.
+-- `player::put_store` meets its contract: the four numbers put are the store's, as the definition has them. Assumes nothing.
 use Rattle.player.specs.Calls.{numbersOfStore}
 use borrow.Author.Needs.{needs}
 use Rattle.player.proofs.put_store.Statement.{statement}

@@ -1,4 +1,4 @@
--- `recordings::no_heads` meets its contract. Assumes nothing.
+-- `recordings::no_heads` meets its contract: heads that are all zero are heads of no chains (`fresh`). Assumes nothing.
 use native.Mathlib.Omega.{arith}
 use Rattle.recordings.proofs.Links.{fresh}
 use borrow.Author.Needs.{needs}

@@ -1,4 +1,4 @@
--- `recordings::note` meets its contract. Assumes nothing.
+-- `recordings::note` meets its contract: the heads it makes are as `note_standing` asks, which answers what is asked. Assumes nothing.
 use mathlib.Core.Path.{sym}
 use borrow.Author.Needs.{needs}
 use Rattle.recordings.proofs.note.Statement.{statement}

@@ -1,4 +1,4 @@
--- `recordings::put_row` meets its contract. Assumes nothing.
+-- `recordings::put_row` meets its contract: the pair put is made of the two numbers read, as the definition has it. Assumes nothing.
 use native.Mathlib.Omega.{arith}
 use borrow.Author.Needs.{needs}
 use Rattle.recordings.proofs.put_row.Statement.{statement}

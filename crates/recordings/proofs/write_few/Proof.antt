@@ -1,4 +1,5 @@
--- `recordings::write_few` meets its contract. Assumes nothing.
+-- `recordings::write_few` meets its contract: many stops (`many-tells`), or few (`few-tells`): then the output is short (`output-short`),
+-- or all is written (`all-written`). Assumes nothing.
 use Prim.Native.Nat.{ℕ, _/_, _≤_}
 use mathlib.Core.List.{List}
 use mathlib.Core.Path.{refl, sym}

@@ -1,4 +1,4 @@
--- `silence::counted` meets its contract. Assumes nothing.
+-- `silence::counted` meets its contract. Each branch is one case of what is asked. Assumes nothing.
 use borrow.Author.Needs.{needs}
 use Rattle.silence.proofs.counted.Statement.{statement}
 use Rattle.silence.proofs.counted.Tie as tie

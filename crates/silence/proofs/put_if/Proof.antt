@@ -1,4 +1,4 @@
--- `silence::put_if` meets its contract. Assumes nothing.
+-- `silence::put_if` meets its contract. Each branch is one case of what is asked; there is room where something is put. Assumes nothing.
 use borrow.Author.Tests.{not-true, not-false}
 use borrow.Author.Needs.{needs}
 use Rattle.silence.proofs.put_if.Statement.{statement}

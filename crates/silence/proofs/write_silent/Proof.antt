@@ -1,4 +1,4 @@
--- `silence::write_silent` meets its contract. Assumes nothing.
+-- `silence::write_silent` meets its contract: what `write_picked` answers of silent stops is what is asked. Assumes nothing.
 use borrow.Author.Needs.{needs}
 use Rattle.silence.proofs.write_silent.Statement.{statement}
 use Rattle.silence.proofs.write_silent.Tie as tie

@@ -1,4 +1,4 @@
--- `soundness::is_definition` meets its contract. Assumes nothing.
+-- `soundness::is_definition` meets its contract: its tests joined are the definition. Assumes nothing.
 use borrow.Author.Needs.{needs}
 use Rattle.machine.specs.Sound.{isDefinition, inRange}
 use Rattle.soundness.proofs.is_definition.Statement.{statement}

@@ -1,4 +1,4 @@
--- `soundness::is_place` meets its contract. Assumes nothing.
+-- `soundness::is_place` meets its contract: the two calls' answers joined are the definition. Assumes nothing.
 use borrow.Author.Needs.{needs}
 use Rattle.machine.specs.Sound.{isPlace}
 use Rattle.soundness.proofs.is_place.Statement.{statement}

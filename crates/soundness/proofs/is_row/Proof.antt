@@ -1,4 +1,4 @@
--- `soundness::is_row` meets its contract. Assumes nothing.
+-- `soundness::is_row` meets its contract: its two tests joined are the definition. Assumes nothing.
 use borrow.Author.Needs.{needs}
 use Rattle.machine.specs.Sound.{isRow}
 use Rattle.soundness.proofs.is_row.Statement.{statement}

@@ -1,4 +1,4 @@
--- `soundness::is_sound_place` meets its contract. Assumes nothing.
+-- `soundness::is_sound_place` meets its contract: the call's answer and its own tests joined are the definition. Assumes nothing.
 use borrow.Author.Needs.{needs}
 use Rattle.machine.specs.State.{isFinished}
 use Rattle.machine.specs.Sound.{soundPlace}

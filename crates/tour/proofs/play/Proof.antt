@@ -1,4 +1,5 @@
--- `tour::play` meets its contract. Assumes nothing.
+-- `tour::play` meets its contract: what is printed is that of the run (`printed-is`), and the codes written lie in the output
+-- (`written-fits`). Assumes nothing.
 use native.Mathlib.Omega.{arith}
 use mathlib.Core.Path.{_≡_, refl, sym}
 use lib.ListN.{length, length-take}

@@ -1,4 +1,5 @@
--- `tour::run_tour` meets its contract. Assumes nothing.
+-- `tour::run_tour` meets its contract: the run is that of the table and the stops that were read (`run-played`), and the table fits its
+-- array (`table-most`). Assumes nothing.
 use native.Mathlib.Omega.{arith}
 use mathlib.Core.Path.{_≡_, sym}
 use lib.ListN.{length, replicate}

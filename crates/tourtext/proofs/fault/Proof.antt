@@ -1,4 +1,4 @@
--- `tourtext::fault` meets its contract. Assumes nothing.
+-- `tourtext::fault` meets its contract: the line put is the fault's, before place 128, which is the end of the text. Assumes nothing.
 use Prim.Native.Nat.{ℕ}
 use native.Mathlib.Omega.{arith}
 use mathlib.Core.Path.{_≡_, refl, ap, _∙_}

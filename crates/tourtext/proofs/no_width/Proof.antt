@@ -1,4 +1,4 @@
--- `tourtext::no_width` meets its contract. Assumes nothing.
+-- `tourtext::no_width` meets its contract: the line put is the definition's, byte for byte. Assumes nothing.
 use Rattle.lines.specs.Words.{spelled}
 use Rattle.tourtext.specs.Translation.{widthLine}
 use mathlib.Core.Path.{refl}

@@ -1,4 +1,5 @@
--- `tourtext::put_meaning` meets its contract. Assumes nothing.
+-- `tourtext::put_meaning` meets its contract. Each return is one case of the definition: 23, 24 or another; none of the three texts passes
+-- 80 bytes. Assumes nothing.
 use native.Mathlib.Omega.{arith}
 use borrow.Author.Tests.{eq-eqb, ne-eqb}
 use Rattle.lines.specs.Words.{spelled}

@@ -1,4 +1,5 @@
--- `tourtext::put_rows` meets its contract. Assumes nothing.
+-- `tourtext::put_rows` meets its contract: 10 numbers a row are 80 bytes a row (`filed-long`), which fit the buffer (`rows-within`).
+-- Assumes nothing.
 use Prim.Native.Nat.{ℕ, _*_}
 use native.Mathlib.Omega.{arith}
 use mathlib.Core.Path.{_≡_, sym, ap, _∙_}

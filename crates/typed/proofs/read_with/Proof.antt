@@ -1,4 +1,5 @@
--- `typed::read_with` meets its contract. Assumes nothing.
+-- `typed::read_with` meets its contract: the labels that `learn` put by are known in the parts lent (`known-parts`), so `read_known`
+-- answers what is asked. Assumes nothing.
 use native.Mathlib.Omega.{arith}
 use mathlib.Core.Path.{_≡_, ap₂, sym, subst, _∙_}
 use mathlib.Core.List.{List}

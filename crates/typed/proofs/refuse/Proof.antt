@@ -1,4 +1,4 @@
--- `typed::refuse` meets its contract. Assumes nothing.
+-- `typed::refuse` meets its contract. Each return is one case of the definition: 23, 24 or another. Assumes nothing.
 use borrow.Author.Tests.{eq-eqb, ne-eqb}
 use Rattle.lines.specs.Program.{refused}
 use borrow.Author.Needs.{needs}

@@ -1,4 +1,4 @@
--- `word::is_width` meets its contract. Assumes nothing.
+-- `word::is_width` meets its contract: the answer is the definition's own text. Assumes nothing.
 use mathlib.Core.Path.{refl}
 use Rattle.word.specs.Word.{isWidth}
 use borrow.Author.Needs.{needs}

@@ -1,4 +1,4 @@
--- `buddy::setup::is_absent` meets its contract. Assumes nothing.
+-- `buddy::setup::is_absent` meets its contract: its three tests joined are the definition. Assumes nothing.
 use borrow.Author.Needs.{needs}
 use Rattle.block.specs.SetUp.{absent}
 use Rattle.buddy.proofs.setup.is_absent.Statement.{statement}

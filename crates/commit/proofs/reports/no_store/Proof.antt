@@ -1,4 +1,4 @@
--- `commit::reports::no_store` meets its contract. Assumes nothing.
+-- `commit::reports::no_store` meets its contract: the answer is the definition's own text. Assumes nothing.
 use mathlib.Core.Path.{refl}
 use Rattle.machine.specs.Storage.{noStore}
 use borrow.Author.Needs.{needs}

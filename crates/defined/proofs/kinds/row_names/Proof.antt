@@ -1,4 +1,5 @@
--- `defined::kinds::row_names` meets its contract. Assumes nothing.
+-- `defined::kinds::row_names` meets its contract. Each return is one case of the definition: a next row of another kind, a line, an
+-- operation, a test. Assumes nothing.
 use Rattle.defined.proofs.Reading.{names-not, names-line, names-operation, names-test}
 use native.Mathlib.Omega.{arith}
 use Rattle.word.proofs.Tests.{known-true, known-false}

@@ -1,4 +1,5 @@
--- `defined::marks::mark_line` meets its contract. Assumes nothing.
+-- `defined::marks::mark_line` meets its contract: the calls' answers one after the other are the definition, and an accepted table's rows
+-- lie inside it. Assumes nothing.
 use Rattle.defined.proofs.Loops.{row-inside, place-inside, first-test, first-operation}
 use native.Mathlib.Omega.{arith}
 use mathlib.Core.Path.{_≡_, refl, _∙_}

@@ -1,4 +1,5 @@
--- `defined::marks::mark_row` meets its contract. Assumes nothing.
+-- `defined::marks::mark_row` meets its contract: a row that is a line (`row-taken`), and another, where nothing changes (`row-passed`).
+-- Assumes nothing.
 use Rattle.defined.proofs.Loops.{row-taken, row-passed}
 use mathlib.Core.Path.{_≡_, refl, sym, _∙_}
 use borrow.Author.Needs.{needs}

@@ -1,4 +1,5 @@
--- `defined::rounds::are_same` meets its contract. Assumes nothing.
+-- `defined::rounds::are_same` meets its contract. The loop's invariant: the sets passed are the same; once all 800 are passed the lists are
+-- (`agree-all`). Assumes nothing.
 use native.Mathlib.Omega.{arith}
 use mathlib.Core.Path.{_≡_}
 use Prim.Native.Nat.{_-_, _<_}

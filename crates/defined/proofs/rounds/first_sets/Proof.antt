@@ -1,4 +1,5 @@
--- `defined::rounds::first_sets` meets its contract. Assumes nothing.
+-- `defined::rounds::first_sets` meets its contract: with the sets that `no_sets` answers, what is set is the definition's own text.
+-- Assumes nothing.
 use mathlib.Core.Path.{refl}
 use Rattle.defined.specs.Search.{firstSets}
 use borrow.Author.Needs.{needs}

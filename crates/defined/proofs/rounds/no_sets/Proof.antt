@@ -1,4 +1,4 @@
--- `defined::rounds::no_sets` meets its contract. Assumes nothing.
+-- `defined::rounds::no_sets` meets its contract: the array is what is asked, as written. Assumes nothing.
 use mathlib.Core.Path.{refl}
 use borrow.Author.Needs.{needs}
 use Rattle.defined.proofs.rounds.no_sets.Statement.{statement}

@@ -1,4 +1,4 @@
--- `defined::rounds::round` meets its contract. Assumes nothing.
+-- `defined::rounds::round` meets its contract: the returns walked after the lines are the definition. Assumes nothing.
 use mathlib.Core.Path.{_≡_, ap, _∙_}
 use Rattle.defined.specs.Search.{returnsWalked, rounded}
 use borrow.Author.Needs.{needs}

@@ -1,4 +1,5 @@
--- `defined::rounds::walk_changed` meets its contract. Assumes nothing.
+-- `defined::rounds::walk_changed` meets its contract: a row that is no line (`row-passed`), a line with its set as walked (`changed-same`),
+-- and one with a set that changed (`changed-on`). Assumes nothing.
 use Rattle.defined.proofs.Loops.{row-taken, row-passed, place-inside, changed-same, changed-on}
 use native.Mathlib.Omega.{arith}
 use mathlib.Core.Path.{_≡_, refl, sym, _∙_}

@@ -1,4 +1,5 @@
--- `defined::rounds::walk_returns` meets its contract. Assumes nothing.
+-- `defined::rounds::walk_returns` meets its contract: a set of the DONEs as walked (`returns-same`), and one that changed (`returns-on`).
+-- Assumes nothing.
 use Rattle.defined.proofs.Loops.{returns-same, returns-on}
 use native.Mathlib.Omega.{arith}
 use borrow.Author.Needs.{needs}

@@ -1,4 +1,4 @@
--- `defined::uses::first_use` meets its contract. Assumes nothing.
+-- `defined::uses::first_use` meets its contract: the lowest use is asked of the final marks, as the definition has it. Assumes nothing.
 use mathlib.Core.Path.{_≡_, ap, _∙_}
 use Rattle.defined.specs.Search.{lowestTold, firstUseTold}
 use borrow.Author.Needs.{needs}

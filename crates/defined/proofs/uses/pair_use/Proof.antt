@@ -1,4 +1,5 @@
--- `defined::uses::pair_use` meets its contract. Assumes nothing.
+-- `defined::uses::pair_use` meets its contract: a pair of another form refers to no field (`pair-not`), and a reference to those of its
+-- names (`pair-is`). Assumes nothing.
 use Rattle.defined.proofs.Reading.{pair-not, pair-is}
 use Rattle.defined.proofs.Telling.{first-tells, first-is}
 use native.Mathlib.Omega.{arith}

@@ -1,4 +1,5 @@
--- `defined::uses::row_use` meets its contract. Assumes nothing.
+-- `defined::uses::row_use` meets its contract: the first of its pairs that has a use gives the row's (`first-uses`, `second-uses`,
+-- `third-uses`). Assumes nothing.
 use Rattle.defined.proofs.Reading.{first-uses, second-uses, third-uses}
 use Rattle.defined.proofs.Telling.{first-tells, first-is}
 use mathlib.Core.Path.{_≡_, sym, _∙_}

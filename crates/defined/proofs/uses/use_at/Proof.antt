@@ -1,4 +1,5 @@
--- `defined::uses::use_at` meets its contract. Assumes nothing.
+-- `defined::uses::use_at` meets its contract: a line uses nothing (`row-taken`), and another row what its pairs do (`row-passed`), as its
+-- references are well named. Assumes nothing.
 use Rattle.defined.proofs.Loops.{row-taken, row-passed, row-there, references-at}
 use Rattle.defined.proofs.Telling.{use-tells, first-is}
 use mathlib.Core.Path.{_≡_, refl, ap, sym, _∙_}

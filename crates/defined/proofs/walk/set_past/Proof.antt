@@ -1,4 +1,5 @@
--- `defined::walk::set_past` meets its contract. Assumes nothing.
+-- `defined::walk::set_past` meets its contract. Each branch is one case of the definition: a DO (`past-a-do`) or another operation
+-- (`past-another`). Assumes nothing.
 use Rattle.defined.proofs.Reading.{past-a-do, past-another}
 use native.Mathlib.Omega.{arith}
 use borrow.Author.Needs.{needs}

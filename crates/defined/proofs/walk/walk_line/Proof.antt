@@ -1,4 +1,5 @@
--- `defined::walk::walk_line` meets its contract. Assumes nothing.
+-- `defined::walk::walk_line` meets its contract: the chain walked after the tests is the definition, and an accepted table's rows lie
+-- inside it. Assumes nothing.
 use Rattle.defined.proofs.Loops.{row-inside, next-inside}
 use mathlib.Core.Path.{refl, _∙_}
 use Rattle.defined.specs.Search.{lineWalked}

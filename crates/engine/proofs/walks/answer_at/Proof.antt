@@ -1,4 +1,4 @@
--- `engine::walks::answer_at` meets its contract. Assumes nothing.
+-- `engine::walks::answer_at` meets its contract. Each branch is one case of the definition: a finished place or another. Assumes nothing.
 use borrow.Author.Tests.{eq-eqb, ne-eqb}
 use Rattle.machine.specs.State.{isFinished}
 use Rattle.engine.proofs.walks.answer_at.Statement.{statement}

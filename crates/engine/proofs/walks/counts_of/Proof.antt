@@ -1,4 +1,5 @@
--- `engine::walks::counts_of` meets its contract. Assumes nothing.
+-- `engine::walks::counts_of` meets its contract: the counts are the definition's own text, and `known_entries` gives how many entries the
+-- calls have. Assumes nothing.
 use mathlib.Core.Path.{refl}
 use borrow.Author.Needs.{needs}
 use Rattle.engine.proofs.walks.counts_of.Statement.{statement}

@@ -1,4 +1,4 @@
--- `engine::walks::no_report` meets its contract. Assumes nothing.
+-- `engine::walks::no_report` meets its contract: the report built is the definition's own text. Assumes nothing.
 use mathlib.Core.Path.{refl}
 use Rattle.machine.specs.Storage.{noStore, noReport}
 use borrow.Author.Needs.{needs}

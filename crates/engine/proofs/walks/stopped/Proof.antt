@@ -1,4 +1,5 @@
--- `engine::walks::stopped` meets its contract. Assumes nothing.
+-- `engine::walks::stopped` meets its contract: the report is that of `no_report`, and the rest is what is asked (`with-report`).
+-- Assumes nothing.
 use Rattle.engine.proofs.Now.{with-report}
 use borrow.Author.Needs.{needs}
 use Rattle.engine.proofs.walks.stopped.Statement.{statement}

@@ -1,4 +1,5 @@
--- `faults::judging::calls_missing` meets its contract. Assumes nothing.
+-- `faults::judging::calls_missing` meets its contract: without a call nothing is missing (`no-call`), and with one its label decides
+-- (`one-call`); one that is found is declared. Assumes nothing.
 use mathlib.Core.Path.{ap, _∙_}
 use Rattle.lines.specs.Reading.{split}
 use Rattle.lines.specs.Walking.{callsIn}

@@ -1,4 +1,5 @@
--- `faults::judging::is_again` meets its contract. Assumes nothing.
+-- `faults::judging::is_again` meets its contract: with the row that `known_row` answers, the two tests are the definition's own text.
+-- Assumes nothing.
 use Rattle.faults.specs.Names.{knownBefore}
 use borrow.Author.Needs.{needs}
 use Rattle.faults.proofs.judging.is_again.Statement.{statement}

@@ -1,4 +1,5 @@
--- `faults::judging::misses_call` meets its contract. Assumes nothing.
+-- `faults::judging::misses_call` meets its contract: without parentheses nothing is called (`parens-none`), and otherwise `misses_any`
+-- answers what is asked. Assumes nothing.
 use native.Mathlib.Omega.{arith}
 use Rattle.lines.specs.Words.{any}
 use Rattle.lines.specs.Forms.{isOperation}

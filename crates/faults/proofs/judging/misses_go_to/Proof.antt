@@ -1,4 +1,5 @@
--- `faults::judging::misses_go_to` meets its contract. Assumes nothing.
+-- `faults::judging::misses_go_to` meets its contract. Each return is one case of the definition: no go-to (`goes-nowhere`), DONE
+-- (`goes-done`), a label (`goes-on`). Assumes nothing.
 use mathlib.Core.Path.{sym, _∙_}
 use Rattle.lines.specs.Words.{spelled, isDone}
 use Rattle.faults.specs.Places.{missing}

@@ -1,4 +1,5 @@
--- `faults::judging::too_long` meets its contract. Assumes nothing.
+-- `faults::judging::too_long` meets its contract: more than 800 rows more are too many (`too-many`), and otherwise the test is the
+-- definition's own text. Assumes nothing.
 use mathlib.Core.Path.{refl}
 use Rattle.lines.specs.Program.{tooLong}
 use Rattle.faults.proofs.Using.{too-many}

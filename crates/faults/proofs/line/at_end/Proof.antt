@@ -1,4 +1,5 @@
--- `faults::line::at_end` meets its contract. Assumes nothing.
+-- `faults::line::at_end` meets its contract: where not one byte is left it is not the last (`not-last`), and one that is left is compared
+-- (`last-byte`). Assumes nothing.
 use native.Mathlib.Omega.{arith}
 use Rattle.faults.proofs.Walked.{not-last, last-byte}
 use borrow.Author.Needs.{needs}

@@ -1,4 +1,4 @@
--- `faults::line::end_scan` meets its contract. Assumes nothing.
+-- `faults::line::end_scan` meets its contract. Each branch is one case of the definition, by the two tests joined. Assumes nothing.
 use mathlib.Core.Path.{sym, ap₂, _∙_}
 use mathlib.Core.Bool.{_&&_}
 use Rattle.faults.specs.Checking.{endScan}

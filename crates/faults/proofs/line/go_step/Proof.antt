@@ -1,4 +1,5 @@
--- `faults::line::go_step` meets its contract. Assumes nothing.
+-- `faults::line::go_step` meets its contract. Each branch is one case of the definition: the word, as part of the line (`part-slice`), is
+-- DONE or a label, or neither. Assumes nothing.
 use mathlib.Core.Path.{sym, ap, ap₂, _∙_}
 use mathlib.Core.List.{List}
 use mathlib.Core.Bool.{cond, _||_}

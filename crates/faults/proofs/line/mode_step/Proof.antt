@@ -1,4 +1,5 @@
--- `faults::line::mode_step` meets its contract. Assumes nothing.
+-- `faults::line::mode_step` meets its contract: a word that is no mode word goes the other way (`mode-other`), and a mode word enters
+-- (`mode-known`). Assumes nothing.
 use mathlib.Core.Path.{sym, ap, _∙_}
 use mathlib.Core.List.{List}
 use Prim.Native.Nat.{ℕ}

@@ -1,4 +1,5 @@
--- `faults::line::operation_step` meets its contract. Assumes nothing.
+-- `faults::line::operation_step` meets its contract. Each branch is one case of the definition: what stands inside (`part-slice`) is an
+-- operation or not. Assumes nothing.
 use Prim.Native.Nat.{_+_}
 use native.Mathlib.Omega.{arith}
 use mathlib.Core.Path.{sym, ap, _∙_}

@@ -1,4 +1,5 @@
--- `faults::line::test_step` meets its contract. Assumes nothing.
+-- `faults::line::test_step` meets its contract. Each branch is one case of the definition: the word, as part of the line (`part-slice`), is
+-- THEN or another. Assumes nothing.
 use mathlib.Core.Path.{sym, ap, _∙_}
 use mathlib.Core.List.{List}
 use mathlib.Core.Bool.{cond}

@@ -1,4 +1,5 @@
--- `faults::seeking::gather` meets its contract. Assumes nothing.
+-- `faults::seeking::gather` meets its contract. The loop's invariant: the place lies in the text and no more is put than there is room for.
+-- The measure is what is left of the text. Assumes nothing.
 use Prim.Native.Nat.{_-_, _≤_}
 use native.Mathlib.Omega.{arith}
 use mathlib.Core.Path.{_≡_, refl, _∙_}

@@ -1,4 +1,5 @@
--- `faults::seeking::is_found` meets its contract. Assumes nothing.
+-- `faults::seeking::is_found` meets its contract: a label whose key is among those found is declared (`found-there`); where the answer is
+-- no, nothing is promised. Assumes nothing.
 use mathlib.Core.Path.{_∙_}
 use borrow.Author.Tests.{ltb-true}
 use Rattle.word.proofs.Tests.{known-true}

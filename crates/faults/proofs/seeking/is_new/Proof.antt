@@ -1,4 +1,5 @@
--- `faults::seeking::is_new` meets its contract. Assumes nothing.
+-- `faults::seeking::is_new` meets its contract: of the answer nothing is promised, and a call's place is not past the end, so the parts
+-- lent lie in the text. Assumes nothing.
 use native.Mathlib.Omega.{arith}
 use borrow.Author.Needs.{needs}
 use Rattle.faults.proofs.seeking.is_new.Statement.{statement}

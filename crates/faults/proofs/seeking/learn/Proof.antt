@@ -1,4 +1,5 @@
--- `faults::seeking::learn` meets its contract. Assumes nothing.
+-- `faults::seeking::learn` meets its contract: the labels collected are known, and with those that `resolve` finds appended they still are.
+-- Assumes nothing.
 use Prim.Native.Nat.{ℕ}
 use mathlib.Core.Path.{sym, subst}
 use mathlib.Core.List.{List}

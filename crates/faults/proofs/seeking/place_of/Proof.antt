@@ -1,4 +1,5 @@
--- `faults::seeking::place_of` meets its contract. Assumes nothing.
+-- `faults::seeking::place_of` meets its contract. The loop's invariant: the place is no more than the count. It stops at the number, or at
+-- the end. Assumes nothing.
 use Prim.Native.Nat.{_-_, _≤_}
 use native.Mathlib.Omega.{arith}
 use lib.ListN.{length}

@@ -1,4 +1,5 @@
--- `faults::seeking::renew` meets its contract. Assumes nothing.
+-- `faults::seeking::renew` meets its contract: the labels stay as they are, or are those that `resolve` finds, which are declared.
+-- Assumes nothing.
 use native.Mathlib.Omega.{arith}
 use mathlib.Core.Path.{refl}
 use Rattle.lines.proofs.Parts.{part-short}

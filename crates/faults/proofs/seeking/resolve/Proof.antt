@@ -1,4 +1,4 @@
--- `faults::seeking::resolve` meets its contract. Assumes nothing.
+-- `faults::seeking::resolve` meets its contract: what `gather` put fits, and of it `seek` leaves labels that are declared. Assumes nothing.
 use mathlib.Core.Path.{_∙_}
 use borrow.Author.Needs.{needs}
 use Rattle.faults.proofs.seeking.resolve.Statement.{statement}

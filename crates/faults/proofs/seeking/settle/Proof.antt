@@ -1,4 +1,5 @@
--- `faults::seeking::settle` meets its contract. Assumes nothing.
+-- `faults::seeking::settle` meets its contract: the two returns before the end change nothing, and a label put in place keeps those found
+-- declared (`found-settled`). Assumes nothing.
 use native.Mathlib.Omega.{arith}
 use mathlib.Core.Path.{refl}
 use lib.ListN.{length-set}

@@ -1,4 +1,4 @@
--- `faults::seeking::want` meets its contract. Assumes nothing.
+-- `faults::seeking::want` meets its contract: each return puts at most one label, and none changes the length. Assumes nothing.
 use native.Mathlib.Omega.{arith}
 use mathlib.Core.Path.{refl}
 use lib.ListN.{length-set}

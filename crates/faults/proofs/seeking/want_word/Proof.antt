@@ -1,4 +1,4 @@
--- `faults::seeking::want_word` meets its contract. Assumes nothing.
+-- `faults::seeking::want_word` meets its contract: a word that is no use puts nothing, and another what `want` does. Assumes nothing.
 use native.Mathlib.Omega.{arith}
 use mathlib.Core.Path.{refl}
 use borrow.Author.Needs.{needs}

@@ -1,4 +1,5 @@
--- `layout::reading::core_at` meets its contract. Assumes nothing.
+-- `layout::reading::core_at` meets its contract: its parts, each read as the definition has it, make the core (`core-read`).
+-- Assumes nothing.
 use Rattle.layout.proofs.Told.{core-read}
 use borrow.Author.Needs.{needs}
 use Rattle.layout.proofs.reading.core_at.Statement.{statement}

@@ -1,4 +1,4 @@
--- `layout::reading::count_at` meets its contract. Assumes nothing.
+-- `layout::reading::count_at` meets its contract: the number that `number_at` reads is the definition's. Assumes nothing.
 use Rattle.layout.specs.Records.{numberAt}
 use borrow.Author.Needs.{needs}
 use Rattle.layout.proofs.reading.count_at.Statement.{statement}

@@ -1,4 +1,5 @@
--- `layout::reading::definition_at` meets its contract. Assumes nothing.
+-- `layout::reading::definition_at` meets its contract: four bytes one after the other are those of the definition's part of the bytes
+-- (`definition-read`). Assumes nothing.
 use Rattle.layout.proofs.Told.{definition-read}
 use borrow.Author.Needs.{needs}
 use Rattle.layout.proofs.reading.definition_at.Statement.{statement}

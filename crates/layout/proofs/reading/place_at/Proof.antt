@@ -1,4 +1,5 @@
--- `layout::reading::place_at` meets its contract. Assumes nothing.
+-- `layout::reading::place_at` meets its contract: a byte and two numbers of two bytes are those of the place's part of the bytes
+-- (`place-read`). Assumes nothing.
 use Rattle.layout.proofs.Told.{place-read}
 use borrow.Author.Needs.{needs}
 use Rattle.layout.proofs.reading.place_at.Statement.{statement}

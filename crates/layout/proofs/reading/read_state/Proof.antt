@@ -1,4 +1,5 @@
--- `layout::reading::read_state` meets its contract. Assumes nothing.
+-- `layout::reading::read_state` meets its contract: width, core and map, each read as the definition has it, make the state (`state-read`).
+-- Assumes nothing.
 use Rattle.layout.proofs.Told.{state-read}
 use borrow.Author.Needs.{needs}
 use Rattle.layout.proofs.reading.read_state.Statement.{statement}

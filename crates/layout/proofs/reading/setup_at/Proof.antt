@@ -1,4 +1,4 @@
--- `layout::reading::setup_at` meets its contract. Assumes nothing.
+-- `layout::reading::setup_at` meets its contract: the three numbers read are the definition's own. Assumes nothing.
 use Rattle.layout.specs.Layout.{stateOf}
 use borrow.Author.Needs.{needs}
 use Rattle.layout.proofs.reading.setup_at.Statement.{statement}

@@ -1,4 +1,5 @@
--- `layout::reading::short_at` meets its contract. Assumes nothing.
+-- `layout::reading::short_at` meets its contract: the number of two bytes is the first and 256 times the second (`short-at`), and fits 16
+-- bits. Assumes nothing.
 use native.Mathlib.Omega.{arith}
 use Prim.Native.Nat.{_+_}
 use Rattle.layout.proofs.Widths.{short-at}

@@ -1,4 +1,4 @@
--- `layout::reading::width_at` meets its contract. Assumes nothing.
+-- `layout::reading::width_at` meets its contract: the byte at the width's place is the state's width (`width-read`). Assumes nothing.
 use Rattle.layout.proofs.Told.{width-read}
 use borrow.Author.Needs.{needs}
 use Rattle.layout.proofs.reading.width_at.Statement.{statement}

@@ -1,4 +1,5 @@
--- `layout::writing::put_arrays` meets its contract. Assumes nothing.
+-- `layout::writing::put_arrays` meets its contract: the five arrays put one after the other are the definition's bytes (`arrays-put`), each
+-- in the range that its call gives. Assumes nothing.
 use native.Mathlib.Omega.{arith}
 use mathlib.Core.Path.{_≡_, sym}
 use lib.ListN.{length}

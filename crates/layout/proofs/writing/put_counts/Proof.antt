@@ -1,4 +1,5 @@
--- `layout::writing::put_counts` meets its contract. Assumes nothing.
+-- `layout::writing::put_counts` meets its contract: three numbers of eight bytes, put one after the other, stand in a row (`three-row`).
+-- Assumes nothing.
 use native.Mathlib.Omega.{arith}
 use Rattle.octets.proofs.RoundTrip.{length-bytes}
 use Rattle.octets.specs.Octets.{bytesOf}

@@ -1,4 +1,5 @@
--- `layout::writing::put_definition` meets its contract. Assumes nothing.
+-- `layout::writing::put_definition` meets its contract: four numbers of one byte, put one after the other, stand in a row (`four-row`).
+-- Assumes nothing.
 use mathlib.Core.Bool.{Bool, true, false, cond}
 use mathlib.Core.Path.{_≡_, refl, ap, _∙_}
 use mir.Val.{boolByte}

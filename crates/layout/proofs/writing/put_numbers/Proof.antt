@@ -1,4 +1,5 @@
--- `layout::writing::put_numbers` meets its contract. Assumes nothing.
+-- `layout::writing::put_numbers` meets its contract: streams, set-up and counts put one after the other are the definition's bytes
+-- (`numbers-put`), in the ranges of the calls. Assumes nothing.
 use Rattle.layout.proofs.Parts.{numbers-put}
 use borrow.Author.Needs.{needs}
 use Rattle.layout.proofs.writing.put_numbers.Statement.{statement}

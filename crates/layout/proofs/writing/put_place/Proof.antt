@@ -1,4 +1,4 @@
--- `layout::writing::put_place` meets its contract. Assumes nothing.
+-- `layout::writing::put_place` meets its contract: three numbers, put one after the other, stand in a row (`three-row`). Assumes nothing.
 use Rattle.octets.proofs.RoundTrip.{length-bytes}
 use Rattle.octets.specs.Octets.{bytesOf}
 use Rattle.layout.specs.Layout.{bytesOfPlace}

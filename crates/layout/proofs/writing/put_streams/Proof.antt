@@ -1,4 +1,5 @@
--- `layout::writing::put_streams` meets its contract. Assumes nothing.
+-- `layout::writing::put_streams` meets its contract: the place and two numbers, put one after the other, stand in a row (`three-row`).
+-- Assumes nothing.
 use native.Mathlib.Omega.{arith}
 use Rattle.octets.proofs.RoundTrip.{length-bytes}
 use Rattle.layout.specs.Layout.{bytesOfPlace}

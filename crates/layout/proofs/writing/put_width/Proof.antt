@@ -1,4 +1,4 @@
--- `layout::writing::put_width` meets its contract. Assumes nothing.
+-- `layout::writing::put_width` meets its contract: the number put is its one byte in place (`number-placed`). Assumes nothing.
 use Rattle.layout.proofs.Placing.{number-placed}
 use borrow.Author.Needs.{needs}
 use Rattle.layout.proofs.writing.put_width.Statement.{statement}

@@ -1,4 +1,5 @@
--- `layout::writing::write_state` meets its contract. Assumes nothing.
+-- `layout::writing::write_state` meets its contract: the four parts put one after the other are the state's bytes (`state-put`), from which
+-- it comes back (`state-back`). Assumes nothing.
 use native.Mathlib.Omega.{arith}
 use mathlib.Core.Path.{_≡_, sym}
 use lib.ListN.{length}

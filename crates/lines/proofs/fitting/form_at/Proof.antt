@@ -1,4 +1,5 @@
--- `lines::fitting::form_at` meets its contract. Assumes nothing.
+-- `lines::fitting::form_at` meets its contract. Each branch is one case of the definition: the numbers are those of the tests' forms or of
+-- the operations'. Assumes nothing.
 use mathlib.Core.Path.{ap, sym, _∙_}
 use mathlib.Core.Bool.{Bool}
 use Rattle.lines.specs.Reading.{split}

@@ -1,4 +1,5 @@
--- `lines::fitting::is_meant` meets its contract. Assumes nothing.
+-- `lines::fitting::is_meant` meets its contract: where the second argument is not of the form's kind the form does not fit (`not-meant`),
+-- and otherwise `is_form` tells. Assumes nothing.
 use native.Mathlib.Omega.{arith}
 use mathlib.Core.Path.{sym, ap, _∙_}
 use mathlib.Core.List.{List}

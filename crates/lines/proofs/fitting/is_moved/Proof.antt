@@ -1,4 +1,5 @@
--- `lines::fitting::is_moved` meets its contract. Assumes nothing.
+-- `lines::fitting::is_moved` meets its contract: what is no field is not moved (`not-moved`), and a field with more bytes is still one
+-- where they are names and fit (`moved`). Assumes nothing.
 use native.Mathlib.Omega.{arith}
 use mathlib.Core.Path.{ap, _∙_}
 use mathlib.Core.Bool.{Bool, _&&_}

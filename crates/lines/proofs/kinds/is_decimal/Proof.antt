@@ -1,4 +1,5 @@
--- `lines::kinds::is_decimal` meets its contract. Assumes nothing.
+-- `lines::kinds::is_decimal` meets its contract: a decimal literal is a number of base 10 below 2^b (`decimal-number`), as `is_number`
+-- tests. Assumes nothing.
 use native.Mathlib.Omega.{arith}
 use mathlib.Core.Path.{sym, ap, _∙_}
 use Prim.Native.Nat.{ℕ}

@@ -1,4 +1,5 @@
--- `lines::kinds::is_octal` meets its contract. Assumes nothing.
+-- `lines::kinds::is_octal` meets its contract: an octal literal is a number of base 8 below 2^b (`octal-number`), as `is_number` tests.
+-- Assumes nothing.
 use native.Mathlib.Omega.{arith}
 use mathlib.Core.Path.{sym, ap, _∙_}
 use Prim.Native.Nat.{ℕ}

@@ -1,4 +1,5 @@
--- `operands::locations::bits_of` meets its contract. Assumes nothing.
+-- `operands::locations::bits_of` meets its contract: a number of 65,536 or more stands for the field of these parts (`field-number`).
+-- Assumes nothing.
 use native.Mathlib.Omega.{arith}
 use Rattle.operands.proofs.Numbers.{field-number}
 use borrow.Author.Needs.{needs}

@@ -1,4 +1,5 @@
--- `operands::locations::field_number` meets its contract. Assumes nothing.
+-- `operands::locations::field_number` meets its contract: the number made of the parts stands for their field (`parts-number`), and is
+-- 65,536 or more, by arithmetic. Assumes nothing.
 use native.Mathlib.Omega.{arith}
 use Rattle.operands.proofs.Numbers.{parts-number}
 use borrow.Author.Needs.{needs}

@@ -1,4 +1,5 @@
--- `operands::locations::width_of` meets its contract. Assumes nothing.
+-- `operands::locations::width_of` meets its contract: a bug has the word's bits (`bug-width`), and a field those of its width
+-- (`field-width`). Assumes nothing.
 use mathlib.Core.Path.{_∙_}
 use Rattle.operands.proofs.Numbers.{bug-number}
 use Rattle.operands.proofs.Operands.{bug-width, field-width}

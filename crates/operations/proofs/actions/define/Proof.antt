@@ -1,4 +1,5 @@
--- `operations::actions::define` meets its contract. Assumes nothing.
+-- `operations::actions::define` meets its contract: numbers out of range stop it (`need-no`), and those in range do what is asked
+-- (`need-yes`) and fit a byte each (`in-range`). Assumes nothing.
 use native.Mathlib.Omega.{arith}
 use borrow.Author.Tests.{not-true, not-false}
 use Rattle.machine.specs.Sound.{inRange}

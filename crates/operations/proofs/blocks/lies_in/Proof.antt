@@ -1,4 +1,5 @@
--- `operations::blocks::lies_in` meets its contract. Assumes nothing.
+-- `operations::blocks::lies_in` meets its contract: a bug lies outside (`bug-outside`), so does a word before the block (`below-outside`),
+-- and another is tested (`from-start`). Assumes nothing.
 use Rattle.operands.proofs.Numbers.{bug-number}
 use Rattle.operations.proofs.Doing.{bug-outside, below-outside, from-start}
 use borrow.Author.Needs.{needs}

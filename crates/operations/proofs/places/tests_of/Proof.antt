@@ -1,4 +1,4 @@
--- `operations::places::tests_of` meets its contract. Assumes nothing.
+-- `operations::places::tests_of` meets its contract: the place built is the definition's own text. Assumes nothing.
 use mathlib.Core.Path.{refl}
 use Rattle.machine.specs.State.{testsOf}
 use borrow.Author.Needs.{needs}

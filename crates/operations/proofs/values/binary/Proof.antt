@@ -1,4 +1,5 @@
--- `operations::values::binary` meets its contract. Assumes nothing.
+-- `operations::values::binary` meets its contract: what the conversion tells is told of the operation: a value (`digits`), or no digit
+-- (`no-digits`). Assumes nothing.
 use Rattle.operations.proofs.Made.{digits, no-digits}
 use borrow.Author.Needs.{needs}
 use Rattle.operations.proofs.values.binary.Statement.{statement}

@@ -1,4 +1,5 @@
--- `operations::values::divided` meets its contract. Assumes nothing.
+-- `operations::values::divided` meets its contract: a divisor of zero stops it (`no-divisor`), and another gives the quotient (`divisor`).
+-- Assumes nothing.
 use Rattle.operations.proofs.Made.{no-divisor, divisor}
 use borrow.Author.Needs.{needs}
 use Rattle.operations.proofs.values.divided.Statement.{statement}

@@ -1,4 +1,5 @@
--- `operations::values::subtracted` meets its contract. Assumes nothing.
+-- `operations::values::subtracted` meets its contract: a greater subtrahend stops it (`too-great`), and another gives the difference
+-- (`not-greater`). Assumes nothing.
 use Rattle.operations.proofs.Made.{too-great, not-greater}
 use native.Mathlib.Omega.{arith}
 use borrow.Author.Needs.{needs}

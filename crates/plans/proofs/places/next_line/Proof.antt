@@ -1,4 +1,5 @@
--- `plans::places::next_line` meets its contract. Assumes nothing.
+-- `plans::places::next_line` meets its contract. Each branch is one case of the definition: no next line (`next-none`), or one
+-- (`next-some`). Assumes nothing.
 use Rattle.plans.proofs.Going.{next-none, next-some}
 use borrow.Author.Needs.{needs}
 use Rattle.plans.proofs.places.next_line.Statement.{statement}

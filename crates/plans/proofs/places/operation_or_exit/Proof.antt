@@ -1,4 +1,5 @@
--- `plans::places::operation_or_exit` meets its contract. Assumes nothing.
+-- `plans::places::operation_or_exit` meets its contract. Each branch is one case of the definition: no row (`exits`), or an operation's
+-- (`operates`). Assumes nothing.
 use Rattle.plans.proofs.Going.{exits, operates}
 use borrow.Author.Needs.{needs}
 use Rattle.plans.proofs.places.operation_or_exit.Statement.{statement}

@@ -1,4 +1,5 @@
--- `plans::tests::settled_as` meets its contract. Assumes nothing.
+-- `plans::tests::settled_as` meets its contract: the two tests joined are the definition's cases of the modes 2 and 4 (`either-mode`).
+-- Assumes nothing.
 use Rattle.machine.specs.Test.{settledAs}
 use Rattle.plans.proofs.Testing.{either-mode}
 use borrow.Author.Needs.{needs}

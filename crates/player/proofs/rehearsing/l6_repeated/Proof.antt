@@ -1,4 +1,5 @@
--- `player::rehearsing::l6_repeated` meets its contract. Assumes nothing.
+-- `player::rehearsing::l6_repeated` meets its contract: what is told of the repeated stops, and the answer and count made of it, are what
+-- is asked (`both-left`). Assumes nothing.
 use Rattle.player.proofs.Telling.{both-left}
 use borrow.Author.Needs.{needs}
 use Rattle.player.proofs.rehearsing.l6_repeated.Statement.{statement}

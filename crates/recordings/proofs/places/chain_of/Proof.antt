@@ -1,4 +1,5 @@
--- `recordings::places::chain_of` meets its contract. Assumes nothing.
+-- `recordings::places::chain_of` meets its contract. Each branch is one case of the definition: heads apart, or in the pairs; a remainder
+-- is below its divisor. Assumes nothing.
 use mathlib.Core.Path.{refl}
 use native.Mathlib.Nat.{mod-lt}
 use native.Mathlib.Omega.{arith}

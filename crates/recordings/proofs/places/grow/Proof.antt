@@ -1,4 +1,5 @@
--- `recordings::places::grow` meets its contract. Assumes nothing.
+-- `recordings::places::grow` meets its contract: two returns leave all as it is (`kept-none`), and after the third the chains are those
+-- that `relink` makes. Assumes nothing.
 use mathlib.Core.Path.{refl}
 use native.Mathlib.Omega.{arith}
 use Rattle.recordings.proofs.Pushing.{kept-none}

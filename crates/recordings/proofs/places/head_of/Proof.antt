@@ -1,4 +1,5 @@
--- `recordings::places::head_of` meets its contract. Assumes nothing.
+-- `recordings::places::head_of` meets its contract. Each branch is one case of the definition: heads in numbers apart, or in the pairs; the
+-- chain lies in them (`apart`, `within`). Assumes nothing.
 use Prim.Native.Nat.{ℕ, _/_}
 use mathlib.Core.Path.{refl, ap}
 use native.Mathlib.Omega.{arith}

@@ -1,4 +1,5 @@
--- `recordings::places::push` meets its contract. Assumes nothing.
+-- `recordings::places::push` meets its contract: link and head as they are put make the place the head of its stop's chain (`pushed`).
+-- Assumes nothing.
 use Prim.Native.Nat.{ℕ, _+_, _%_, _<_}
 use mathlib.Core.Path.{ap, _∙_}
 use native.Mathlib.Omega.{arith}

@@ -1,4 +1,5 @@
--- `recordings::places::put_link` meets its contract. Assumes nothing.
+-- `recordings::places::put_link` meets its contract: what the calls read and put is what is asked; the link fits the lower half.
+-- Assumes nothing.
 use native.Mathlib.Omega.{arith}
 use borrow.Author.Needs.{needs}
 use Rattle.recordings.proofs.places.put_link.Statement.{statement}

@@ -1,4 +1,4 @@
--- `recordings::places::put_pair` meets its contract. Assumes nothing.
+-- `recordings::places::put_pair` meets its contract: the two calls' numbers, put one after the other, are what is asked. Assumes nothing.
 use lib.ListN.{length-set}
 use borrow.Author.Needs.{needs}
 use Rattle.recordings.proofs.places.put_pair.Statement.{statement}

@@ -1,4 +1,4 @@
--- `recordings::places::stop_at` meets its contract. Assumes nothing.
+-- `recordings::places::stop_at` meets its contract: the number of the row that `first_of` answers is the definition. Assumes nothing.
 use Prim.Native.Nat.{ℕ}
 use mathlib.Core.Path.{ap, _∙_}
 use Rattle.recordings.specs.Recordings.{numberOf, stopOf}

@@ -1,4 +1,4 @@
--- `table::check::rest_unused` meets its contract. Assumes nothing.
+-- `table::check::rest_unused` meets its contract: its test and the call's answer joined are the definition. Assumes nothing.
 use borrow.Author.Needs.{needs}
 use Rattle.table.proofs.check.rest_unused.Statement.{statement}
 use Rattle.table.proofs.check.rest_unused.Tie as tie

@@ -1,4 +1,4 @@
--- `table::forms::has_pairs` meets its contract. Assumes nothing.
+-- `table::forms::has_pairs` meets its contract: the three calls' answers joined are the definition. Assumes nothing.
 use borrow.Author.Needs.{needs}
 use mathlib.Core.Bool.{_&&_}
 use mathlib.Core.Path.{ap₂}

@@ -1,4 +1,5 @@
--- `table::forms::has_shape` meets its contract. Assumes nothing.
+-- `table::forms::has_shape` meets its contract: the test of the name, by the largest that its call gives, and the pairs' answer joined are
+-- the definition. Assumes nothing.
 use borrow.Author.Needs.{needs}
 use Rattle.table.proofs.forms.has_shape.Statement.{statement}
 use Rattle.table.proofs.forms.has_shape.Tie as tie

@@ -1,4 +1,4 @@
--- `table::forms::is_literal` meets its contract. Assumes nothing.
+-- `table::forms::is_literal` meets its contract: its test and the call's answer joined are the definition. Assumes nothing.
 use borrow.Author.Needs.{needs}
 use Rattle.table.proofs.forms.is_literal.Statement.{statement}
 use Rattle.table.proofs.forms.is_literal.Tie as tie

@@ -1,4 +1,4 @@
--- `table::forms::is_ref` meets its contract. Assumes nothing.
+-- `table::forms::is_ref` meets its contract: its test and the call's answer joined are the definition. Assumes nothing.
 use borrow.Author.Needs.{needs}
 use Rattle.table.proofs.forms.is_ref.Statement.{statement}
 use Rattle.table.proofs.forms.is_ref.Tie as tie

@@ -1,4 +1,4 @@
--- `table::rows::as_row` meets its contract. Assumes nothing.
+-- `table::rows::as_row` meets its contract: the row built is the definition's own text. Assumes nothing.
 use borrow.Author.Needs.{needs}
 use mathlib.Core.Path.{refl}
 use Rattle.table.specs.Row.{asRow, pairAt}

@@ -1,4 +1,5 @@
--- `table::rows::from_row` meets its contract. Assumes nothing.
+-- `table::rows::from_row` meets its contract: all that is left from number 10 r on (`take-all`) is what the definition reads row r from.
+-- Assumes nothing.
 use borrow.Author.Needs.{needs}
 use Prim.Native.Nat.{_*_, _-_}
 use native.Mathlib.Omega.{arith}

@@ -1,4 +1,4 @@
--- `table::rows::row_at` meets its contract. Assumes nothing.
+-- `table::rows::row_at` meets its contract: the row of the part that `from_row` gives is row r. Assumes nothing.
 use borrow.Author.Needs.{needs}
 use mathlib.Core.Path.{_∙_}
 use Rattle.table.proofs.rows.row_at.Statement.{statement}

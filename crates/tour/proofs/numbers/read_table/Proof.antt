@@ -1,4 +1,5 @@
--- `tour::numbers::read_table` meets its contract. Assumes nothing.
+-- `tour::numbers::read_table` meets its contract: a file that is no multiple of 8 bytes or too long is no table (`table-uneven`,
+-- `table-long`), and another is read (`table-fits`). Assumes nothing.
 use mathlib.Core.Path.{_≡_, refl, sym, ap}
 use native.Mathlib.Omega.{arith}
 use lib.ListN.{length}

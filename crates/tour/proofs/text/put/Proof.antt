@@ -1,4 +1,4 @@
--- `tour::text::put` meets its contract. Assumes nothing.
+-- `tour::text::put` meets its contract: one byte set is one put before the place (`put-one`). Assumes nothing.
 use Rattle.tour.proofs.Putting.{put-one}
 use native.Mathlib.Omega.{arith}
 use borrow.Author.Needs.{needs}

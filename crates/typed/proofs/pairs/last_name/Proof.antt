@@ -1,4 +1,4 @@
--- `typed::pairs::last_name` meets its contract. Assumes nothing.
+-- `typed::pairs::last_name` meets its contract: the three calls' answers put one into the other are what is asked. Assumes nothing.
 use mathlib.Core.Path.{ap, _∙_}
 use Rattle.lines.specs.Words.{nameNumber}
 use borrow.Author.Needs.{needs}

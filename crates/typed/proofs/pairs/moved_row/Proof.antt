@@ -1,4 +1,5 @@
--- `typed::pairs::moved_row` meets its contract. Assumes nothing.
+-- `typed::pairs::moved_row` meets its contract: the values of a field and of it with its names make the row (`moved-made`), and stay below
+-- 2^48 (`field-small`, `moved-small`). Assumes nothing.
 use mathlib.Core.Path.{_≡_, sym, _∙_}
 use mathlib.Core.List.{_++_}
 use Rattle.word.proofs.Tests.{and-true}

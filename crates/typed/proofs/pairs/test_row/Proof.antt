@@ -1,4 +1,5 @@
--- `typed::pairs::test_row` meets its contract. Assumes nothing.
+-- `typed::pairs::test_row` meets its contract: the row that `row_in` makes of the tests' forms is the definition's, as a test fits one of
+-- them. Assumes nothing.
 use mathlib.Core.Path.{_≡_}
 use mathlib.Core.Bool.{true}
 use Rattle.word.proofs.Tests.{and-true}

@@ -1,4 +1,4 @@
--- `typed::values::base_of` meets its contract. Assumes nothing.
+-- `typed::values::base_of` meets its contract. Each return is one case of the definition: decimal, octal or another kind. Assumes nothing.
 use mathlib.Core.Path.{refl}
 use borrow.Author.Tests.{eq-eqb, ne-eqb}
 use Rattle.typed.specs.Values.{baseOf}

@@ -1,4 +1,5 @@
--- `typed::values::digit_as` meets its contract. Assumes nothing.
+-- `typed::values::digit_as` meets its contract. Each return is one case of the definition: a field, a Hollerith literal's period or other
+-- character, a digit. Assumes nothing.
 use native.Mathlib.Omega.{arith}
 use native.Mathlib.Numerals.{add-one}
 use Prim.Native.Nat.{ℕ, suc, _-_, _+_}

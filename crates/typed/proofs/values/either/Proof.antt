@@ -1,4 +1,5 @@
--- `typed::values::either` meets its contract. Assumes nothing.
+-- `typed::values::either` meets its contract. Each branch is one case of what is asked: a field designator, whose value is below 2^48
+-- (`field-small`), or a literal. Assumes nothing.
 use mathlib.Core.Path.{_≡_, refl, sym, ap, _∙_}
 use Rattle.lines.specs.Words.{isField}
 use Rattle.typed.proofs.Valuing.{field-small, field-value, pair-is}

@@ -1,4 +1,5 @@
--- `typed::values::labelled` meets its contract. Assumes nothing.
+-- `typed::values::labelled` meets its contract: in a text without a refusal the row known is the label's (`ready-row`), as a label is not
+-- empty. Assumes nothing.
 use borrow.Author.Tests.{not-true}
 use mathlib.Core.Path.{ap, _∙_}
 use Prim.Native.Nat.{ℕ}

@@ -1,4 +1,5 @@
--- `typed::values::last_byte` meets its contract. Assumes nothing.
+-- `typed::values::last_byte` meets its contract: an empty word has none (`no-last`), and another's is at its length less one (`last-at`).
+-- Assumes nothing.
 use Rattle.typed.proofs.Valuing.{last-at, no-last}
 use borrow.Author.Needs.{needs}
 use Rattle.typed.proofs.values.last_byte.Statement.{statement}

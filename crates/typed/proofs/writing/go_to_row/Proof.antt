@@ -1,4 +1,5 @@
--- `typed::writing::go_to_row` meets its contract. Assumes nothing.
+-- `typed::writing::go_to_row` meets its contract. Each return is one case of the definition: no go-to, DONE, or a label, whose row is known
+-- (`ready-row`). Assumes nothing.
 use mathlib.Core.Path.{sym, _∙_}
 use Rattle.lines.specs.Words.{spelled, isDone}
 use Rattle.faults.specs.Names.{labelRow}

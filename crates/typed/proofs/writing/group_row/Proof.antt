@@ -1,4 +1,5 @@
--- `typed::writing::group_row` meets its contract. Assumes nothing.
+-- `typed::writing::group_row` meets its contract. Each branch is one case of the definition: a test (`group-test`) or an operation
+-- (`group-operation`). Assumes nothing.
 use mathlib.Core.Path.{_∙_}
 use Rattle.typed.proofs.Grouping.{group-test, group-operation, is-test, is-operation}
 use borrow.Author.Needs.{needs}

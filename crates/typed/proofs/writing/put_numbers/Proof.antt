@@ -1,4 +1,5 @@
--- `typed::writing::put_numbers` meets its contract. Assumes nothing.
+-- `typed::writing::put_numbers` meets its contract: ten numbers set one after the other in a list of ten are the list (`ten-put`).
+-- Assumes nothing.
 use native.Mathlib.Omega.{arith}
 use mathlib.Core.Path.{refl}
 use lib.ListN.{length-set}

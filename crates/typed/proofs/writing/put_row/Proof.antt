@@ -1,4 +1,5 @@
--- `typed::writing::put_row` meets its contract. Assumes nothing.
+-- `typed::writing::put_row` meets its contract: the ten numbers put in their part of the table are the row put (`row-put`).
+-- Assumes nothing.
 use native.Mathlib.Omega.{arith}
 use lib.ListN.{length-take, length-drop}
 use Rattle.typed.proofs.Putting.{row-put}

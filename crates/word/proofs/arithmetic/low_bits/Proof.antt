@@ -1,4 +1,4 @@
--- `word::arithmetic::low_bits` meets its contract. Assumes nothing.
+-- `word::arithmetic::low_bits` meets its contract: the remainder is by the power that `power` answers, which is not zero. Assumes nothing.
 use native.Mathlib.Omega.{arith}
 use lib.Pow.{pow-pos}
 use borrow.Author.Needs.{needs}

@@ -1,4 +1,4 @@
--- `word::count::count_ones` meets its contract. Assumes nothing.
+-- `word::count::count_ones` meets its contract: the ones of the low bits are those of the field (`ones-low`). Assumes nothing.
 use native.Mathlib.Omega.{arith}
 use lib.Count.{ones-le}
 use Rattle.word.proofs.Places.{ones-low}

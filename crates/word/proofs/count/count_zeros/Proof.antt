@@ -1,4 +1,5 @@
--- `word::count::count_zeros` meets its contract. Assumes nothing.
+-- `word::count::count_zeros` meets its contract: the width less its ones is the definition, and the ones are at most the width (`ones-le`).
+-- Assumes nothing.
 use Prim.Native.Nat.{_≤_}
 use native.Mathlib.Omega.{arith}
 use Rattle.word.specs.Word.{zeros}

@@ -1,4 +1,5 @@
--- `word::count::leftmost_one` meets its contract. Assumes nothing.
+-- `word::count::leftmost_one` meets its contract: of 64 bits the zeros left of the first one are those outside the width and those within
+-- it (`leftmost-one`). Assumes nothing.
 use native.Mathlib.Omega.{arith}
 use Prim.Native.Nat.{ℕ, _-_, _%_, _^_, _≤_, _<_}
 use lib.Count.{leadingZeros, leading-le}

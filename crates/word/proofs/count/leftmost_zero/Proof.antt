@@ -1,4 +1,5 @@
--- `word::count::leftmost_zero` meets its contract. Assumes nothing.
+-- `word::count::leftmost_zero` meets its contract: the leftmost one of the complement is the leftmost zero (`leftmost-flip`).
+-- Assumes nothing.
 use borrow.Author.Needs.{needs}
 use Rattle.word.proofs.Places.{leftmost-flip}
 use Rattle.word.proofs.count.leftmost_zero.Statement.{statement}

@@ -1,4 +1,5 @@
--- `word::count::other_bits` meets its contract. Assumes nothing.
+-- `word::count::other_bits` meets its contract: the two calls' answers put one into the other are what is asked, as low bits are below 2^w.
+-- Assumes nothing.
 use native.Mathlib.Nat.{mod-lt}
 use lib.Pow.{pow-pos}
 use borrow.Author.Needs.{needs}

@@ -1,4 +1,5 @@
--- `word::count::rightmost_one` meets its contract. Assumes nothing.
+-- `word::count::rightmost_one` meets its contract: without a one it is the width (`rightmost-none`), and otherwise the zeros right of the
+-- one give its place (`rightmost-one`). Assumes nothing.
 use mathlib.Core.Path.{_≡_, sym, _∙_}
 use Prim.Native.Nat.{suc, _+_}
 use native.Mathlib.Omega.{arith}

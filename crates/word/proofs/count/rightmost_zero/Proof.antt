@@ -1,4 +1,5 @@
--- `word::count::rightmost_zero` meets its contract. Assumes nothing.
+-- `word::count::rightmost_zero` meets its contract: the rightmost one of the complement is the rightmost zero (`rightmost-flip`).
+-- Assumes nothing.
 use borrow.Author.Needs.{needs}
 use Rattle.word.proofs.Places.{rightmost-flip}
 use Rattle.word.proofs.count.rightmost_zero.Statement.{statement}

@@ -1,4 +1,4 @@
--- `word::fields::kept_bits` meets its contract. Assumes nothing.
+-- `word::fields::kept_bits` meets its contract: the low bits of the field's width are the bits kept (`kept-is`). Assumes nothing.
 use native.Mathlib.Omega.{arith}
 use mathlib.Core.Path.{sym}
 use Rattle.word.specs.Field.{width}

@@ -1,4 +1,4 @@
--- `word::fields::places_right` meets its contract. Assumes nothing.
+-- `word::fields::places_right` meets its contract: the difference is the definition's, by arithmetic. Assumes nothing.
 use native.Mathlib.Omega.{arith}
 use Rattle.word.specs.Field.{shift}
 use borrow.Author.Needs.{needs}

@@ -1,4 +1,4 @@
--- `word::fields::read_bits` meets its contract. Assumes nothing.
+-- `word::fields::read_bits` meets its contract: the low bits of the word shifted right are the definition's own text. Assumes nothing.
 use borrow.Author.Needs.{needs}
 use Rattle.word.specs.Field.{bitsOf}
 use Rattle.word.proofs.fields.read_bits.Statement.{statement}

@@ -1,4 +1,5 @@
--- `word::fields::read_field` meets its contract. Assumes nothing.
+-- `word::fields::read_field` meets its contract: with the field's width and places put in, the bits read are the definition's own text.
+-- Assumes nothing.
 use native.Mathlib.Omega.{arith}
 use borrow.Author.Needs.{needs}
 use Rattle.word.specs.Field.{width, shift, fieldOf, bitsOf}

@@ -1,4 +1,5 @@
--- `word::logic::and` meets its contract. Assumes nothing.
+-- `word::logic::and` meets its contract: the low bits of the "and" of two numbers are the definition's bits, place by place (`and-low`).
+-- Assumes nothing.
 use Rattle.word.proofs.Bitwise.{and-low}
 use borrow.Author.Needs.{needs}
 use Rattle.word.proofs.logic.and.Statement.{statement}

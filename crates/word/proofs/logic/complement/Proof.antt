@@ -1,4 +1,4 @@
--- `word::logic::complement` meets its contract. Assumes nothing.
+-- `word::logic::complement` meets its contract: with 2^b for the power, the difference is the definition's, by arithmetic. Assumes nothing.
 use native.Mathlib.Omega.{arith}
 use Rattle.word.specs.Word.{complement}
 use borrow.Author.Needs.{needs}

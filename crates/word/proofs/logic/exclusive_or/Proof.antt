@@ -1,4 +1,5 @@
--- `word::logic::exclusive_or` meets its contract. Assumes nothing.
+-- `word::logic::exclusive_or` meets its contract: the low bits of the "exclusive or" of two numbers are the definition's bits, place by
+-- place (`xor-low`). Assumes nothing.
 use Rattle.word.proofs.Bitwise.{xor-low}
 use borrow.Author.Needs.{needs}
 use Rattle.word.proofs.logic.exclusive_or.Statement.{statement}

@@ -1,4 +1,5 @@
--- `word::logic::or` meets its contract. Assumes nothing.
+-- `word::logic::or` meets its contract: the low bits of the "or" of two numbers are the definition's bits, place by place (`or-low`).
+-- Assumes nothing.
 use Rattle.word.proofs.Bitwise.{or-low}
 use borrow.Author.Needs.{needs}
 use Rattle.word.proofs.logic.or.Statement.{statement}

@@ -1,4 +1,5 @@
--- `word::shifts::left_shift` meets its contract. Assumes nothing.
+-- `word::shifts::left_shift` meets its contract. Each branch is one case of the definition; the 64 bits that a shift keeps have the same
+-- low bits (`mod-mod-le`). Assumes nothing.
 use native.Mathlib.Nat.{le-of-lt}
 use native.Mathlib.Omega.{arith}
 use borrow.Author.Tests.{le-leb, lt-leb}

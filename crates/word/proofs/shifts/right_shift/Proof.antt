@@ -1,4 +1,4 @@
--- `word::shifts::right_shift` meets its contract. Assumes nothing.
+-- `word::shifts::right_shift` meets its contract. Each branch is one case of the definition. Assumes nothing.
 use borrow.Author.Tests.{le-leb, lt-leb}
 use Rattle.word.specs.Word.{rightShift}
 use native.Mathlib.Omega.{arith}
