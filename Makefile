@@ -17,7 +17,7 @@ tour: tourrun
 tours: tourrun
 	tours/try
 
-# Proves tourread, tourcheck and tourrun and builds them into target/bin.
+# Proves tourread, tourcheck, tourrun and tourlist and builds them into target/bin.
 tourrun:
 	rt check tourread tourcheck tourrun tourlist | grep '^rt:'
 
