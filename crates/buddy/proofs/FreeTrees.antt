@@ -1,12 +1,12 @@
--- The map of a fresh set-up, as loops write it: zeros first, and then the tag of one free block after the other. Assumes nothing.
-use mathlib.Core.Path.{_≡_, refl, sym, ap, _∙_}
+-- The map of a fresh set-up, as a loop writes it into zeros: the tag of one free block after the other. Assumes nothing.
+use mathlib.Core.Path.{_≡_, sym, ap, _∙_}
 use mathlib.Core.List.{List, _∷_, _++_, append-assoc, append-nil}
 use Prim.Native.Nat.{ℕ, zero, suc, _+_, _-_, _*_, _/_, _%_, _≤_, _<_}
 use native.Mathlib.Nat.{suc-mul, zero-mul, mul-le-mul-right, le-trans}
 use native.Mathlib.Numerals.{add-one}
 use native.Mathlib.Omega.{arith}
-use lib.ListN.{length, getD, set, drop, replicate, length-replicate, replicate-append-replicate, drop-of-length-le}
-use lib.Seq.{drop-cons, set-at}
+use lib.ListN.{length, set, replicate, length-replicate, replicate-append-replicate}
+use lib.Seq.{set-at}
 use Rattle.block.specs.declared.SetUp.{SetUp}
 use Rattle.block.specs.Blocks.{size, Free}
 use Rattle.block.specs.SetUp.{top, words}
@@ -14,28 +14,6 @@ use Rattle.block.specs.Map.{freeTag, written, allWritten, mapOf, freshMap}
 use Rattle.block.proofs.Size.{size-pos}
 use Rattle.block.proofs.Map.{length-allWritten}
 use Rattle.buddy.proofs.Count.{count-fill}
-
--- zeros up to a place
-unfoldable pub zerosTo : ℕ → List ℕ → List ℕ
-zerosTo i m = replicate i 0 ++ drop i m
-
-zeros-snoc : (i : ℕ) (rest : List ℕ) → replicate i 0 ++ (0 ∷ rest) ≡ replicate (suc i) 0 ++ rest
-zeros-snoc zero rest = refl
-zeros-snoc (suc i) rest = ap (λ (t : List ℕ). 0 ∷ t) (zeros-snoc i rest)
-
-module _ (m : List ℕ) where
-  pub zeros-none : m ≡ zerosTo 0 m
-  unfolding zerosTo
-  zeros-none = refl
-
-  pub zeros-more : (i : ℕ) → i < length m → set (zerosTo i m) i 0 ≡ zerosTo (i + 1) m
-  unfolding zerosTo
-  zeros-more i h =
-      rw (add-one, drop-cons m i 0 h) (set-at (replicate i 0) (getD m i 0) (drop (suc i) m) 0 i (length-replicate i 0) ∙ zeros-snoc i (drop (suc i) m))
-
-  pub zeros-all : (i : ℕ) → i ≡ length m → zerosTo i m ≡ replicate (length m) 0
-  unfolding zerosTo
-  zeros-all i e = rw (e, drop-of-length-le m {i = length m} (omega arith)) (append-nil (replicate (length m) 0))
 
 -- the trees of the k-th size written so far, all free, and zeros after them
 unfoldable pub freeTrees : ℕ → ℕ → ℕ → List ℕ

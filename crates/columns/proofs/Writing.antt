@@ -1,10 +1,11 @@
 -- Numbers stored one after the other from a place on. Assumes nothing.
-use Prim.Native.Nat.{ℕ, zero, suc, _+_, _-_, _≤_, _<_}
+use Prim.Native.Nat.{ℕ, zero, suc, _+_, _-_, _≤_}
 use native.Mathlib.Omega.{arith}
-use mathlib.Core.List.{List, [], _∷_, _++_, append-nil}
+use mathlib.Core.List.{List, [], _∷_, _++_, append-assoc}
 use mathlib.Core.Path.{_≡_, sym, ap, ap₂, _∙_}
-use lib.ListN.{length, getD, set, take, drop, replicate, length-replicate, drop-of-length-le}
-use lib.Seq.{drop-cons, drop-drop, take-nil, take-all, length-take-le, sets, sets-eq}
+use lib.ListN.{length, set, take, drop}
+use lib.Seq.{drop-drop, take-nil, take-all, length-take-le, sets, sets-eq}
+use Rattle.word.proofs.Filling.{Fills, fills-all}
 
 -- the first p, and then m more
 pub sets-more : (p m to : ℕ) (xs l : List ℕ) → sets (sets l to (take p xs)) (to + p) (take m (drop p xs)) ≡ sets l to (take (p + m) xs)
@@ -40,13 +41,9 @@ sets-both odd p to xs l least all so-far =
     ∙ sets-more odd (p - odd) to xs l
     ∙ ap (sets l to) (take-all (odd + (p - odd)) xs (omega arith))
 
--- one more
-pub sets-next : (i to : ℕ) (xs l : List ℕ) → i < length xs → {y : ℕ} → y ≡ getD xs i 0
-    → set (sets l to (take i xs)) (to + i) y ≡ sets l to (take (i + 1) xs)
-sets-next i to xs l inside is =
-    ap (λ (z : ℕ). set (sets l to (take i xs)) (to + i) z) is
-    ∙ sym (ap (λ (ys : List ℕ). sets (sets l to (take i xs)) (to + i) (take 1 ys)) (drop-cons xs i 0 inside))
-    ∙ sets-more i 1 to xs l
+-- by a loop that fills
+pub fills-sets : {to n : ℕ} {xs l o : List ℕ} {i : ℕ} → Fills to n xs l o i → n ≤ i → o ≡ sets l to xs
+fills-sets {to} {n} {xs} {l} so-far done = fills-all so-far done ∙ sym (sets-eq xs l to (omega arith) ∙ rw (so-far .count, append-assoc))
 
 -- from the start on
 pub sets-start : (xs l : List ℕ) → length xs ≤ length l → sets l 0 xs ≡ xs ++ drop (length xs) l
@@ -64,19 +61,3 @@ module _ (xs l : List ℕ) {o : List ℕ} where
   start-all n some room so-far =
       let long = length-take-le n xs some in
       so-far ∙ sets-start (take n xs) l (omega arith) ∙ ap (λ (k : ℕ). take n xs ++ drop k l) long
-
--- into an array of zeros
-module _ (n : ℕ) (xs : List ℕ) where
-  pub fill-next : (i : ℕ) → i < length xs → {y : ℕ} → y ≡ getD xs i 0
-      → {l : List ℕ} → l ≡ sets (replicate n 0) 0 (take i xs) → set l i y ≡ sets (replicate n 0) 0 (take (i + 1) xs)
-  fill-next i inside {y} is {l} so-far =
-      let start : 0 + i ≡ i = omega arith in
-      ap (λ (k : ℕ). set l k y) (sym start) ∙ ap (λ (o : List ℕ). set o (0 + i) y) so-far ∙ sets-next i 0 xs (replicate n 0) inside is
-
-  pub fill-all : length xs ≡ n → {i : ℕ} → n ≤ i → {l : List ℕ} → l ≡ sets (replicate n 0) 0 (take i xs) → l ≡ xs
-  fill-all long {i} most so-far =
-      so-far
-      ∙ ap (sets (replicate n 0) 0) (take-all i xs (omega arith))
-      ∙ sets-start xs (replicate n 0) (omega (arith, length-replicate {A = ℕ} n 0))
-      ∙ ap (λ (l : List ℕ). xs ++ l) (drop-of-length-le (replicate n 0) {i = length xs} (omega (arith, length-replicate {A = ℕ} n 0)))
-      ∙ append-nil xs

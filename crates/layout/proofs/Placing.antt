@@ -9,7 +9,6 @@ use lib.ListN.{length, take, drop, set, length-append}
 use lib.Seq.{length-take-le, take-at, drop-append-add, drop-drop, drop-length, set-split}
 use Rattle.octets.specs.Octets.{bytesOf}
 use Rattle.octets.proofs.RoundTrip.{length-bytes}
-use Rattle.octets.proofs.Writing.{written}
 use Rattle.machine.specs.Storage.{placed}
 use Rattle.machine.proofs.Placed.{placed-none, length-placed}
 
@@ -91,7 +90,8 @@ row-more n ys {at} {xs = xs} row is l h =
     record { put = more (row .put) ys (ap (λ (k : ℕ). at + k) (row .long)) is (omega arith); long = omega (arith, length-append xs ys, row .long) }
 
 -- the bytes of a number
-pub number-placed : (at n v : ℕ) (t : List ℕ) {now : List ℕ} → now ≡ written at n v t → now ≡ placed at (bytesOf n v) t
+pub number-placed : (at n v : ℕ) (t : List ℕ) {now : List ℕ} → now ≡ take at t ++ (bytesOf n v ++ drop (at + n) t)
+    → now ≡ placed at (bytesOf n v) t
 unfolding placed
 number-placed at n v t is = is ∙ ap (λ (k : ℕ). take at t ++ (bytesOf n v ++ drop (at + k) t)) (sym (length-bytes n v))
 

@@ -8,10 +8,11 @@ use mathlib.Core.List.{List, [], _∷_, _++_, append-assoc, append-nil}
 use mathlib.Core.Path.{_≡_, refl, sym, ap, _∙_}
 use borrow.Author.Count.{below-more}
 use lib.ListN.{length, take, drop, set, getD, length-append, length-set}
-use lib.Seq.{take-at, drop-at, drop-drop, take-all, take-suc-set, length-take-le}
+use lib.Seq.{take-at, drop-at, drop-drop, take-all, length-take-le}
 use Rattle.machine.specs.Storage.{placed}
 use Rattle.layout.specs.Ranged.{Array}
 use Rattle.layout.specs.Records.{bytesOfAll, recordsOf}
+use Rattle.word.proofs.Filling.{Fills, fills-none, whole-next, whole-all}
 use Rattle.layout.proofs.Placing.{Put, start, more}
 
 module _ {A : Type 0} (read : List ℕ → A) (w : ℕ) where
@@ -21,46 +22,35 @@ module _ {A : Type 0} (read : List ℕ → A) (w : ℕ) where
   length-records zero bytes = refl
   length-records (suc n) bytes = ap suc (length-records n (drop w bytes))
 
-  -- one record more
-  records-next : (i : ℕ) (bytes : List ℕ)
-      → recordsOf read w (suc i) bytes ≡ recordsOf read w i bytes ++ (read (take w (drop (w * i) bytes)) ∷ [])
+  -- one of them
+  records-at : (n i : ℕ) (bytes : List ℕ) (none : A) → i < n → getD (recordsOf read w n bytes) i none ≡ read (take w (drop (w * i) bytes))
   unfolding recordsOf
-  records-next zero bytes = rw (mul-zero w)
-  records-next (suc i) bytes =
+  records-at zero i bytes none h = absurd (omega arith)
+  records-at (suc n) zero bytes none h = rw (mul-zero w)
+  records-at (suc n) (suc i) bytes none h =
       let far : w + w * i ≡ w * suc i = omega arith in
-      ap (λ (xs : List A). read (take w bytes) ∷ xs) (records-next i (drop w bytes))
-      ∙ ap (λ (b : List ℕ). read (take w bytes) ∷ (recordsOf read w i (drop w bytes) ++ (read (take w b) ∷ [])))
-      (drop-drop (w * i) w bytes ∙ ap (λ (n : ℕ). drop n bytes) far)
+      records-at n i (drop w bytes) none (omega arith) ∙ rw (drop-drop (w * i) w bytes, far)
 
   -- the first i of n records from a place on are read
   pub record Reads (at n : ℕ) (bytes : List ℕ) (made : List A) (i : ℕ) : Type 0 where
-    pub few : i ≤ n
+    pub t : List A
     pub long : length made ≡ n
-    pub same : take i made ≡ recordsOf read w i (drop at bytes)
+    pub fills : Fills 0 n (recordsOf read w n (drop at bytes)) t made i
 
   pub reads-none : (at n : ℕ) (bytes : List ℕ) (made : List A) → length made ≡ n → Reads at n bytes made 0
-  unfolding recordsOf
-  reads-none at n bytes made h = record { few = omega arith; long = h; same = refl }
+  reads-none at n bytes made h = record { t = made; long = h; fills = fills-none (length-records n (drop at bytes)) (omega arith) }
 
   module _ {at n : ℕ} {bytes : List ℕ} {made : List A} {i : ℕ} (so-far : Reads at n bytes made i) where
     pub reads-next : {x : A} → i < n → x ≡ read (take w (drop (at + w * i) bytes)) → Reads at n bytes (set made i x) (i + 1)
     reads-next {x} h is =
-        let here : i < length made = omega (arith, so-far .long) in
         record {
-          few = omega arith;
+          t = so-far .t;
           long = length-set made i x ∙ so-far .long;
-          same = ap (λ (m : ℕ). take m (set made i x)) (add-one i)
-              ∙ take-suc-set made i x here
-              ∙ ap (λ (xs : List A). xs ++ (x ∷ [])) (so-far .same)
-              ∙ ap (λ (y : A). recordsOf read w i (drop at bytes) ++ (y ∷ [])) (is ∙ ap (λ (b : List ℕ). read (take w b)) (sym (drop-drop (w * i) at bytes)))
-              ∙ sym (records-next i (drop at bytes))
-              ∙ ap (λ (m : ℕ). recordsOf read w m (drop at bytes)) (sym (add-one i));
+          fills = whole-next (so-far .fills) h x (is ∙ sym (records-at n i (drop at bytes) x h ∙ rw drop-drop));
         }
 
     pub reads-all : n ≤ i → made ≡ recordsOf read w n (drop at bytes)
-    reads-all h =
-        let all : i ≡ n = omega (arith, so-far .few) in
-        sym (take-all i made (omega (arith, so-far .long))) ∙ so-far .same ∙ ap (λ (m : ℕ). recordsOf read w m (drop at bytes)) all
+    reads-all h = whole-all (so-far .fills) h (omega arith)
 
 module _ {A : Type 0} (put : A → List ℕ) (none : A) where
   -- one record more

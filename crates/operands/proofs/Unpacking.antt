@@ -2,13 +2,11 @@
 use Prim.Native.Nat.{ℕ, zero, suc, _+_, _*_, _/_, _%_, _≤_, _<_}
 use native.Mathlib.Omega.{arith}
 use mathlib.Core.Bool.{Bool, true, false, not}
-use mathlib.Core.List.{List, [], _∷_, map}
-use native.Mathlib.Numerals.{add-one}
-use mathlib.Core.Path.{_≡_, refl, sym, ap, ap₂, _∙_}
+use mathlib.Core.List.{List, [], _∷_}
+use mathlib.Core.Path.{_≡_, refl, ap}
 use lib.Dec.{eqb}
 use mir.Val.{boolByte}
-use lib.ListN.{length, getD, set, take, length-map}
-use lib.Seq.{take-all}
+use lib.ListN.{length, getD, set, length-map}
 use Rattle.machine.specs.declared.Definition.{Definition}
 use Rattle.machine.specs.State.{undefined}
 use Rattle.operands.specs.Packing.{unpacked, unpackedAll}
@@ -59,32 +57,6 @@ unpacked-set [] i x = refl
 unpacked-set (y ∷ ys) zero x = refl
 unpacked-set (y ∷ ys) (suc i) x = ap (λ (l : List Definition). unpacked y ∷ l) (unpacked-set ys i x)
 
-cons-same : {x y : Definition} {xs ys : List Definition} → _≡_ {A = List Definition} (x ∷ xs) (y ∷ ys) → (x ≡ y) × (xs ≡ ys)
-cons-same e = (cc, cc)
-
--- the first i numbers stand for the first i definitions
-pub PackedUpTo : List Definition → ℕ → List ℕ → Type 0
-PackedUpTo definitions i fields = take i (unpackedAll fields) ≡ take i definitions
-
-pub packed-none : (definitions : List Definition) (fields : List ℕ) → PackedUpTo definitions 0 fields
-unfolding PackedUpTo
-packed-none definitions fields = refl
-
-pub packed-next : (definitions : List Definition) (i : ℕ) (fields : List ℕ) → PackedUpTo definitions i fields → i < length definitions → i < length fields
-    → (x : ℕ) → unpacked x ≡ getD definitions i undefined → PackedUpTo definitions (i + 1) (set fields i x)
-unfolding PackedUpTo unpackedAll
-packed-next definitions i fields so-far less room x is = rw add-one (go definitions i fields so-far less room x is)
-  where
-    go : (ds : List Definition) (i : ℕ) (fs : List ℕ) → take i (map unpacked fs) ≡ take i ds → i < length ds → i < length fs
-        → (x : ℕ) → unpacked x ≡ getD ds i undefined → take (suc i) (map unpacked (set fs i x)) ≡ take (suc i) ds
-    go [] i fs e l r x is = absurd (omega arith)
-    go (d ∷ ds) i [] e l r x is = absurd (omega arith)
-    go (d ∷ ds) zero (f ∷ fs) e l r x is = ap (λ (y : Definition). y ∷ []) is
-    go (d ∷ ds) (suc i) (f ∷ fs) e l r x is = ap₂ (λ (y : Definition) (ys : List Definition). y ∷ ys) (cons-same e .0)
-        (go ds i fs (cons-same e .1) (omega arith) (omega arith) x is)
-
-pub packed-all : (definitions : List Definition) (i : ℕ) (fields : List ℕ) → PackedUpTo definitions i fields → length definitions ≤ i → length fields ≤ i
-    → unpackedAll fields ≡ definitions
-unfolding PackedUpTo unpackedAll
-packed-all definitions i fields so-far long short =
-    sym (take-all i (map unpacked fields) (rw (length-map fields unpacked) short)) ∙ so-far ∙ take-all i definitions long
+pub length-unpacked : (fields : List ℕ) → length (unpackedAll fields) ≡ length fields
+unfolding unpackedAll
+length-unpacked fields = length-map fields unpacked

@@ -7,3 +7,4 @@ pub mod Bitwise
 pub mod Places
 pub mod Nearest
 pub mod Width
+pub mod Filling

@@ -1,24 +1,23 @@
 -- `columns::with_bits` meets its contract. The loop's invariant: i words are made. Assumes nothing.
-use Prim.Native.Nat.{ℕ, _-_, _*_, _+_, _/_, _%_, _^_, _≤_}
+use Prim.Native.Nat.{ℕ, _-_, _*_, _+_, _/_, _%_, _^_}
 use mathlib.Core.Path.{_≡_, refl, sym, ap, _∙_}
 use native.Mathlib.Omega.{arith}
-use lib.ListN.{getD, take, replicate}
-use lib.Seq.{sets}
+use lib.ListN.{getD}
 use Rattle.columns.specs.Packing.{longer}
+use Rattle.word.proofs.Filling.{Fills, fills-none, whole-next, whole-all}
 use Rattle.columns.proofs.Packing.{length-longer, longer-at, bytes-next}
-use Rattle.columns.proofs.Writing.{fill-next, fill-all}
 use borrow.Author.Needs.{needs}
 use Rattle.columns.proofs.with_bits.Statement.{statement}
 use Rattle.columns.proofs.with_bits.Tie as tie
 
 abbrev Inv-loop : tie.InvT-loop
-Inv-loop group all made₀ rest₀ i₀ made rest i = (i ≤ 8) × (rest ≡ all / 256 ^ i) × (made ≡ sets (replicate 8 0) 0 (take i (longer group all)))
+Inv-loop group all made₀ rest₀ i₀ made rest i = (rest ≡ all / 256 ^ i) × Fills 0 8 (longer group all) made₀ made i
 
 abbrev μ-loop : tie.MeasureT-loop
 μ-loop group all made₀ rest₀ i₀ made rest i = 8 - i
 
 loop-holds : tie.Need-loop-holds Inv-loop μ-loop
-loop-holds c = (omega arith, omega arith, refl)
+loop-holds c = let a = c .args in (omega arith, fills-none (length-longer (a .group .now) (a .all) ∙ c .pre .0) (omega arith))
 
 mul-made : tie.Need-mul-made Inv-loop μ-loop
 mul-made c = search needs
@@ -52,19 +51,13 @@ loop-again c =
     let more = c .before .loop-test .taken in
     let long = start .pre .0 in
     let group = a .group .now in (
-      omega arith,
-      bytes-next (a .all) (l .i) (l .inv .1),
-      fill-next 8 (longer group (a .all)) (l .i) (omega (arith, length-longer group (a .all)))
-          (ap (λ (k : ℕ). getD group (l .i) 0 * 256 + k % 256) (l .inv .1) ∙ sym (longer-at group (a .all) (l .i) (omega arith)))
-          (l .inv .2),
+      bytes-next (a .all) (l .i) (l .inv .0),
+      whole-next (l .inv .1) more 0 (ap (λ (k : ℕ). getD group (l .i) 0 * 256 + k % 256) (l .inv .0)
+          ∙ sym (longer-at group (a .all) (l .i) (omega arith))),
     )
 
 returns : tie.Need-returns Inv-loop μ-loop
-returns c =
-    let start = c .before .before in
-    let a = start .args in
-    let over = c .loop-test .left in
-    fill-all 8 _ (length-longer (a .group .now) (a .all) ∙ start .pre .0) over (c .before .loop .inv .2)
+returns c = whole-all (c .before .loop .inv .1) (c .loop-test .left) refl
 
 pub with-bits-spec : {M : Type 1} → statement M
 with-bits-spec =

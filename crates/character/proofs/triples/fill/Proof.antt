@@ -1,19 +1,18 @@
 -- `character::triples::fill` meets its contract. The loop's invariant: the buffer's first entries are the list's. Assumes nothing.
-use mathlib.Core.Path.{_≡_, refl, sym, ap, _∙_}
-use Prim.Native.Nat.{_-_, _≤_, _<_}
-use native.Mathlib.Numerals.{add-one}
+use mathlib.Core.Path.{_≡_, sym, _∙_}
+use Prim.Native.Nat.{_-_}
 use native.Mathlib.Omega.{arith}
-use lib.ListN.{length, take, length-set}
-use lib.Seq.{take-suc-set, take-all}
+use lib.ListN.{length}
 use borrow.Author.Needs.{needs}
 use borrow.Author.Tests.{eq-eqb, ne-eqb}
 use Rattle.character.specs.Triples.{triples, filled, answered}
-use Rattle.character.proofs.Entries.{thousand-made}
+use Rattle.character.proofs.Entries.{length-triples, triples-at, thousand-made}
+use Rattle.word.proofs.Filling.{Fills, fills-none, whole-next, whole-all}
 use Rattle.character.proofs.triples.fill.Statement.{statement}
 use Rattle.character.proofs.triples.fill.Tie as tie
 
 abbrev Inv-loop : tie.InvT-loop
-Inv-loop buffer₀ made₀ buffer made = (made ≤ length buffer₀) × (length buffer ≡ length buffer₀) × (take made buffer ≡ triples made)
+Inv-loop buffer₀ made₀ buffer made = Fills 0 1000 (triples 1000) buffer₀ buffer made
 
 abbrev μ-loop : tie.MeasureT-loop
 μ-loop buffer₀ made₀ buffer made = length buffer₀ - made
@@ -25,8 +24,7 @@ returns c =
     (rw other, rw other)
 
 loop-holds : tie.Need-loop-holds Inv-loop μ-loop
-unfolding triples
-loop-holds c = (omega arith, refl, refl)
+loop-holds c = fills-none (length-triples 1000) (omega arith)
 
 entry-requires : tie.Need-entry-requires Inv-loop μ-loop
 entry-requires c κs = search needs
@@ -44,14 +42,9 @@ loop-less : tie.Need-loop-less Inv-loop μ-loop
 loop-less c = search needs
 
 loop-again : tie.Need-loop-again Inv-loop μ-loop
-unfolding triples
 loop-again c =
     let l = c .before .before .loop in
-    let inside : l .made < length (l .buffer) = omega arith in (
-      omega arith,
-      length-set (l .buffer) _ _ ∙ l .inv .1,
-      rw (add-one, take-suc-set (l .buffer) (l .made) _ inside, l .inv .2, c .entry .ensures),
-    )
+    whole-next (l .inv) (omega arith) 0 (c .entry .ensures ∙ sym (triples-at 1000 (l .made) (omega arith)))
 
 same-length : tie.Need-same-length Inv-loop μ-loop
 same-length c = search needs
@@ -63,8 +56,7 @@ returns-2 c =
     let before = c .before .before .before .before .args .buffer .now in
     let long : length before ≡ 1000 = omega arith in
     let test = eq-eqb (length before) 1000 long in
-    let done : l .made ≡ 1000 = omega arith in
-    (rw test done, rw test (sym (take-all (l .made) (l .buffer) (omega arith)) ∙ l .inv .2 ∙ ap triples done ∙ sym thousand-made))
+    (rw test (omega arith), rw test (whole-all (l .inv) (omega arith) long ∙ sym thousand-made))
 
 pub fill-spec : {M : Type 1} → statement M
 fill-spec =

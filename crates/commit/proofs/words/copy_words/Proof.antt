@@ -1,25 +1,20 @@
 -- `commit::words::copy_words` meets its contract. The loop's invariant: the first i words are copied. Assumes nothing.
-use Prim.Native.Nat.{_-_, _≤_}
-use mathlib.Core.Path.{_≡_, _∙_}
-use native.Mathlib.Omega.{arith}
-use lib.ListN.{length, take, drop, length-set}
-use lib.Seq.{paste, paste-zero}
+use Prim.Native.Nat.{_-_}
+use lib.ListN.{take, drop}
+use Rattle.word.proofs.Filling.{Fills, fills-none}
 use Rattle.commit.proofs.Pasted.{all-placed, one-copied, length-copied}
 use borrow.Author.Needs.{needs}
 use Rattle.commit.proofs.words.copy_words.Statement.{statement}
 use Rattle.commit.proofs.words.copy_words.Tie as tie
 
 abbrev Inv-loop : tie.InvT-loop
-Inv-loop storage₀ to from n i₀ storage i =
-    (i ≤ n) × (length storage ≡ length storage₀) × (storage ≡ paste storage₀ to (take n (drop from storage₀)) i)
+Inv-loop storage₀ to from n i₀ storage i = Fills to n (take n (drop from storage₀)) storage₀ storage i
 
 abbrev μ-loop : tie.MeasureT-loop
 μ-loop storage₀ to from n i₀ storage i = n - i
 
 loop-holds : tie.Need-loop-holds Inv-loop μ-loop
-loop-holds c =
-    let a = c .args in
-    (omega arith, search needs, paste-zero (a .storage .now) (a .to) (take (a .n) (drop (a .from) (a .storage .now))))
+loop-holds c = let a = c .args in fills-none (length-copied (a .storage .now) (a .from) (a .n) (c .pre .1)) (c .pre .0)
 
 add-storage : tie.Need-add-storage Inv-loop μ-loop
 add-storage c = search needs
@@ -49,23 +44,13 @@ loop-again : tie.Need-loop-again Inv-loop μ-loop
 loop-again c =
     let start = c .before .before .before in
     let a = start .args in
-    let l = c .before .before .loop in (
-      omega arith,
-      length-set (l .storage) _ _ ∙ l .inv .1,
-      rw (l .inv .2) (one-copied (a .storage .now) (a .n) (l .i) (c .before .loop-test .taken) (a .to) (a .from) (start .pre .0) (start .pre .1)
-          (start .pre .2)),
-    )
+    one-copied (a .storage .now) (a .from) (a .n) (c .before .before .loop .inv) (c .before .loop-test .taken) (start .pre .2)
 
 same-length : tie.Need-same-length Inv-loop μ-loop
 same-length c = search needs
 
 returns : tie.Need-returns Inv-loop μ-loop
-returns c =
-    let start = c .before .before in
-    let a = start .args in
-    let done : c .before .loop .i ≡ a .n = omega arith in
-    c .before .loop .inv .2 ∙ rw done (all-placed (a .storage .now) (take (a .n) (drop (a .from) (a .storage .now))) (a .to) (a .n)
-    (length-copied (a .storage .now) (a .from) (a .n) (start .pre .1)))
+returns c = all-placed (c .before .loop .inv) (c .loop-test .left)
 
 pub copy-words-spec : {M : Type 1} → statement M
 copy-words-spec =

@@ -1,25 +1,21 @@
 -- `commit::words::zero_words` meets its contract. The loop's invariant: the first i words are zero. Assumes nothing.
-use Prim.Native.Nat.{_-_, _≤_}
-use mathlib.Core.Path.{_≡_, _∙_}
-use native.Mathlib.Omega.{arith}
-use lib.ListN.{length, replicate, length-replicate, length-set}
-use lib.Seq.{paste, paste-zero}
-use Rattle.commit.proofs.Pasted.{all-placed, one-zero}
+use Prim.Native.Nat.{_-_}
+use mathlib.Core.Path.{sym}
+use lib.ListN.{replicate, length-replicate, getD-replicate}
+use Rattle.word.proofs.Filling.{Fills, fills-none, fills-next}
+use Rattle.commit.proofs.Pasted.{all-placed}
 use borrow.Author.Needs.{needs}
 use Rattle.commit.proofs.words.zero_words.Statement.{statement}
 use Rattle.commit.proofs.words.zero_words.Tie as tie
 
 abbrev Inv-loop : tie.InvT-loop
-Inv-loop storage₀ from n i₀ storage i =
-    (i ≤ n) × (length storage ≡ length storage₀) × (storage ≡ paste storage₀ from (replicate n 0) i)
+Inv-loop storage₀ from n i₀ storage i = Fills from n (replicate n 0) storage₀ storage i
 
 abbrev μ-loop : tie.MeasureT-loop
 μ-loop storage₀ from n i₀ storage i = n - i
 
 loop-holds : tie.Need-loop-holds Inv-loop μ-loop
-loop-holds c =
-    let a = c .args in
-    (omega arith, search needs, paste-zero (a .storage .now) (a .from) (replicate (a .n) 0))
+loop-holds c = fills-none (length-replicate (c .args .n) 0) (c .pre)
 
 add-storage : tie.Need-add-storage Inv-loop μ-loop
 add-storage c = search needs
@@ -38,22 +34,14 @@ loop-less c = search needs
 
 loop-again : tie.Need-loop-again Inv-loop μ-loop
 loop-again c =
-    let start = c .before .before in
-    let a = start .args in
-    let l = c .before .loop in (
-      omega arith,
-      length-set (l .storage) _ _ ∙ l .inv .1,
-      rw (l .inv .2) (one-zero (a .storage .now) (a .n) (l .i) (c .loop-test .taken) (a .from) (start .pre)),
-    )
+    let more = c .loop-test .taken in
+    fills-next (c .before .loop .inv) more 0 (sym (getD-replicate (c .before .before .args .n) (c .before .loop .i) 0 0 more))
 
 same-length : tie.Need-same-length Inv-loop μ-loop
 same-length c = search needs
 
 returns : tie.Need-returns Inv-loop μ-loop
-returns c =
-    let a = c .before .before .args in
-    let done : c .before .loop .i ≡ a .n = omega arith in
-    c .before .loop .inv .2 ∙ rw done (all-placed (a .storage .now) (replicate (a .n) 0) (a .from) (a .n) (length-replicate (a .n) 0))
+returns c = all-placed (c .before .loop .inv) (c .loop-test .left)
 
 pub zero-words-spec : {M : Type 1} → statement M
 zero-words-spec =

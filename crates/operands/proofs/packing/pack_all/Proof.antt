@@ -1,23 +1,24 @@
 -- `operands::packing::pack_all` meets its contract. The loop's invariant: the first i numbers stand for the first i definitions. Assumes nothing.
-use Prim.Native.Nat.{ℕ, _-_, _≤_}
+use Prim.Native.Nat.{_-_}
 use native.Mathlib.Omega.{arith}
-use mathlib.Core.List.{List}
-use mathlib.Core.Path.{_≡_, refl}
+use mathlib.Core.Path.{_≡_, _∙_}
 use lib.ListN.{length}
 use Rattle.machine.specs.State.{undefined}
-use Rattle.operands.proofs.Unpacking.{PackedUpTo, packed-none, packed-next, packed-all}
+use Rattle.operands.specs.Packing.{unpackedAll}
+use Rattle.word.proofs.Filling.{Fills, fills-none, whole-next, whole-all}
+use Rattle.operands.proofs.Unpacking.{unpacked-set, length-unpacked}
 use borrow.Author.Needs.{needs}
 use Rattle.operands.proofs.packing.pack_all.Statement.{statement}
 use Rattle.operands.proofs.packing.pack_all.Tie as tie
 
 abbrev Inv-loop : tie.InvT-loop
-Inv-loop fields₀ definitions i₀ fields i = (i ≤ 36) × PackedUpTo definitions i fields × (length fields ≡ 36) × (length definitions ≡ 36)
+Inv-loop fields₀ definitions i₀ fields i = (length fields ≡ 36) × Fills 0 36 definitions (unpackedAll fields₀) (unpackedAll fields) i
 
 abbrev μ-loop : tie.MeasureT-loop
 μ-loop fields₀ definitions i₀ fields i = 36 - i
 
 loop-holds : tie.Need-loop-holds Inv-loop μ-loop
-loop-holds c = (omega arith, packed-none _ _, c .pre, search needs)
+loop-holds c = (c .pre, fills-none (search needs) (omega (arith, length-unpacked (c .args .fields .now))))
 
 mul-pack : tie.Need-mul-pack Inv-loop μ-loop
 mul-pack c = search needs
@@ -43,16 +44,13 @@ loop-less c = omega arith
 loop-again : tie.Need-loop-again Inv-loop μ-loop
 unfolding undefined
 loop-again c =
-    let at-loop = c .before .before .before in (
-      omega arith,
-      packed-next _ _ _ (at-loop .loop .inv .1) (omega (arith, at-loop .loop .inv .3)) (omega (arith, at-loop .loop .inv .2)) _
-          (c .pack .ensures),
-      search needs,
-      at-loop .loop .inv .3,
-    )
+    let more = c .before .before .loop-test .taken in
+    (search needs, rw unpacked-set (whole-next (c .before .before .before .loop .inv .1) more undefined (c .pack .ensures)))
 
 returns : tie.Need-returns Inv-loop μ-loop
-returns c = packed-all _ _ _ (c .before .loop .inv .1) (omega (arith, c .before .loop .inv .3)) (omega (arith, c .before .loop .inv .2))
+returns c =
+    let start = c .before .before in
+    whole-all (c .before .loop .inv .1) (c .loop-test .left) (length-unpacked (start .args .fields .now) ∙ start .pre)
 
 pub pack-all-spec : {M : Type 1} → statement M
 pack-all-spec =
