@@ -4,7 +4,7 @@ use native.Mathlib.Omega.{arith}
 use lib.ListN.{length}
 use Rattle.silence.specs.Silence.{testOf}
 use Rattle.silence.proofs.Picking.{Counted, counted-start, left-by, counted-next}
-use Rattle.silence.proofs.Putting.{put-start, put-long, Putting, putting-room, putting-next, putting-done}
+use Rattle.silence.proofs.Putting.{put-start, Putting, putting-room, putting-next, putting-done}
 use borrow.Author.Needs.{needs}
 use Rattle.silence.proofs.put_picked.Statement.{statement}
 use Rattle.silence.proofs.put_picked.Tie as tie
@@ -17,7 +17,7 @@ abbrev μ-loop : tie.MeasureT-loop
 μ-loop asked stops pairs output₀ n₀ i₀ output n i = length stops - i
 
 loop-holds : tie.Need-loop-holds Inv-loop μ-loop
-loop-holds c = (counted-start _ _, put-start _ _)
+loop-holds c = (counted-start _ _, put-start (c .before .before .before .pre))
 
 is-picked-requires : tie.Need-is-picked-requires Inv-loop μ-loop
 is-picked-requires c κs = search needs
@@ -33,9 +33,8 @@ put-if-requires c κs =
     let at-is-picked = c .before .before in
     let at-loop-test = at-is-picked .before in
     let at-loop = at-loop-test .before in
-    let entry = at-loop .before .before .before .before in
     let left = left-by _ _ _ (at-loop-test .loop-test .taken) (at-is-picked .is-picked .ensures) in
-    putting-room _ _ _ (entry .pre) _ _ (at-loop-test .loop-test .taken) (at-loop .loop .inv .1) (at-is-picked .is-picked .result) left
+    putting-room _ _ _ _ _ (at-loop-test .loop-test .taken) (at-loop .loop .inv .1) (at-is-picked .is-picked .result) left
 
 counted-requires : tie.Need-counted-requires Inv-loop μ-loop
 counted-requires c κs =
@@ -54,24 +53,19 @@ loop-again c =
     let at-is-picked = at-put-if .before .before .before in
     let at-loop-test = at-is-picked .before in
     let at-loop = at-loop-test .before in
-    let entry = at-loop .before .before .before .before in
     let left = left-by _ _ _ (at-loop-test .loop-test .taken) (at-is-picked .is-picked .ensures) in
     rw (c .counted .ensures, at-put-if .put-if .ensures) (
       counted-next _ _ _ (at-loop-test .loop-test .taken) (at-is-picked .is-picked .result) left (at-loop .loop .inv .0),
-      putting-next _ _ _ (entry .pre) _ _ (at-loop-test .loop-test .taken) (at-loop .loop .inv .1) (at-is-picked .is-picked .result) left,
+      putting-next _ _ _ _ _ (at-loop-test .loop-test .taken) (at-loop .loop .inv .1) (at-is-picked .is-picked .result) left,
     )
 
 same-length : tie.Need-same-length Inv-loop μ-loop
-same-length c =
-    let at-loop = c .before in
-    let entry = at-loop .before .before .before .before in
-    put-long _ _ (entry .pre) (at-loop .loop .inv .1)
+same-length c = c .before .loop .inv .1 .filled .long
 
 returns : tie.Need-returns Inv-loop μ-loop
 returns c =
     let at-loop = c .before in
-    let entry = at-loop .before .before .before .before in
-    putting-done _ _ _ (entry .pre) (at-loop .loop .i) (at-loop .loop .n) (omega arith) (at-loop .loop .inv .1)
+    putting-done _ _ _ (at-loop .loop .i) (at-loop .loop .n) (omega arith) (at-loop .loop .inv .1)
 
 pub put-picked-spec : {M : Type 1} → statement M
 put-picked-spec =
