@@ -1,5 +1,4 @@
 -- `octets::number_at` meets its contract. The loop's invariant: the number of the bytes from left on. Assumes nothing.
--- a byte fits a word
 use native.Mathlib.Omega.{arith}
 use Prim.Native.Nat.{ℕ, _^_, _<_}
 use Rattle.octets.proofs.Reading.{Low, low-none, low-fits, low-next, low-all}
@@ -13,6 +12,7 @@ Inv-loop bytes at n left₀ number₀ left number = Low bytes at n left number
 abbrev μ-loop : tie.MeasureT-loop
 μ-loop bytes at n left₀ number₀ left number = left
 
+-- a byte fits a word
 byte-fits : (x : ℕ) → x < 256 → x < 2 ^ 64
 byte-fits x h = omega arith
 
@@ -23,7 +23,7 @@ sub-left : tie.Need-sub-left Inv-loop μ-loop
 sub-left c = search needs
 
 mul-number : tie.Need-mul-number Inv-loop μ-loop
-mul-number c = omega (arith, low-fits (c .before .loop .inv) (c .loop-test .taken) (c .before .before .pre .0) 0 (omega arith))
+mul-number c = omega (arith, low-fits (c .before .loop .inv) (omega arith) (c .before .before .pre .0) 0 (omega arith))
 
 add-number : tie.Need-add-number Inv-loop μ-loop
 add-number c =
@@ -39,7 +39,7 @@ cast-number c = record { fits = byte-fits _ (c .shared-slice-known .given _ .fit
 add-number-2 : tie.Need-add-number-2 Inv-loop μ-loop
 add-number-2 c =
     let start = c .before .before .before in
-    record { fits = low-fits (c .before .before .loop .inv) (c .before .loop-test .taken) (start .pre .0) _ (c .shared-slice-known .given _ .fits) }
+    record { fits = low-fits (c .before .before .loop .inv) (omega arith) (start .pre .0) _ (c .shared-slice-known .given _ .fits) }
 
 loop-less : tie.Need-loop-less Inv-loop μ-loop
 loop-less c = search needs
@@ -47,7 +47,7 @@ loop-less c = search needs
 loop-again : tie.Need-loop-again Inv-loop μ-loop
 loop-again c =
     let start = c .before .before .before in
-    low-next (c .before .before .loop .inv) (c .before .loop-test .taken) (start .pre .1) (c .shared-slice-known .given _ .fits)
+    low-next (c .before .before .loop .inv) (omega arith) (start .pre .1) (c .shared-slice-known .given _ .fits)
 
 returns : tie.Need-returns Inv-loop μ-loop
 returns c =
