@@ -1,3 +1,4 @@
+-- Laws that the proofs of the functions cite.
 pub mod Answers
 pub mod Walking
 pub mod Steps

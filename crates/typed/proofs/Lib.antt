@@ -1,3 +1,4 @@
+-- Laws that the proofs of the functions cite.
 pub mod Valuing
 pub mod Putting
 pub mod Grouping

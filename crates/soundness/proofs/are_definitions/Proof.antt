@@ -9,7 +9,6 @@ use lib.ListN.{length, drop}
 use Rattle.machine.specs.Sound.{every, isDefinition}
 use Rattle.machine.specs.State.{undefined}
 use Rattle.soundness.proofs.Passed.{also-next, also-end}
-use borrow.Author.Needs.{needs}
 use Rattle.soundness.proofs.are_definitions.Statement.{statement}
 use Rattle.soundness.proofs.are_definitions.Tie as tie
 

@@ -1,7 +1,6 @@
 -- `soundness::are_stacks` meets its contract: the three stacks joined. Assumes nothing.
 use borrow.Author.Needs.{needs}
 use Rattle.machine.specs.Sound.{soundStacks}
-use borrow.Author.Needs.{needs}
 use Rattle.soundness.proofs.are_stacks.Statement.{statement}
 use Rattle.soundness.proofs.are_stacks.Tie as tie
 

@@ -10,7 +10,6 @@ use lib.Pow.{pow-pos}
 use Rattle.machine.specs.Sound.{every}
 use Rattle.machine.proofs.Every.{below}
 use Rattle.soundness.proofs.Passed.{parted, part-on, part-end}
-use borrow.Author.Needs.{needs}
 use Rattle.soundness.proofs.are_words.Statement.{statement}
 use Rattle.soundness.proofs.are_words.Tie as tie
 

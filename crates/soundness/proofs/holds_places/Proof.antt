@@ -1,7 +1,6 @@
 -- `soundness::holds_places` meets its contract: an empty stack passes, and another is judged by its entries. Assumes nothing.
 use borrow.Author.Needs.{needs}
 use Rattle.soundness.proofs.Passed.{stack-none}
-use borrow.Author.Needs.{needs}
 use Rattle.soundness.proofs.holds_places.Statement.{statement}
 use Rattle.soundness.proofs.holds_places.Tie as tie
 

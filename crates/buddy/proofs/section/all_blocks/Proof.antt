@@ -11,7 +11,6 @@ use Rattle.buddy.specs.Marks.{Passing}
 use Rattle.buddy.proofs.Halves.{part-length}
 use Rattle.buddy.proofs.Parts.{count-small}
 use Rattle.buddy.proofs.Passing.{room-left, pass-on, pass-broken, pass-more, pass-end}
-use borrow.Author.Needs.{needs}
 use Rattle.buddy.proofs.section.all_blocks.Statement.{statement}
 use Rattle.buddy.proofs.section.all_blocks.Tie as tie
 

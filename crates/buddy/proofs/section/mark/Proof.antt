@@ -3,7 +3,6 @@ use mathlib.Core.Path.{refl, sym}
 use borrow.Author.Needs.{needs}
 use Rattle.buddy.specs.Marks.{mark}
 use Rattle.buddy.proofs.Marks.{mark-some}
-use borrow.Author.Needs.{needs}
 use Rattle.buddy.proofs.section.mark.Statement.{statement}
 use Rattle.buddy.proofs.section.mark.Tie as tie
 

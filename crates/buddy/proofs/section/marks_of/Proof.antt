@@ -9,7 +9,6 @@ use lib.Seq.{take-length}
 use Rattle.buddy.specs.Marks.{marks}
 use Rattle.buddy.proofs.Marks.{marks-part, marks-most}
 use Rattle.buddy.proofs.Halves.{part-length, upper}
-use borrow.Author.Needs.{needs}
 use Rattle.buddy.proofs.section.marks_of.Statement.{statement}
 use Rattle.buddy.proofs.section.marks_of.Tie as tie
 

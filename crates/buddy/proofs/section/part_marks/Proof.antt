@@ -8,7 +8,6 @@ use lib.ListN.{length, take, getD}
 use lib.Seq.{take-all}
 use Rattle.buddy.specs.Marks.{marks}
 use Rattle.buddy.proofs.Marks.{marks-next, mark-most}
-use borrow.Author.Needs.{needs}
 use Rattle.buddy.proofs.section.part_marks.Statement.{statement}
 use Rattle.buddy.proofs.section.part_marks.Tie as tie
 

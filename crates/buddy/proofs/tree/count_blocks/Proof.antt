@@ -1,6 +1,5 @@
 -- `count_blocks` counts one block after the other. The loop's invariant: counting from here on gives the blocks of the tree, and each byte
 -- passed added one at most. The measure is what is left of the tree. Assumes nothing.
--- the block that starts here
 use Prim.Native.Nat.{_≤_, _-_}
 use Rattle.word.proofs.Tests.{known-true, known-false}
 use mathlib.Core.Path.{sym}
@@ -9,7 +8,6 @@ use lib.ListN.{length}
 use Rattle.buddy.specs.Marks.{tagLevel, counted}
 use Rattle.block.proofs.Size.{size-small}
 use Rattle.buddy.proofs.Adding.{Adds, adds-all, adds-end, adds-stop, adds-pass, Tagged, tagged}
-use borrow.Author.Needs.{needs}
 use borrow.Author.Needs.{needs}
 use Rattle.buddy.proofs.tree.count_blocks.Statement.{statement}
 use Rattle.buddy.proofs.tree.count_blocks.Tie as tie
@@ -20,6 +18,7 @@ Inv-loop k bytes count₀ i₀ count i = (i ≤ 256) × (count ≤ i) × Adds k 
 abbrev μ-loop : tie.MeasureT-loop
 μ-loop k bytes count₀ i₀ count i = length bytes - i
 
+-- the block that starts here
 tag : (c : tie.Else1 Inv-loop μ-loop) → let e = c .before .before .before .before .before in
     Tagged (e .args .k) (c .before .before .before .loop .i) (e .args .bytes .now)
 tag c = tagged _ _ _ (omega arith) (known-true (c .before .starts-block .ensures) (c .if1 .left))
