@@ -47,7 +47,7 @@ test:
 fmt:
 	rt fmt
 
-# Tries the wrong answers that stand apart from the gate, crates/NAME/wrong: the prover must refuse each (seconds each once all is proved, up to a minute in engine).
+# Tries the wrong answers that stand apart from the gate, crates/NAME/wrong: the prover must refuse each (half an hour on two processors once all is proved).
 wrong:
 	bash .ci/wrong
 
