@@ -1,6 +1,8 @@
 // The block allocator and references tried: a checksum over generated cases for each function on sizes, over sequences of
 // operations for each set-up, and over references; then bench cases of document 01. reference/leaves.rs computes the same lines
 // independently.
+#![tactic(auto)]
+
 mod maps;
 mod references;
 

@@ -1,4 +1,6 @@
 // The buddy allocator on a block map. What its functions give stands in the crate block, and in specs/ what those inside it give.
+#![tactic(auto)]
+
 pub mod extension;
 pub mod fresh;
 pub mod section;
@@ -7,7 +9,7 @@ pub mod sizes;
 mod tree;
 
 // An address, or none.
-#[derive(Drop)]
+#[derive(Clone, Copy)]
 pub enum Found {
     At(usize),
     Nothing,

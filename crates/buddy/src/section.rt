@@ -73,7 +73,7 @@ fn marks_of(bytes: &[u8]) -> usize
 }
 
 // How far trees were passed, and a number with the blocks of those passed.
-#[derive(Drop)]
+#[derive(Clone, Copy)]
 struct Whole {
     at: usize,
     count: usize,

@@ -1,5 +1,7 @@
 // Storage kept by bit columns tried: for each line a checksum over what the calls answer and leave on generated and damaged lists.
 // reference/leaves.rs computes the same lines independently.
+#![tactic(auto)]
+
 ghost use Rattle.std.specs.Prelude.{◌≤◌, ◌<◌, length};
 
 use columns::Kept;

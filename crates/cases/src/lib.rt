@@ -1,4 +1,6 @@
 // What the test programs share: how cases are generated, the checksum over what is answered on them, and how lines are written.
+#![tactic(auto)]
+
 pub mod characters;
 pub mod lines;
 pub mod references;
@@ -10,7 +12,7 @@ ghost use Rattle.std.specs.Prelude.{◌≡◌, ◌-◌, ◌<◌, ◌≤◌};
 pub const REFUSED: u64 = 9223372036854775808;
 
 // A case: a number for choices, two values, the generator's state after it, and how many cases come after it.
-#[derive(Drop)]
+#[derive(Clone, Copy)]
 pub struct Case {
     pub a: u64,
     pub x: u64,

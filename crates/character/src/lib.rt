@@ -1,4 +1,6 @@
 // Six-bit characters in a value of up to ten: the operations 24 to 31 of document 01. A value's first character is its leftmost.
+#![tactic(auto)]
+
 mod thousand;
 pub mod triples;
 
@@ -23,14 +25,14 @@ const SIX_DIGITS: u64 = 1_000_000;
 const THREE_DIGITS: u64 = 1_000;
 
 // What characters come to in a base.
-#[derive(Drop)]
+#[derive(Clone, Copy)]
 pub enum Converted {
     Value(u64),
     NotADigit,
 }
 
 // What bytes come to as characters.
-#[derive(Drop)]
+#[derive(Clone, Copy)]
 pub enum Packed {
     Value(u64),
     TooLarge,

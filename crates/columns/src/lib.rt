@@ -1,4 +1,6 @@
 // Storage kept by bit columns: words saved as bytes, and loaded from them.
+#![tactic(auto)]
+
 ghost use Rattle.std.specs.Prelude.{true, ◌++◌, ◌≡◌, ℕ, ◌+◌, ◌-◌, ◌*◌, ◌/◌, ◌%◌, ◌^◌, ◌≤◌, ◌<◌, min, eqb, length, get_or, take, drop};
 ghost use Rattle.std.proofs.lemmas.List.Edits.{sets};
 ghost use Rattle.character.specs.Character.{number};
@@ -19,7 +21,7 @@ const SEVENS: u64 = 0x7F7F_7F7F_7F7F_7F7F;
 const DIAGONAL: u64 = 0x0102_0408_1020_4080;
 
 // What a call answers: how many bytes or words it wrote, or why it wrote none: refusals 31, 33, 34, 35.
-#[derive(Drop)]
+#[derive(Clone, Copy)]
 pub enum Kept {
     Count(usize),
     NoWidth,

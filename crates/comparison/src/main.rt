@@ -3,6 +3,8 @@
 // answer, count of steps, and checksums over the steps and over all that they leave (state, storage, output); the run's answer,
 // count and checksum over all that it leaves; and the case's label. At the end there is a line for each count of what the cases
 // reached, those of 36 bits and then those of 48.
+#![tactic(auto)]
+
 use engine::answers::refusal_number;
 use layout::reading::read_state;
 use layout::writing::write_state;
@@ -12,7 +14,7 @@ use states::numbers::NUMBERS;
 use states::{STATE, checksums, counts, numbers};
 
 // What a step answers, as a number; the checksum with it; and which count its first store belongs to.
-#[derive(Drop)]
+#[derive(Clone, Copy)]
 struct Told {
     answer: u64,
     steps: u64,
@@ -20,7 +22,7 @@ struct Told {
 }
 
 // How a case ends: answer, steps taken, checksums over the steps and over what is left.
-#[derive(Drop)]
+#[derive(Clone, Copy)]
 struct Ended {
     answer: u64,
     count: u64,

@@ -1,5 +1,7 @@
 // Re-recorded stops tried: edges, then a checksum over generated and damaged lists, and how often each answer came up.
 // reference/corrections.rs computes the same lines independently.
+#![tactic(auto)]
+
 ghost use Rattle.std.specs.Prelude.{◌<◌, ◌≤◌, length};
 
 use cases::next;
@@ -7,7 +9,7 @@ use recordings::Written;
 use std::num;
 
 // A list's rows besides row 0, and its chain: it goes on by a number of rows, round and round, from the first row to the last.
-#[derive(Drop)]
+#[derive(Clone, Copy)]
 struct Shape {
     rows: u64,
     step: u64,

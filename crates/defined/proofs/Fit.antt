@@ -27,7 +27,7 @@ use Rattle.defined.specs.Paths.{names}
 use Rattle.defined.proofs.Refers.{refers_to, row_refers, refers_by, refers_form}
 use Rattle.defined.specs.Answer.{Passes, IsRow, RowOrNone}
 
--- from the lowest ill_formed_lem row to every row
+-- from the lowest ill-formed row to every row
 all_formed : (b : ℕ) (table : List ℕ) (r count : ℕ) → 0 < r → lowest_from b table r count ≡ 0 → (i : ℕ) → r ≤ i → i < r + count
     → well_formed b (rows table) i (row_at table i) ≡ true
 unfolding lowest_from

@@ -13,7 +13,7 @@ use Rattle.defined.specs.Kinds.{wrong_row}
 use Rattle.defined.specs.Paths.{SomeUse, ToldUse}
 use Rattle.defined.specs.Search.{first_use, first_use_told}
 
--- the table check's own answer for a table whose length fits: the lowest ill_formed_lem row, 0 if there is none
+-- the table check's own answer for a table whose length fits: the lowest ill-formed row, 0 if there is none
 abbrev pub ill_formed_row : ℕ → List ℕ → ℕ
 ill_formed_row b table = lowest_from b table 1 (rows table - 1)
 

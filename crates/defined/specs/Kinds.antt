@@ -12,7 +12,7 @@ is_kind table kind r = eqb (row_at table r).kind kind
 unfoldable pub names_kind : List ℕ → ℕ → ℕ → Bool
 names_kind table kind r = eqb r 0 || is_kind table kind r
 
--- a line's first test row is a test, its first operation row an operation, and its go_to, where it is not DONE, a line
+-- a line's first test row is a test, its first operation row an operation, and its go-to, where it is not DONE, a line
 unfoldable pub line_names : List ℕ → Row → Bool
 line_names table row =
     names_kind table 2 (first_test row)

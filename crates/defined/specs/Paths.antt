@@ -40,7 +40,7 @@ pub data Leads (table : List ℕ) : Point → Point → Type 0 where
   -- a DO leads into the line that it names, any other operation to the one after it
   doing : {r l : ℕ} → (row_at table r).code ≡ 36 → Leads table (operation r l) (line (row_at table r).first.value)
   next_operation : {r l : ℕ} → ((row_at table r).code ≡ 36 → ⊥) → Leads table (operation r l) (operation_or (row_at table r).next l)
-  -- an exit leads to the go_to, or to the next line; a DONE after any DO
+  -- an exit leads to the go-to, or to the next line; a DONE after any DO
   going : {l : ℕ} → (go_to_of (row_at table l) ≡ done → ⊥) → (go_to_of (row_at table l) ≡ 0 → ⊥)
       → Leads table (exit l) (line (go_to_of (row_at table l)))
   next_line : {l : ℕ} → go_to_of (row_at table l) ≡ 0 → ((row_at table l).next ≡ 0 → ⊥) → Leads table (exit l) (line (row_at table l).next)

@@ -1,4 +1,6 @@
 // Fields defined before they are used: ticket 8. What the answers mean stands in specs/.
+#![tactic(auto)]
+
 ghost use Rattle.std.specs.Prelude.{◌≡◌};
 ghost use Rattle.defined.specs.Answer.{fields_checked, told_fields, fields_told, Meant};
 
@@ -12,14 +14,14 @@ mod walk;
 use table::check::{has_length, lowest_ill_formed};
 
 // The first field of some references that is in a set, if there is one.
-#[derive(Drop)]
+#[derive(Clone, Copy)]
 pub enum Used {
     Field(u64),
     Nothing,
 }
 
 // The lowest row that uses a field in its set, and the first such field of it.
-#[derive(Drop)]
+#[derive(Clone, Copy)]
 pub enum FirstUse {
     At { row: u64, field: u64 },
     Nowhere,
@@ -28,7 +30,7 @@ pub enum FirstUse {
 // What the check answers: yes; no, with the row and the field; or what is wrong before paths are followed: the width (refusal 31),
 // the table's length (refusal 1), the lowest ill-formed row, or a row of the wrong kind (refusal 30), with the row that names it,
 // or row 1 where it is no line.
-#[derive(Drop)]
+#[derive(Clone, Copy)]
 pub enum FieldsCheck {
     Yes,
     No { row: u64, field: u64 },

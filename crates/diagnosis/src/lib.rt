@@ -1,4 +1,6 @@
 // tourcheck over slices: the line that it prints of the bytes of tour.tab, put at the end of a text, last character first.
+#![tactic(auto)]
+
 ghost use Rattle.std.specs.Prelude.{◌≡◌, ◌++◌, ◌+◌, ◌≤◌, length};
 ghost use Rattle.tour.specs.Tour.{decimal};
 ghost use Rattle.tour.specs.Put.{put_before};

@@ -1,5 +1,7 @@
 // The check of fields tried on the tables of the input, which reference/drafts.rs wrote with the lines that must be printed: what
 // it says of each labelled table, then a checksum over all answers and how often each came up.
+#![tactic(auto)]
+
 ghost use Rattle.std.specs.Prelude.{◌≤◌};
 
 use defined::FieldsCheck;

@@ -149,7 +149,7 @@ pub unjudged : {r : Start} {answer : Answer} → r ≡ record { answer = answer;
     → (told_answer r.answer ≡ t) × (r.judged ≡ true → A)
 unjudged same is = (rw same is, λ j. absurd (let no : ◌≡◌ {A = ℕ} 0 1 = cc in omega arith))
 
--- a table that is checked, and has no ill_formed_lem row
+-- a table that is checked, and has no ill-formed row
 pub judged_fine : {row : ℕ} {found : TableCheck} → Lowest row ≡ found → eqb row 0 ≡ true → found ≡ Lowest 0
 judged_fine {row} at none = sym at ∙ ap Lowest (let same : row ≡ 0 = eqb-true row 0 none in same)
 

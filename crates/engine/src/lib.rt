@@ -1,4 +1,6 @@
 // The L6 engine: a fresh state, one step, and a run. Any table, storage, input, output buffer and state may be lent.
+#![tactic(auto)]
+
 ghost use Rattle.core.specs.Prelude.{◌≡◌, true, false, if◌then◌else◌};
 ghost use Rattle.word.specs.Word.{is_width};
 ghost use Rattle.table.specs.declared.TableCheck.TheVariants.{Lowest};
@@ -25,7 +27,7 @@ use walks::walk;
 use word::is_width;
 
 // What a walk returns: state, answer, the last step's report, and how many steps it took.
-#[derive(Drop)]
+#[derive(Clone, Copy)]
 pub struct Walked {
     pub state: State,
     pub answer: Answer,
@@ -118,7 +120,7 @@ fn judge(b: u64, table: &[u64], limit: u64) -> bool
 
 // What is judged before a walk: what its first step answers where it stops there, running where it goes on, and whether the table
 // is then known to be well-formed.
-#[derive(Drop)]
+#[derive(Clone, Copy)]
 pub struct Start {
     pub answer: Answer,
     pub judged: bool,

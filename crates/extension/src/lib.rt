@@ -1,4 +1,6 @@
 // More storage while a tour runs: between steps a host gives a new last address. Any storage and state may be lent.
+#![tactic(auto)]
+
 ghost use Rattle.std.specs.Prelude.{true, ◌≡◌, length};
 ghost use Rattle.word.specs.Told.{number};
 ghost use Rattle.block.specs.SetUp.{fitting};

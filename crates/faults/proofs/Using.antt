@@ -136,7 +136,7 @@ module _ (b : ℕ) (p : List ℕ → Bool) (s : List ℕ) (goal : Bool) where
       pub using_more : any p (calls_in b its) ≡ false → Using (left - 1) (close + 1)
       using_more e = record { parens = parens_more (is_operation b) s h.parens more start begins k; rest = rw e at calls_here }
 
--- a go_to, and a label declared again
+-- a go-to, and a label declared again
 pub empty_word : (w : List ℕ) → length w ≡ 0 → is_empty w ≡ true
 empty_word [] e = refl
 empty_word (x ∷ w) e = absurd (omega arith)

@@ -183,7 +183,7 @@ module _ (s : List ℕ) where
   abbrev pub PlacedIn : Scanned → Type 0
   PlacedIn r = PlacedTold (told_scanned r)
 
--- places set: after a label, after a mode word, after THEN, with a test more, with an operation more, with a go_to
+-- places set: after a label, after a mode word, after THEN, with a test more, with an operation more, with a go-to
 abbrev pub label_scan : ℕ → ℕ → Scan
 label_scan at end =
     record { from = at; label = end; mode = 0; test = 0; tests = 0; operation = 0; operations = 0; goes = 0; ends = 0 }

@@ -31,7 +31,7 @@ close_of Nothing = 0
 close_of (Word end) = 0
 close_of (Paren close) = close
 
--- the label of a go_to, and the lines before one
+-- the label of a go-to, and the lines before one
 unfoldable pub goes_to_of : List ℕ → List (List ℕ)
 goes_to_of w = cond (is_empty w || is_done w) [] (w ∷ [])
 

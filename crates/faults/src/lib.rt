@@ -1,4 +1,6 @@
 // Typed lines: a line read, the labels of a text, and its refusal.
+#![tactic(auto)]
+
 pub mod judging;
 pub mod labels;
 pub mod line;
@@ -7,7 +9,7 @@ pub mod seeking;
 
 // The places of a line's parts: where its label begins and ends, its mode, where its tests and its operations begin and how many
 // they are, and where its go-to begins and ends.
-#[derive(Drop)]
+#[derive(Clone, Copy)]
 pub struct Scan {
     pub from: usize,
     pub label: usize,
@@ -21,7 +23,7 @@ pub struct Scan {
 }
 
 // How far a line is read.
-#[derive(Drop)]
+#[derive(Clone, Copy)]
 pub enum Walk {
     Start,
     Broken,
@@ -33,28 +35,28 @@ pub enum Walk {
 }
 
 // A line that keeps the grammar, or not.
-#[derive(Drop)]
+#[derive(Clone, Copy)]
 pub enum Scanned {
     Good(Scan),
     Bad,
 }
 
 // How many labels are put by, and the rows of the line that was looked at.
-#[derive(Drop)]
+#[derive(Clone, Copy)]
 pub struct Noted {
     pub count: usize,
     pub size: u64,
 }
 
 // A line's fault, 0 where it has none, and its rows.
-#[derive(Drop)]
+#[derive(Clone, Copy)]
 pub struct Fault {
     pub number: u64,
     pub size: u64,
 }
 
 // The refusal of a text, 0 where there is none, the line of its fault, and the row count where there is no refusal.
-#[derive(Drop)]
+#[derive(Clone, Copy)]
 pub struct Verdict {
     pub number: u64,
     pub line: u64,

@@ -1,4 +1,6 @@
 // Files as tourrun and laps read them.
+#![tactic(auto)]
+
 ghost use Rattle.io.specs.Counts.{IsPrefixLen};
 
 // Reads the first bytes of a file, and says how many: a missing file counts as empty.

@@ -1,4 +1,6 @@
 // Opening hours: the row of the entry line at which a tour starts, by the day and the minute. Document 02: ticket 7.
+#![tactic(auto)]
+
 ghost use Rattle.std.specs.Prelude.{◌&&◌, eqb, ◌≡◌, ◌+◌, ◌≤◌, length, take, drop};
 ghost use Rattle.hours.specs.Hours.{weekday, entry_of, entries, has_hours, has_zeros, has_name, keeps, all_keep_of, holds};
 ghost use Rattle.hours.specs.Hours.{any_names, naming, first_holding, list_keeps, open_at, told_opening, holding_told, open_told};
@@ -20,7 +22,7 @@ const LAST_MINUTE: u64 = 1439;
 const LAST_ROW: u64 = 799;
 
 // What a window or an exception says: its weekday or day, the opening and the closing minute, the row, and 1 if it is closed.
-#[derive(Drop)]
+#[derive(Clone, Copy)]
 pub struct Entry {
     pub name: u64,
     pub opening: u64,
@@ -30,7 +32,7 @@ pub struct Entry {
 }
 
 // The answer: the row of an entry line, closed, or refused (refusal 29).
-#[derive(Drop)]
+#[derive(Clone, Copy)]
 pub enum Opening {
     Row(u64),
     Closed,

@@ -1,5 +1,7 @@
 // tourlist over slices: the listing that it prints of the bytes that it reads, put at the end of a text, last character first. Each
 // function returns where its text starts; no line has more than 96 characters.
+#![tactic(auto)]
+
 ghost use Rattle.std.specs.Prelude.{◌++◌, ◌≡◌, ◌+◌, ◌*◌, ◌≤◌, ◌<◌, length, get_or};
 ghost use Rattle.block.specs.SetUp.{words};
 ghost use Rattle.machine.specs.State.{undefined, tests_of};

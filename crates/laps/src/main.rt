@@ -2,6 +2,8 @@
 // many calls of run (one where CALLS is left out) or of step, fewer up to a finish or refusal, on words of WIDTH bits (36 where it
 // is left out). Prints the last answer's number (0 running, 100 finished), the count of steps and a checksum over the reports of
 // the calls of step, the bugs and the storage.
+#![tactic(auto)]
+
 ghost use Rattle.std.specs.Prelude.{◌≤◌};
 
 use cases::{fold_words, left_after};
@@ -14,7 +16,7 @@ use std::num;
 use tour::numbers::read_table;
 
 // What is asked for: so many calls of step, or of run up to a limit, on words of a width.
-#[derive(Drop)]
+#[derive(Clone, Copy)]
 struct Asked {
     stepping: bool,
     limit: u64,
@@ -23,7 +25,7 @@ struct Asked {
 }
 
 // How the steps end: the last answer's number, the count and the checksum.
-#[derive(Drop)]
+#[derive(Clone, Copy)]
 struct Ended {
     answer: u64,
     count: u64,

@@ -1,5 +1,7 @@
 // The leaves of the engine tried: bench cases of document 01, then a checksum over generated cases for each public function of
 // the crates word, character and table. reference/leaves.rs computes the same lines independently.
+#![tactic(auto)]
+
 mod characters;
 mod tables;
 mod words;

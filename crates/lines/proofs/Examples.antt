@@ -66,7 +66,7 @@ examples =
     ∷ for "THEN DONE\n" 8000 23 1
     -- THEN without operations
     ∷ for " IFALL(X,E,0)THEN DONE\n" 8000 23 1
-    -- neither operations nor a go_to
+    -- neither operations nor a go-to
     ∷ for " IFALL(X,E,0)\n" 8000 23 1
     -- a blank before byte 10
     ∷ for " THEN DONE \n" 8000 23 1

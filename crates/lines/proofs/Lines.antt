@@ -155,7 +155,7 @@ mode_proper (suc (suc (suc zero))) e = refl
 mode_proper (suc (suc (suc (suc zero)))) e = refl
 mode_proper (suc (suc (suc (suc (suc m))))) e = absurd (omega (arith, leb-true (suc (suc (suc (suc (suc m))))) 4 e))
 
--- a label or a go_to, where there is one
+-- a label or a go-to, where there is one
 label_optional : (w : List ℕ) → (is_empty w || is_label w) ≡ true → all is_proper (optional w) ≡ true
 unfolding optional all
 label_optional [] e = refl
@@ -176,7 +176,7 @@ then_mode : is_mode (spelled "THEN") ≡ true
 unfolding is_mode mode_words spelled any same
 then_mode = refl
 
--- THEN is a mode word, so no label and no go_to
+-- THEN is a mode word, so no label and no go-to
 no_then : (w : List ℕ) → is_mode w ≡ false → same w (spelled "THEN") ≡ false
 no_then w other =
     by_test (λ t. same w (spelled "THEN") ≡ t → t ≡ false) (same w (spelled "THEN"))

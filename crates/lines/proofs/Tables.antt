@@ -189,7 +189,7 @@ module _ (b n : ℕ) (at : List ℕ → ℕ) where
       (as_operation r next (form_of b (expanded args) operation_forms) (expanded args) c
       (row_checked b n at 36 shape_of 3 next (form_of b (expanded args) operation_forms) (expanded args) good.keeps good.fitting labels))
 
-  -- a line whose go_to has a row
+  -- a line whose go-to has a row
   goes : List ℕ → Bool
   goes w = (is_empty w || is_done w) || (leb 1 (at w) && ltb (at w) n)
 
@@ -304,7 +304,7 @@ module _ (b : ℕ) (wide : 10 ≤ b) (ls : List grammar.Line) (short : row_count
   abbrev count : ℕ
   count = row_count ls
 
-  -- a declared label's row is one that DO takes, and that a go_to takes
+  -- a declared label's row is one that DO takes, and that a go-to takes
   declared_row : (w : List ℕ) → declares ls w ≡ true → (1 ≤ row_of 1 ls w) × (row_of 1 ls w < count)
   declared_row w e = let (low, high) = row_range 1 ls w e in omega arith
 

@@ -34,7 +34,7 @@ module _ (b : ℕ) (at : List ℕ → ℕ) where
   unfoldable pub operation_row : ℕ → List (List ℕ) → Row
   operation_row next args = row_in at 3 next (form_of b (expanded args) operation_forms) (expanded args)
 
-  -- the go_to: none, DONE or the label's row
+  -- the go-to: none, DONE or the label's row
   unfoldable pub go_to_row : List ℕ → ℕ
   go_to_row w = cond (is_empty w) 0 (cond (is_done w) done (at w))
 
@@ -87,7 +87,7 @@ kept_lines [] = []
 kept_lines (none ∷ ts) = kept_lines ts
 kept_lines (some t ∷ ts) = t.line ∷ kept_lines ts
 
--- the labels that a line uses: those of its operations and its go_to
+-- the labels that a line uses: those of its operations and its go-to
 unfoldable pub called_in : ℕ → List (List (List ℕ)) → List (List ℕ)
 called_in b [] = []
 called_in b (x ∷ xs) = symbols_in (form_of b (expanded x) operation_forms).arguments (expanded x) ++ called_in b xs

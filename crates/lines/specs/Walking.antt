@@ -15,7 +15,7 @@ use Rattle.lines.specs.Forms.{Form, test_forms, operation_forms, fits, expanded,
 use Rattle.lines.specs.Grammar.{Line, Token, word, paren}
 use Rattle.lines.specs.Reading.{split, Found, place_of}
 
--- where a reader stands: at the start, after a label, among tests, after THEN, among operations, after the go_to; each with what it
+-- where a reader stands: at the start, after a label, among tests, after THEN, among operations, after the go-to; each with what it
 -- has read
 pub data State : Type 0 where
   at_start broken : State

@@ -1,5 +1,7 @@
 // Tours typed as L6 lines: bytes, words, arguments and the forms of Table II. What a text says, and what is refused, stands in
 // specs/.
+#![tactic(auto)]
+
 pub mod arguments;
 pub mod fitting;
 pub mod kinds;
@@ -16,7 +18,7 @@ pub const TOO_LONG: u64 = 25;
 
 // What a reading answers: the row count, refusal 31, or the refusals 23, 24 and 25, each with the line of the fault, counted from
 // 1.
-#[derive(Drop)]
+#[derive(Clone, Copy)]
 pub enum Read {
     Rows(u64),
     NoWidth,
@@ -26,7 +28,7 @@ pub enum Read {
 }
 
 // A token found at a place of a text: a word and where it ends, a parenthesis and where it closes, or neither.
-#[derive(Drop)]
+#[derive(Clone, Copy)]
 pub enum Spot {
     Word(usize),
     Paren(usize),
@@ -34,7 +36,7 @@ pub enum Spot {
 }
 
 // Where a part of a text begins and ends.
-#[derive(Drop)]
+#[derive(Clone, Copy)]
 pub struct Part {
     pub from: usize,
     pub to: usize,

@@ -1,4 +1,6 @@
 // The blocks of a map, from block to block: how many, and address and size of each.
+#![tactic(auto)]
+
 ghost use Rattle.std.specs.Prelude.{true, ◌≡◌, ◌+◌, ◌%◌, ◌≤◌, length};
 ghost use Rattle.block.specs.Blocks.{size};
 ghost use Rattle.block.specs.SetUp.{top, words};

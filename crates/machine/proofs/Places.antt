@@ -164,7 +164,7 @@ module _ (b : ℕ) (table : List ℕ) (r : ℕ) (l : length_fits table ≡ true)
   unfolding shaped is_operation
   has_code u = leb-true 1 (row_at table r).code (and_parts (leb 1 (row_at table r).code) _ (chained_shaped 3 u).1).0
 
-  -- a line's first operation and go_to
+  -- a line's first operation and go-to
   pub line_operation : usable 1 b table r ≡ true → RowOrNone (first_operation (row_at table r))
   unfolding shaped is_line names_rows
   line_operation u =

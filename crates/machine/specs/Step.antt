@@ -83,7 +83,7 @@ return e = do
       (with_calls (record { entries = stack.entries; count = stack.count - 1 }) c))
       e.state))
 
--- the step at a line's exit: the go_to, else the next line, else finished
+-- the step at a line's exit: the go-to, else the next line, else finished
 unfoldable pub exit_step : ℕ → Lent → Engine → Checked Effects
 exit_step b l e = do
   let line = e.state.core.place.line

@@ -1,4 +1,5 @@
 // The engine's state, answers and reports: what they mean stands in specs/.
+#![tactic(auto)]
 
 // How many bugs and fields there are, entries of a stack, and bytes of a map: one for each word that may be set up.
 pub const BUGS: usize = 26;
@@ -26,7 +27,7 @@ pub const LAST_WORD: u8 = 127;
 pub const PRINTED: u64 = 120;
 
 // Why a step is refused: document 01's refusals 1 to 21, in its order, then refusal 22 of ticket 1 and 31 of ticket 9.
-#[derive(Drop)]
+#[derive(Clone, Copy)]
 pub enum Refusal {
     TableLength,
     BadRow,
@@ -53,7 +54,7 @@ pub enum Refusal {
     NoWidth,
 }
 
-#[derive(Drop)]
+#[derive(Clone, Copy)]
 pub enum Answer {
     Running,
     Finished,
@@ -70,7 +71,7 @@ pub const AT_EXIT: u8 = 2;
 pub const FINISHED: u8 = 3;
 
 // Where the engine stands.
-#[derive(Drop)]
+#[derive(Clone, Copy)]
 pub struct Place {
     pub kind: u8,
     pub row: u16,
@@ -78,7 +79,7 @@ pub struct Place {
 }
 
 // A field's definition, or that it is undefined.
-#[derive(Drop)]
+#[derive(Clone, Copy)]
 pub struct Definition {
     pub defined: bool,
     pub word: u8,
@@ -87,26 +88,26 @@ pub struct Definition {
 }
 
 // The three stacks: the first count entries are used.
-#[derive(Drop)]
+#[derive(Clone, Copy)]
 pub struct ContentsStack {
     pub entries: Entries,
     pub count: usize,
 }
 
-#[derive(Drop)]
+#[derive(Clone, Copy)]
 pub struct DefinitionStack {
     pub entries: [Definition; STACK],
     pub count: usize,
 }
 
-#[derive(Drop)]
+#[derive(Clone, Copy)]
 pub struct CallStack {
     pub entries: [Place; STACK],
     pub count: usize,
 }
 
 // All of the state but the block map.
-#[derive(Drop)]
+#[derive(Clone, Copy)]
 pub struct Core {
     pub place: Place,
     pub bugs: BugWords,
@@ -120,7 +121,7 @@ pub struct Core {
 }
 
 // The words of its engine have width bits.
-#[derive(Drop)]
+#[derive(Clone, Copy)]
 pub struct State {
     pub width: u8,
     pub core: Core,
@@ -128,14 +129,14 @@ pub struct State {
 }
 
 // Where a reference leads: a bug, or bits left to right of the word at an address. Code has it as a number (operands::FIELDS).
-#[derive(Drop)]
+#[derive(Clone, Copy)]
 pub enum Location {
     Bug(table::BugLetter),
     Field { address: u64, left: u64, right: u64 },
 }
 
 // A store into storage, all zero where there is none.
-#[derive(Drop)]
+#[derive(Clone, Copy)]
 pub struct Store {
     pub address: u64,
     pub left: u8,
@@ -144,7 +145,7 @@ pub struct Store {
 }
 
 // What a step reports, each zero where there is none.
-#[derive(Drop)]
+#[derive(Clone, Copy)]
 pub struct Report {
     pub freed: u64,
     pub delivered: u64,
@@ -155,7 +156,7 @@ pub struct Report {
 }
 
 // What a step returns.
-#[derive(Drop)]
+#[derive(Clone, Copy)]
 pub struct Stepped {
     pub state: State,
     pub answer: Answer,
@@ -163,7 +164,7 @@ pub struct Stepped {
 }
 
 // What a run returns.
-#[derive(Drop)]
+#[derive(Clone, Copy)]
 pub struct Ran {
     pub state: State,
     pub answer: Answer,
@@ -171,21 +172,21 @@ pub struct Ran {
 }
 
 // What is answered where a fresh engine is asked for: that it is made, or that its width is none (refusal 31).
-#[derive(Drop)]
+#[derive(Clone, Copy)]
 pub enum FreshAnswer {
     Done,
     NoWidth,
 }
 
 // A fresh engine's state. With NoWidth comes one that every call refuses: refusal 31.
-#[derive(Drop)]
+#[derive(Clone, Copy)]
 pub struct Fresh {
     pub state: State,
     pub answer: FreshAnswer,
 }
 
 // What an extension answers: that it is done, or why it is refused (refusals 31, 11, 12, and 32 of ticket 11).
-#[derive(Drop)]
+#[derive(Clone, Copy)]
 pub enum ExtensionAnswer {
     Done,
     NoWidth,
@@ -195,7 +196,7 @@ pub enum ExtensionAnswer {
 }
 
 // What an extension returns.
-#[derive(Drop)]
+#[derive(Clone, Copy)]
 pub struct Extended {
     pub state: State,
     pub answer: ExtensionAnswer,

@@ -1,4 +1,6 @@
 // Numbers read from bytes and written to them, low first.
+#![tactic(auto)]
+
 ghost use Rattle.std.specs.Prelude.{◌≡◌, ◌++◌, ◌+◌, ◌≤◌, length, take, drop};
 ghost use Rattle.octets.specs.Octets.{low_first, bytes_of};
 

@@ -1,5 +1,7 @@
 // Opening hours tried: edges, then a checksum over generated and damaged lists, and how often each answer came up.
 // reference/openings.rs computes the same lines independently.
+#![tactic(auto)]
+
 ghost use Rattle.std.specs.Prelude.{◌<◌, ◌≤◌};
 
 use cases::next;

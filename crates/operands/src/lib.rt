@@ -1,4 +1,6 @@
 // Operands: references followed over lent slices, what stands where they lead, and stores there.
+#![tactic(auto)]
+
 pub mod locations;
 pub mod packing;
 pub mod references;
@@ -13,14 +15,14 @@ pub const FIELDS: u64 = 65536;
 pub(crate) const PLACES: u64 = 256;
 
 // A location and what stands there. Of a literal the location is a bug's, since both are whole words.
-#[derive(Drop)]
+#[derive(Clone, Copy)]
 pub struct Spot {
     pub at: u64,
     pub holds: u64,
 }
 
 // Where the links of a reference lead and what stands there, or why one of them is refused.
-#[derive(Drop)]
+#[derive(Clone, Copy)]
 pub enum Linked {
     At(Spot),
     Stopped(Refusal),
@@ -28,7 +30,7 @@ pub enum Linked {
 
 // What a reference is followed through before it is carried out: the delivery of a block, by its address and size, with the address
 // stored at a location.
-#[derive(Drop)]
+#[derive(Clone, Copy)]
 pub struct Delivery {
     pub address: u64,
     pub size: u64,

@@ -7,7 +7,7 @@ use crate::{FIELDS, PLACES};
 use word::fields::width;
 
 // The bits of a word of the storage: its address, and the first and the last bit.
-#[derive(Drop)]
+#[derive(Clone, Copy)]
 pub struct Bits {
     pub address: u64,
     pub left: u64,

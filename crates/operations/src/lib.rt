@@ -1,4 +1,6 @@
 // The operations: what each plans, an action or its refusal. A plan is made over lent slices and changes nothing.
+#![tactic(auto)]
+
 pub mod actions;
 mod blocks;
 pub mod codes;
@@ -10,7 +12,7 @@ use machine::{Definition, Refusal};
 use table::FieldName;
 
 // How far the stacks, the input and the output are used.
-#[derive(Drop)]
+#[derive(Clone, Copy)]
 pub struct Counts {
     pub contents: usize,
     pub saved: usize,
@@ -21,7 +23,7 @@ pub struct Counts {
 
 // What a plan knows besides what it is lent: the bits of a word, the set-up numbers, how far stacks, input and output are used, how
 // long the output is, and whether the table is judged well-formed.
-#[derive(Drop)]
+#[derive(Clone, Copy)]
 pub struct Known {
     pub b: u64,
     pub setup: SetUp,
@@ -31,7 +33,7 @@ pub struct Known {
 }
 
 // What a step does besides going to a place. Locations are numbers (operands::FIELDS); what an action means is a deed (Deeds).
-#[derive(Drop)]
+#[derive(Clone, Copy)]
 pub enum Action {
     Nothing,
     // a value stored at a location, and two stores one after the other
@@ -96,21 +98,21 @@ pub enum Action {
 }
 
 // What an operation plans: an action, or why it is refused.
-#[derive(Drop)]
+#[derive(Clone, Copy)]
 pub enum Planned {
     Does(Action),
     Stopped(Refusal),
 }
 
 // What an operation makes of its operands, or why it makes nothing.
-#[derive(Drop)]
+#[derive(Clone, Copy)]
 pub enum Computed {
     Made(u64),
     Stopped(Refusal),
 }
 
 // An aligned run by its address and size, or why there is none.
-#[derive(Drop)]
+#[derive(Clone, Copy)]
 pub enum Fetched {
     Run { address: u64, size: u64 },
     Stopped(Refusal),

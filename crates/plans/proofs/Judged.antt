@@ -1,4 +1,4 @@
--- Where no row of a table is ill_formed_lem, a row that is there is usable as the kind that it is. Assumes nothing.
+-- Where no row of a table is ill-formed, a row that is there is usable as the kind that it is. Assumes nothing.
 use Prim.Native.Nat.{ℕ, zero, suc, ◌+◌, ◌-◌, ◌/◌, ◌≤◌, ◌<◌}
 use native.Mathlib.Omega.{arith}
 use mathlib.Core.Bool.{true, false, ◌&&◌, ◌||◌, cond}
@@ -15,7 +15,7 @@ use Rattle.table.specs.Row.{length_fits, rows, row_at}
 use Rattle.table.specs.Table.{well_formed_as, well_formed, chained, usable, lowest_from, checked}
 use Rattle.machine.proofs.Checks.{or_parts}
 
--- a table that is checked, with no ill_formed_lem row
+-- a table that is checked, with no ill-formed row
 abbrev Fine : ℕ → List ℕ → ℕ → Type 0
 Fine b table r = well_formed b (rows table) r (row_at table r) ≡ true
 

@@ -151,7 +151,7 @@ run_left limit l storage bytes count =
     cond (eqb (length bytes) state_length) (after_run bytes (run limit l (engine_at bytes storage)))
     (no_run wrong_state l storage bytes count)
 
--- l6_check: the lowest ill_formed_lem row, or 31 or 1 with row as it was
+-- l6_check: the lowest ill-formed row, or 31 or 1 with row as it was
 pub record CheckLeft : Type 0 where
   pub answer : ℕ
   pub row : ℕ

@@ -5,7 +5,7 @@ use Rattle.defined.specs.declared.FieldsCheck.{FieldsCheck}
 use Rattle.defined.specs.declared.FieldsCheck.TheVariants.{Yes, No, NoWidth, BadLength, IllFormed, WrongKind}
 use Rattle.defined.specs.Answer.{fields_checked, told_fields}
 
--- answers of the library's own: a field is used where it is not defined, and an ill_formed_lem row
+-- answers of the library's own: a field is used where it is not defined, and an ill-formed row
 abbrev pub not_defined : ℕ
 not_defined = 106
 
@@ -17,7 +17,7 @@ pub record DefinedLeft : Type 0 where
   pub row : ℕ
   pub field : ℕ
 
--- 0 for yes, the row and the field of a no, the row of an ill_formed_lem one, or the number of the refusal, of 30 with its row; row and
+-- 0 for yes, the row and the field of a no, the row of an ill-formed one, or the number of the refusal, of 30 with its row; row and
 -- field are otherwise as they were
 unfoldable pub after_defined : FieldsCheck → ℕ → ℕ → DefinedLeft
 after_defined Yes row field = record { answer = number (told_fields Yes); row = row; field = field }

@@ -1,4 +1,6 @@
 // The engine as a library for players in C and Rust: numbers and slices alone.
+#![tactic(auto)]
+
 pub mod correcting;
 pub mod defining;
 pub mod extending;

@@ -1,4 +1,6 @@
 // Re-recorded stops: of a museum's corrections to its list, the recording that stands for each stop. Document 02, ticket 6.
+#![tactic(auto)]
+
 ghost use Rattle.std.specs.Prelude.{◌≡◌, true, ◌++◌, ◌+◌, ◌*◌, ◌≤◌, ◌<◌, leb, length, drop};
 ghost use Rattle.recordings.specs.Recordings.{row_count, number_of, zeros_after, nexts_inside, is_list, chain};
 ghost use Rattle.recordings.specs.Recordings.{all_standing, correcting, told_written, correcting_told};
@@ -10,7 +12,7 @@ use places::{enter, first_of, grow, put_pair};
 mod places;
 
 // What the call answers: how many stops it wrote, or why it wrote none: refusals 26, 27, 28.
-#[derive(Drop)]
+#[derive(Clone, Copy)]
 pub enum Written {
     Count(usize),
     BadList,
@@ -40,14 +42,14 @@ const DAY: usize = 2;
 const RECORDING: usize = 3;
 
 // What a list with few stops comes to: the call's answer, or that it has more.
-#[derive(Drop)]
+#[derive(Clone, Copy)]
 enum Few {
     Told(Written),
     Many,
 }
 
 // The least stop found so far, if there is any.
-#[derive(Drop)]
+#[derive(Clone, Copy)]
 enum Least {
     Stop(u64),
     Nothing,

@@ -1,5 +1,7 @@
 // The reader of typed lines tried on the texts of the input, which reference/scripts.rs wrote with the lines that must be printed:
 // what it says of each labelled text, then a checksum over all answers and all of each table, and how often each answer came up.
+#![tactic(auto)]
+
 ghost use Rattle.std.specs.Prelude.{◌≤◌, length};
 
 use lines::Read;

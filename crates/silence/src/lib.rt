@@ -1,19 +1,21 @@
 // Stops without a recording, and stops that stand twice: what a museum asks of its list before it opens. A stop is looked up along
 // the pairs, or along the list, so the time grows with the product of two lengths; lists have hundreds of stops, thousands at most.
+#![tactic(auto)]
+
 ghost use Rattle.std.specs.Prelude.{true, cond, [], ◌++◌, ◌≡◌, ◌+◌, ◌≤◌, ◌<◌, length, drop, set};
 ghost use Rattle.recordings.specs.Recordings.{member};
 ghost use Rattle.silence.specs.Silence.{has_recording, test_of, test_at, chosen, silent, repeated, telling, told_listed};
 ghost use Rattle.silence.specs.Silence.{telling_told, Tells};
 
 // What a call answers: how many stops it wrote, or that its output is too short for them: refusal 28.
-#[derive(Drop)]
+#[derive(Clone, Copy)]
 pub enum Listed {
     Count(usize),
     OutputShort,
 }
 
 // Which stops are asked for.
-#[derive(Drop)]
+#[derive(Clone, Copy)]
 pub enum Asked {
     Silent,
     Repeated,

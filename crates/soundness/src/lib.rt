@@ -1,4 +1,6 @@
 // Soundness: refusal 11, clause by clause.
+#![tactic(auto)]
+
 ghost use Rattle.std.specs.Prelude.{◌&&◌, ◌||◌, cond, ◌≡◌, [], ℕ, ◌^◌, ◌≤◌, ◌<◌, eqb, ltb, length, take};
 ghost use Rattle.block.specs.SetUp.{words};
 ghost use Rattle.machine.specs.Sound.{engine_on, every, is_row, is_place, is_definition, sound_place, sound_stack, sound_stacks};

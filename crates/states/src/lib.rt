@@ -1,4 +1,6 @@
 // What the program comparison stands on: the place in a state's bytes, checksums, the input taken apart, and counts.
+#![tactic(auto)]
+
 pub mod checksums;
 pub mod counts;
 pub mod numbers;

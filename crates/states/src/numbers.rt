@@ -5,14 +5,14 @@ ghost use Rattle.std.specs.Prelude.{◌≤◌};
 pub const NUMBERS: usize = 16384;
 
 // A number that was read, and where the next one starts.
-#[derive(Drop)]
+#[derive(Clone, Copy)]
 pub struct Read {
     pub value: u64,
     pub next: usize,
 }
 
 // A case by its lengths and counts. Its table, input and damages (two numbers each) follow them, in this order.
-#[derive(Drop)]
+#[derive(Clone, Copy)]
 pub struct Case {
     pub table: usize,
     pub input: usize,

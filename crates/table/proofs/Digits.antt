@@ -9,7 +9,7 @@ use mathlib.Core.Path.{◌≡◌, refl, ap, sym, ◌∙◌}
 use borrow.Author.Tests.{lt-ltb, le-ltb, ne_eqb, ltb-true, leb-true}
 use lib.Dec.{leb, ltb}
 use lib.ListN.{length, drop, set, length-set, drop_of_length-le}
-use Rattle.word.proofs.Tests.{by_leb, and-true as both-parts}
+use Rattle.word.proofs.Tests.{by_leb, and_true as both-parts}
 use Rattle.table.specs.declared.FieldName.{FieldName}
 use Rattle.table.specs.Reference.{digits_before, digits_of, names, names_field, names_bug, name_fields, starts_with_bug, is_reference}
 use Rattle.table.specs.Reference.{named, reference_of, names_of}

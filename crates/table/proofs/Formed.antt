@@ -95,7 +95,7 @@ unfolding usable rows
 used_row kind b table r l h row t =
     rw (lt-ltb 0 r l, lt-ltb r (length table / 10) h) (t ∙ ap (λ (x : Row). well_formed_as kind b (length table / 10) r x) row)
 
--- the lowest ill_formed_lem row from row r on: this one, or one after it
+-- the lowest ill-formed row from row r on: this one, or one after it
 module _ (b : ℕ) (table : List ℕ) (r : ℕ) (inside : r < length table / 10) where
   more_rows : length table / 10 - r ≡ suc (length table / 10 - suc r)
   more_rows = omega arith

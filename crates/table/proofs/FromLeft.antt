@@ -38,6 +38,7 @@ last_digit (suc n) v ds = ap (λ (x : ℕ). x % 64 ∷ (last_digits n (v / 64) +
 -- the digits of a number with n digits after the first
 digits_are : (k n v : ℕ) (ds : List ℕ) → n ≤ k → 2 ^ (6 * n) ≤ v → v < 2 ^ (6 * n + 6) → digits_before (suc k) v ds ≡ v / 2 ^ (6 * n) ∷ (last_digits n v ++ ds)
 unfolding digits_before last_digits
+digits_are zero (suc n) v ds few low high = elim few [ ]
 digits_are k zero v ds few low high = rw (ne_eqb v 0 (λ z. absurd (omega arith)), mod-eq_of_lt high, div-eq_of_lt high, div-one v) (none k)
   where
     none : (k : ℕ) → digits_before k 0 (v ∷ ds) ≡ v ∷ ds

@@ -33,7 +33,7 @@ as_row row =
 unfoldable pub row_at : List ℕ → ℕ → Row
 row_at table r = as_row (drop (10 * r) table)
 
--- the numbers 5, 6, 7 of a line (the first is 1): first test row, first operation row, go_to
+-- the numbers 5, 6, 7 of a line (the first is 1): first test row, first operation row, go-to
 abbrev pub first_test : Row → ℕ
 first_test row = row.first.form
 
@@ -43,6 +43,6 @@ first_operation row = row.first.value
 abbrev pub go_to_of : Row → ℕ
 go_to_of row = row.second.form
 
--- the go_to DONE
+-- the go-to DONE
 abbrev pub done : ℕ
 done = 65535

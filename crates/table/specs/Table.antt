@@ -31,7 +31,7 @@ fits b rows s row = leb row.name (largest_name s.named) && fit_pairs b rows s ro
 abbrev pub row_or_none : ℕ → ℕ → Bool
 row_or_none rows r = eqb r 0 || ltb r rows
 
--- a line's first test row, first operation row and go_to, which may be DONE
+-- a line's first test row, first operation row and go-to, which may be DONE
 unfoldable pub names_rows : ℕ → Row → Bool
 names_rows rows row =
     row_or_none rows (first_test row)
@@ -45,7 +45,7 @@ has_mode row = leb row.code 4 && eqb row.name 0
 abbrev pub has_tests : Row → Bool
 has_tests row = cond (eqb row.code 0) (eqb (first_test row) 0) (not (eqb (first_test row) 0))
 
--- without operations a go_to is needed
+-- without operations a go-to is needed
 abbrev pub goes_on_of : Row → Bool
 goes_on_of row = not (eqb (first_operation row) 0 && eqb (go_to_of row) 0)
 
@@ -87,14 +87,14 @@ well_formed b rows r row = well_formed_as 1 b rows r row || well_formed_as 2 b r
 unfoldable pub usable : ℕ → ℕ → List ℕ → ℕ → Bool
 usable kind b table r = ltb 0 r && ltb r (rows table) && well_formed_as kind b (rows table) r (row_at table r)
 
--- the lowest ill_formed_lem row of count rows from row r on, 0 if none is
+-- the lowest ill-formed row of count rows from row r on, 0 if none is
 unfoldable pub lowest_from : ℕ → List ℕ → ℕ → ℕ → ℕ
 lowest_from b table r zero = 0
 lowest_from b table r (suc count) =
     let others = lowest_from b table (suc r) count in
     cond (well_formed b (rows table) r (row_at table r)) others r
 
--- the table check of words of b bits: the lowest ill_formed_lem row, 0 if none; row 0 is not read, and it refuses only by 1
+-- the table check of words of b bits: the lowest ill-formed row, 0 if none; row 0 is not read, and it refuses only by 1
 unfoldable pub checked : ℕ → List ℕ → TableCheck
 checked b table = cond (length_fits table) (Lowest (lowest_from b table 1 (rows table - 1))) BadLength
 

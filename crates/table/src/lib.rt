@@ -1,4 +1,6 @@
 // The table: rows of ten numbers, references, operands and the check. What each means stands in specs/.
+#![tactic(auto)]
+
 pub mod check;
 pub mod codes;
 mod forms;
@@ -6,15 +8,15 @@ pub mod references;
 pub mod rows;
 
 // A bug's letter: A is 0, Z is 25. It never selects a field's definition.
-#[derive(Drop)]
+#[derive(Clone, Copy)]
 pub struct BugLetter(pub u64);
 
 // A field's name number: 0 to 9 for the digits, 10 to 35 for A to Z.
-#[derive(Drop)]
+#[derive(Clone, Copy)]
 pub struct FieldName(pub u8);
 
 // A reference taken apart: its bug, and its field names in fields from place from on.
-#[derive(Drop)]
+#[derive(Clone, Copy)]
 pub struct Names {
     pub bug: BugLetter,
     pub from: usize,
@@ -22,14 +24,14 @@ pub struct Names {
 }
 
 // A pair of numbers of a row: an operand's form and value.
-#[derive(Drop)]
+#[derive(Clone, Copy)]
 pub struct Pair {
     pub form: u64,
     pub value: u64,
 }
 
 // The ten numbers of a row.
-#[derive(Drop)]
+#[derive(Clone, Copy)]
 pub struct Row {
     pub kind: u64,
     pub next: u64,
@@ -41,7 +43,7 @@ pub struct Row {
 }
 
 // What may stand in a pair; a and c are a Reference, and cd is an Either.
-#[derive(Drop)]
+#[derive(Clone, Copy)]
 pub enum Operand {
     Absent,
     Literal,
@@ -53,7 +55,7 @@ pub enum Operand {
 }
 
 // What a code takes: whether it has a name, and its three pairs.
-#[derive(Drop)]
+#[derive(Clone, Copy)]
 pub struct Shape {
     pub named: bool,
     pub first: Operand,
@@ -62,7 +64,7 @@ pub struct Shape {
 }
 
 // What the table check answers: the lowest ill-formed row, 0 if there is none, or that the table's length or the width is refused.
-#[derive(Drop)]
+#[derive(Clone, Copy)]
 pub enum TableCheck {
     Lowest(u64),
     BadLength,

@@ -1,4 +1,6 @@
 // tourrun over slices: what it prints of the bytes that it reads.
+#![tactic(auto)]
+
 ghost use Rattle.std.specs.Prelude.{◌≡◌, ◌+◌, min, length, replicate};
 ghost use Rattle.tour.specs.Tour.{played, printed};
 ghost use Rattle.tour.specs.Put.{put_before};

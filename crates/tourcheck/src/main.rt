@@ -1,5 +1,7 @@
 // tourcheck: reads tour.tab, checks that each field is defined before it is used, prints one line. It takes a width as its
 // argument, 36 or 48, and 36 where there is none. What it prints is proved of what it reads (crate diagnosis).
+#![tactic(auto)]
+
 use diagnosis::{LINE, diagnose};
 use files::read_file;
 use libc::STDOUT_FILENO;

@@ -1,5 +1,7 @@
 // tourlist: reads tour.tab and stops.in, runs the tour as tourrun does, and lists what it leaves: set-up, bugs, fields, blocks,
 // stacks. What it prints is proved of what it reads (crate inventory).
+#![tactic(auto)]
+
 use files::read_file;
 use inventory::{LISTING, list_tour};
 use libc::STDOUT_FILENO;

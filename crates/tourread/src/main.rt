@@ -1,5 +1,7 @@
 // tourread: reads tour.l6 and writes tour.tab, or prints the line of a fault. It takes a width as its argument, 36 or 48, and 36
 // where there is none. What it writes and prints is proved of what it reads (crate tourtext).
+#![tactic(auto)]
+
 use files::read_file;
 use libc::STDOUT_FILENO;
 use tour::numbers::BYTES;

@@ -1,4 +1,6 @@
 // tourrun: reads tour.tab and stops.in, runs the tour, prints two lines. What it prints is proved of what it reads (crate tour).
+#![tactic(auto)]
+
 use files::read_file;
 use libc::STDOUT_FILENO;
 use tour::{TEXT, play};

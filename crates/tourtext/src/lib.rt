@@ -1,4 +1,6 @@
 // tourread over slices: what it writes and prints of the bytes that it reads.
+#![tactic(auto)]
+
 ghost use Rattle.std.specs.Prelude.{◌≡◌, ◌++◌, ◌+◌, ◌*◌, ◌≤◌, length, take, drop};
 ghost use Rattle.tour.specs.Put.{put_before};
 ghost use Rattle.tourtext.specs.Translation.{filed, meaning, fault_line, width_line, file_of, printed_of};
@@ -14,7 +16,7 @@ use typed::read;
 pub const LINE: usize = 128;
 
 // How many bytes tour.tab has, and where in the buffer the printed line starts.
-#[derive(Drop)]
+#[derive(Clone, Copy)]
 pub struct Translated {
     pub bytes: usize,
     pub start: usize,

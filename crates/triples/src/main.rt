@@ -1,4 +1,6 @@
 // Prints the three-character list, one entry a line, six octal digits. reference/leaves.rs writes the same lines independently.
+#![tactic(auto)]
+
 ghost use Rattle.std.specs.Prelude.{◌<◌};
 
 // The octal digit of an entry that has this weight, as text.

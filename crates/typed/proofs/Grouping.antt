@@ -157,7 +157,7 @@ grouping_none b at s g table h =
       long = refl;
     }
 
--- a go_to
+-- a go-to
 module _ (b : ℕ) (at : List ℕ → ℕ) (w : List ℕ) where
   pub goes_nowhere : is_empty w ≡ true → 0 ≡ go_to_row b at w
   unfolding go_to_row

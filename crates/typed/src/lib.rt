@@ -1,4 +1,6 @@
 // Tours typed as L6 lines, read into a lent table: document 02, ticket 3. What a text says stands in the specs of crate lines.
+#![tactic(auto)]
+
 ghost use Rattle.std.specs.Prelude.{◌≡◌, ◌≤◌, length};
 ghost use Rattle.lines.specs.Program.{reading, refused, read_at, told_read, read_told};
 ghost use Rattle.faults.specs.Names.{Known};
@@ -16,7 +18,7 @@ use word::is_width;
 use writing::put_text;
 
 // Tests or operations of a line: where they begin, how many they are, and the row of the first.
-#[derive(Drop)]
+#[derive(Clone, Copy)]
 pub struct Group {
     pub tests: bool,
     pub from: usize,

@@ -1,4 +1,6 @@
 // Words of b bits, held in a u64: the arithmetic, the bits and the fields of document 01, each by equality with specs/.
+#![tactic(auto)]
+
 ghost use Rattle.std.specs.Prelude.{◌≡◌};
 ghost use Rattle.word.specs.Word.{is_width};
 

@@ -1,4 +1,4 @@
--- `engine::judge` meets its contract: no ill_formed_lem row was found. Assumes nothing.
+-- `engine::judge` meets its contract: no ill-formed row was found. Assumes nothing.
 use borrow.Author.Tests.{not-false}
 use Rattle.machine.proofs.Checks.{clash}
 use Rattle.table.proofs.Formed.{checked_rows}

@@ -1,4 +1,4 @@
--- `faults::judging::misses_go_to` meets its contract. Each return is one case of the definition: no go_to (`goes_nowhere`), DONE
+-- `faults::judging::misses_go_to` meets its contract. Each return is one case of the definition: no go-to (`goes_nowhere`), DONE
 -- (`goes_done`), a label (`goes_on`). Assumes nothing.
 use mathlib.Core.Path.{sym, ◌∙◌}
 use Rattle.lines.specs.Words.{spelled, is_done}

@@ -1,4 +1,4 @@
--- `plans::steps::plan_exit` meets its contract: 2, then DONE, the go_to, or the next line. Assumes nothing.
+-- `plans::steps::plan_exit` meets its contract: 2, then DONE, the go-to, or the next line. Assumes nothing.
 use Rattle.word.proofs.Tests.{known_false, known_true}
 use Rattle.table.specs.Row.{as_row, pair_at}
 use Rattle.machine.proofs.Checks.{need_no}

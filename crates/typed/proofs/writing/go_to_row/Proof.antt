@@ -1,4 +1,4 @@
--- `typed::writing::go_to_row` meets its contract. Each return is one case of the definition: no go_to, DONE, or a label, whose row is known
+-- `typed::writing::go_to_row` meets its contract. Each return is one case of the definition: no go-to, DONE, or a label, whose row is known
 -- (`ready_row`). Assumes nothing.
 use mathlib.Core.Path.{sym, ◌∙◌}
 use Rattle.lines.specs.Words.{spelled, is_done}

@@ -1,0 +1,18 @@
+use borrow.Author.Rules.{rules}
+use Prim.Native.Nat.{◌≤◌, ◌-◌, ◌/◌}
+use native.Mathlib.Numerals.{add-one}
+use mathlib.Core.Path.{◌≡◌, refl, ap, sym, ◌∙◌}
+use Rattle.word.proofs.Tests.{known_true, known_false}
+use lib.ListN.{length}
+use Rattle.table.specs.Row.{rows}
+use Rattle.table.specs.Table.{well_formed, lowest_from}
+use native.Mathlib.Omega.{arith}
+use Rattle.table.proofs.Formed.{lowest_here, lowest_later, lowest_none}
+use Rattle.table.proofs.check.lowest_ill_formed.Given as goal
+
+abbrev pub invariant-loop-r : goal.invariant-loop-r
+invariant-loop-r l =
+    (1 ≤ l.r) × (lowest_from l.b l.table 1 (rows l.table - 1) ≡ lowest_from l.b l.table l.r (length l.table / 10 - l.r))
+
+abbrev pub decreases-loop-r : goal.decreases-loop-r
+decreases-loop-r l = length l.table - l.r
