@@ -27,6 +27,7 @@ module _ {A : Type 0} {P : A → Type 0} where
 
   -- of a member
   pub each_mem : {x : A} {xs : List A} → Each P xs → Memᴰ x xs → P x
+  each_mem each_nil x4 = elim x4 [ ]
   each_mem (each_cons p h) (Memᴰ.head e) = subst P (sym e) p
   each_mem (each_cons p h) (Memᴰ.tail m) = each_mem h m
 

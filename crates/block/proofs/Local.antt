@@ -55,13 +55,20 @@ module _ (f : List Block → List Block) (test : Block → Bool) (hit : Block �
     local_search none miss later =
         local_walk miss (λ ys h. ap f (sym (append-nil ys)) ∙ passed [] (each_map later h) ∙ rw (none, append-nil))
 
+-- a block before all others goes to their front
+put_before : (x : Block) (ys : List Block) → Each (λ y. x.address < y.address) ys
+    → inserted start x ys ≡ inserted start x [] ++ ys
+unfolding inserted start
+put_before x [] each_nil = refl
+put_before x (y ∷ ys) (each_cons l h) = rw (le-leb x.address y.address (omega arith))
+
 -- putting in a block at the address
 pub local_inserted : (x : Block) → Local x.address (inserted start x)
 unfolding inserted start
 local_inserted x =
     local_walk (inserted start x) (λ y. leb x.address y.address) (λ y ys. x ∷ y ∷ ys) (λ y ys. refl) (λ y xs ys. refl)
     (λ y pos l. lt-leb x.address y.address (omega arith))
-    (λ ys. elim [ each_nil ↦ refl | each_cons {x = y} l h ↦ rw (le-leb x.address y.address (omega arith)) ])
+    (put_before x)
 
 -- what holds of a list holds of its part around address a
 pub record Narrows (a : ℕ) (D : List Block → Type 0) : Type 0 where

@@ -232,6 +232,7 @@ size_at_mem a (x ∷ xs) =
 -- and of blocks in order each member has the size at its address
 pub order_size_at : {k a b : ℕ} {x : Block} {xs : List Block} → InOrder k a b xs → Memᴰ x xs → size_at x.address xs ≡ x.size
 unfolding size_at
+order_size_at {k = k} {x = x} (order_nil {a = a} {b = b} _) x10 = elim x10 [ ]
 order_size_at {x = x} (order_cons {x = y} p h) (Memᴰ.head e) = rw (eq-eqb y.address x.address (cc)) cc
 order_size_at {x = x} (order_cons {x = y} p h) (Memᴰ.tail m) =
     let later = each_mem (order_each h) m in

@@ -20,7 +20,6 @@ returns-then-not-has_length c =
 pub returns : goal.returns
 returns c =
     let at-has-length = c.before.before in
-    let at-if1 = at-has-length in
-    let all = check_numbers _ _ (check_at_width _ _ (known_true at-if1.is_width.ensures at-if1.if-not-is_width.false-raw)
+    let all = check_numbers _ _ (check_at_width _ _ (known_true at-has-length.is_width.ensures at-has-length.if-not-is_width.false-raw)
     (checked_rows _ _ at-has-length.has_length.ensures (not-false _ c.if-not-has_length.false-raw) c.lowest_ill_formed.ensures)) in
     record { value = all.0; numbered = all.1 }

@@ -5,5 +5,4 @@ use Rattle.table.proofs.check.has_tests.Goals as goal
 
 pub returns : goal.returns
 returns c =
-    let start = c in
-    same_tests (eqb start.args.row.code 0) (eqb start.args.row.first.form 0)
+    same_tests (eqb c.args.row.code 0) (eqb c.args.row.first.form 0)

@@ -13,5 +13,4 @@ returns-then-not-is_chained c = not_chained _ _ _ _ _ (omega arith) (known_false
 
 pub returns : goal.returns
 returns c =
-    let at-is-chained = c in
-    formed_from_lem _ _ _ _ _ (omega arith) (known_true at-is-chained.is_chained.ensures c.if-not-is_chained.false-raw) c.has_kind.ensures
+    formed_from_lem _ _ _ _ _ (omega arith) (known_true c.is_chained.ensures c.if-not-is_chained.false-raw) c.has_kind.ensures

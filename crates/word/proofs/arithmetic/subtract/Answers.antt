@@ -5,7 +5,6 @@ use Rattle.word.proofs.arithmetic.subtract.Goals as goal
 
 pub returns : goal.returns
 returns c =
-    let entry = c in
-    let (_, less, small) = entry.requires in
+    let (_, less, small) = c.requires in
     rw (c.low_bits.ensures, unwrapped _ _ _ less (search rules) c.wrapping_sub_u64.ensures.value)
     (mod-eq_of_lt (omega (arith, small)))

@@ -6,5 +6,4 @@ use Rattle.word.proofs.count.leftmost_zero.Goals as goal
 
 pub returns : goal.returns
 returns c =
-    let start = c in
-    rw (c.leftmost_one.ensures, c.other_bits.ensures) (leftmost_flip start.args.w start.args.v)
+    rw (c.leftmost_one.ensures, c.other_bits.ensures) (leftmost_flip c.args.w c.args.v)

@@ -10,11 +10,10 @@ use Rattle.word.proofs.count.rightmost_one.Goals as goal
 place : (c : goal.Else-bits-eq0) → rightmost 1 c.args.w c.args.v + suc (count_trailing_zeros 64 c.low_bits-bits.result)
     ≡ c.args.w
 place c =
-    let start = c in
-    let w = start.args.w in
-    let v = start.args.v in
+    let w = c.args.w in
+    let v = c.args.v in
     let e = c.low_bits-bits.ensures in
-    rw e (rightmost_one w v start.requires (omega (arith, e)))
+    rw e (rightmost_one w v c.requires (omega (arith, e)))
 
 pub overflow_sub-result : goal.overflow_sub-result
 overflow_sub-result c = omega (arith, place c)

@@ -6,5 +6,4 @@ use Rattle.word.proofs.count.rightmost_zero.Goals as goal
 
 pub returns : goal.returns
 returns c =
-    let start = c in
-    rw (c.rightmost_one.ensures, c.other_bits.ensures) (rightmost_flip start.args.w start.args.v)
+    rw (c.rightmost_one.ensures, c.other_bits.ensures) (rightmost_flip c.args.w c.args.v)

@@ -40,6 +40,5 @@ returns c =
 
 pub overflow_add-result : goal.overflow_add-result
 overflow_add-result c =
-    let d = c in
-    let a = d.args in
-    record { fits = subst⁻¹ (λ (n : ℕ). n < 2 ^ 64) (returns c) (fits a.n a.s a.w a.v d.requires d.ranges.w.fits) }
+    let a = c.args in
+    record { fits = subst⁻¹ (λ (n : ℕ). n < 2 ^ 64) (returns c) (fits a.n a.s a.w a.v c.requires c.ranges.w.fits) }

@@ -9,8 +9,7 @@ use Rattle.word.proofs.shifts.left_shift.Goals as goal
 pub returns-then-n-w : goal.returns-then-n-w
 unfolding left_shift
 returns-then-n-w c =
-    let start = c in
-    rw (c.low_bits.ensures, lt-leb start.args.w start.args.n (omega arith)) (mod_mod_le _ {m = 64} (le_of_lt start.requires))
+    rw (c.low_bits.ensures, lt-leb c.args.w c.args.n (omega arith)) (mod_mod_le _ {m = 64} (le_of_lt c.requires))
 
 pub returns-else-n-w : goal.returns-else-n-w
 unfolding left_shift

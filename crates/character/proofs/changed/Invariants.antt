@@ -1,0 +1,15 @@
+use mathlib.Core.Path.{◌≡◌, refl, sym, ◌∙◌}
+use Prim.Native.Nat.{◌+◌, ◌*◌, ◌%◌, ◌^◌, ◌<◌}
+use native.Mathlib.Nat.{mod-lt, one-le-pow}
+use native.Mathlib.Omega.{arith}
+use borrow.Author.Rules.{rules}
+use Rattle.character.specs.Character.{digits, number, characters, packed, leading}
+use Rattle.character.proofs.Digits.{Growing, growing, grown, grown_fits, whole_fits, leading_turn, leading_ends}
+use Rattle.character.proofs.changed.Given as goal
+
+abbrev pub invariant-loop-left : goal.invariant-loop-left
+invariant-loop-left l =
+    Growing l.n l.left l.made × (number 64 l.made (leading l.old l.new (digits 64 l.left l.v)) ≡ packed (leading l.old l.new (characters l.n l.v)))
+
+abbrev pub decreases-loop-left : goal.decreases-loop-left
+decreases-loop-left l = l.left

@@ -1,0 +1,13 @@
+use Prim.Native.Nat.{◌-◌}
+use Rattle.octets.specs.Octets.{bytes_of}
+use Rattle.word.proofs.Filling.{Fills, fills_none, fills_next, fills_all}
+use Rattle.octets.proofs.RoundTrip.{length_bytes}
+use Rattle.octets.proofs.Writing.{Rest, rest_none, rest_next}
+use borrow.Author.Rules.{rules}
+use Rattle.octets.proofs.put_number.Given as goal
+
+abbrev pub invariant-loop-i : goal.invariant-loop-i
+invariant-loop-i l = Rest l.n l.v l.i l.rest × Fills l.at l.n (bytes_of l.n l.v) l.initial.bytes l.bytes l.i
+
+abbrev pub decreases-loop-i : goal.decreases-loop-i
+decreases-loop-i l = l.n - l.i

@@ -1,0 +1,13 @@
+use Prim.Native.Nat.{◌≤◌, ◌-◌}
+use native.Mathlib.Omega.{arith}
+use lib.ListN.{length}
+use Rattle.recordings.specs.Recordings.{row_count, next_of, chain}
+use Rattle.recordings.proofs.Chain.{At, at_start, at_next, at_more, at_zero, at_last, number_inside, some_row}
+use borrow.Author.Rules.{rules}
+use Rattle.recordings.proofs.chain_length.Given as goal
+
+abbrev pub invariant-loop-count : goal.invariant-loop-count
+invariant-loop-count l = At l.list l.count l.row × (l.count ≤ length (chain l.list))
+
+abbrev pub decreases-loop-count : goal.decreases-loop-count
+decreases-loop-count l = row_count l.list - l.count

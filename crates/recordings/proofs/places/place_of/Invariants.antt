@@ -1,0 +1,14 @@
+use Prim.Native.Nat.{ℕ, ◌≤◌, ◌-◌, ◌<◌}
+use mathlib.Core.Path.{◌≡◌, sym, ◌∙◌}
+use native.Mathlib.Omega.{arith}
+use borrow.Author.Count.{below_more}
+use Rattle.recordings.specs.Walking.{stop_at}
+use Rattle.recordings.proofs.Entering.{pair_room, row_number}
+use borrow.Author.Rules.{rules}
+use Rattle.recordings.proofs.places.place_of.Given as goal
+
+abbrev pub invariant-loop-k : goal.invariant-loop-k
+invariant-loop-k l = (l.k ≤ l.count) × ((j : ℕ) → j < l.k → stop_at l.list l.output j ≡ l.stop → ⊥)
+
+abbrev pub decreases-loop-k : goal.decreases-loop-k
+decreases-loop-k l = l.count - l.k

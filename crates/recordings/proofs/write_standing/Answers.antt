@@ -1,0 +1,36 @@
+-- `recordings::write_standing` meets its contract, check by check. Assumes nothing.
+use mathlib.Core.Path.{sym}
+use Rattle.word.proofs.Tests.{known_true, known_false}
+use Rattle.recordings.proofs.Calls.{bad_list}
+use Rattle.recordings.proofs.Telling.{few_answered, many_left}
+use borrow.Author.Rules.{rules}
+use Rattle.recordings.proofs.write_standing.Goals as goal
+
+pub returns-then-not-is_list : goal.returns-then-not-is_list
+returns-then-not-is_list c =
+    let all = bad_list _ _ (known_false c.is_list.ensures c.if-not-is_list.true-raw) in
+    record { output_after = all.0; numbered = all.1 }
+
+pub write_few-few-requires : goal.write_few-few-requires
+write_few-few-requires c =
+    known_true c.is_list.ensures c.if-not-is_list.false-raw
+
+pub write_many-requires : goal.write_many-requires
+write_many-requires c =
+    let few = c.write_few-few.ensures in (
+      known_true c.is_list.ensures c.if-not-is_list.false-raw,
+      (many_left _ _ (rw c.in-Many.is at few.0) few.1).1,
+    )
+
+pub returns-in-Told : goal.returns-in-Told
+returns-in-Told c =
+    let few = c.write_few-few.ensures in
+    let all = few_answered _ _ (rw c.in-Told.is at few.0) few.1 in
+    record { output_after = all.0; numbered = all.1 }
+
+pub returns-in-Many : goal.returns-in-Many
+returns-in-Many c =
+    let few = c.write_few-few.ensures in
+    let left = (many_left _ _ (rw c.in-Many.is at few.0) few.1).0 in
+    rw (sym left) (let all = c.write_many.ensures in
+    record { output_after = all.0; numbered = all.1 })
