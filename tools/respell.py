@@ -6,7 +6,8 @@ usage: tools/respell.py [--list]
 Run it once, at the top, after port.py. It turns each name that begins with a small letter and that a file of specs/ or a
 file of lemmas in proofs/ declares, as `isWidth` or `first-run`, to `is_width` and `first_run`: in every .antt file, in the
 clauses and `ghost use` lines of .rt files, in the edits and in the documents' code. Names that would fall together, or that
-something else in a file has, get an ending: a lemma `_lem`, a definition `_of`. --list prints the names and writes nothing.
+something else in a file has, get an ending: a lemma `_lem`, a definition `_of`. A name that an import gives by `as` is turned
+in its file. --list prints the names and writes nothing.
 """
 
 import collections
@@ -100,8 +101,24 @@ def lent(text):
     return names
 
 
+def aliases(text):
+    """The names that a file's imports give by `as`, each with its new spelling."""
+    items = (i.split(" as ") for m in IMPORT.finditer(text) for i in m[3].split(","))
+    given = {i[1].strip() for i in items if len(i) == 2}
+    words = set(WORD.findall(text))
+    return {n: snake(n) for n in given if re.match(r"[a-z]", n) and snake(n) not in words}
+
+
 def turn(text, turned, kept=()):
-    return WORD.sub(lambda m: m[0] if m[0] in kept else turned.get(m[0], m[0]), text)
+    """The text with its names turned; in comments only those in code spans."""
+    one = lambda part: WORD.sub(lambda m: m[0] if m[0] in kept else turned.get(m[0], m[0]), part)
+    out = []
+    for line in text.split("\n"):
+        comment = re.search(r"(?:^|(?<=\s))(?:--|//)(?=\s)", line)
+        code, said = (line[: comment.start()], line[comment.start() :]) if comment else (line, "")
+        spans = re.split(r"(`[^`]*`)", said)
+        out.append(one(code) + "".join(one(s) if s.startswith("`") else s for s in spans))
+    return "\n".join(out)
 
 
 def main(argv):
@@ -114,13 +131,13 @@ def main(argv):
     for path in list(paths()):
         if path.endswith((".antt", ".edit")) and "/crates/" in path:
             old = read(path)
-            new = turn(old, turned, lent(old))
+            new = turn(turn(old, turned, lent(old)), aliases(old) if path.endswith(".antt") else {})
         elif path.endswith(".rt"):
             old, new, last = texts[path], "", 0
             kept = lent(old)
             for a, b in clauses(old):
                 if a >= last:
-                    new += old[last:a] + turn(old[a:b], turned, kept)
+                    new += old[last:a] + turn(turn(old[a:b], turned, kept), aliases(old))
                     last = b
             new += old[last:]
         elif path.endswith(".md"):

@@ -6,7 +6,7 @@ ghost use Rattle.word.specs.Told.{number};
 ghost use Rattle.block.specs.SetUp.{fitting};
 ghost use Rattle.block.specs.Map.{keeps};
 ghost use Rattle.block.specs.Extension.{extending};
-ghost use Rattle.machine.specs.Extend.{engine_extended, extend as extendOf, told_extension, extend_told};
+ghost use Rattle.machine.specs.Extend.{engine_extended, extend as extend_of, told_extension, extend_told};
 ghost use Rattle.machine.specs.Sound.{engine_on};
 
 use block::SetUp;
@@ -46,7 +46,7 @@ fn grown(width: u8, core: Core, first: [u8; MAP], storage: &mut [u64], last: u16
 // where it is no refusal.
 pub fn extend(storage: &mut [u64], state: State, last: u64) -> Extended
     ensures storage_after { record { extended = result; storage = storage.new }
-        ≡ extendOf last (record { state = state; storage = storage.old }) }
+        ≡ extend_of last (record { state = state; storage = storage.old }) }
     ensures numbered { told_extension result.answer ≡ extend_told last (engine_on state storage.old) }
 {
     let width = state.width;

@@ -6,7 +6,7 @@ ghost use Rattle.block.specs.Map.{keeps, live};
 ghost use Rattle.table.specs.Reference.{is_reference};
 ghost use Rattle.machine.specs.Storage.{placed, word_at};
 ghost use Rattle.machine.specs.Answer.{told};
-ghost use Rattle.machine.specs.Locate.{link_by, contents_of, contents, operand as operandOf};
+ghost use Rattle.machine.specs.Locate.{link_by, contents_of, contents, operand as operand_of};
 ghost use Rattle.operands.specs.Reading.{seen, set_up_of, Readable, Reached, Taken, Lying, leads, standing};
 ghost use Rattle.operands.specs.Reading.{told_linked, told_value};
 ghost use Rattle.operands.specs.Locating.{located};
@@ -265,7 +265,7 @@ pub fn operand(
     p: Pair,
 ) -> Linked
     requires { Readable b (seen bugs.now fields.now setup map.now storage.now) × Taken b p }
-    ensures { told_value b result ≡ told (operandOf b (seen bugs.now fields.now setup map.now
+    ensures { told_value b result ≡ told (operand_of b (seen bugs.now fields.now setup map.now
         storage.now) p) }
 {
     if p.form == codes::LITERAL {

@@ -3,7 +3,7 @@ ghost use Rattle.std.specs.Prelude.{true, ◌≡◌, ◌≤◌, ◌<◌};
 ghost use Rattle.table.specs.declared.TableCheck.TheVariants.{Lowest};
 ghost use Rattle.table.specs.Row.{rows};
 ghost use Rattle.table.specs.Table.{usable, checked};
-ghost use Rattle.machine.specs.Test.{compared as comparedBy, settling as settlingOf, settled_as, testing, satisfied as satisfiedBy};
+ghost use Rattle.machine.specs.Test.{compared as compared_by, settling as settling_of, settled_as, testing, satisfied as satisfied_by};
 ghost use Rattle.operands.specs.Reading.{Readable};
 ghost use Rattle.operations.specs.Seen.{seen_by};
 ghost use Rattle.machine.specs.Answer.{told};
@@ -39,7 +39,7 @@ pub fn can_use(kind: u64, b: u64, table: &[u64], r: usize, judged: bool) -> bool
 
 // The outcome of a test that settles a line of this mode.
 fn settling(mode: u64) -> bool
-    ensures { result ≡ settlingOf mode }
+    ensures { result ≡ settling_of mode }
 {
     (mode == codes::IFANY) | (mode == codes::IFNONE)
 }
@@ -54,7 +54,7 @@ fn settled_as(mode: u64) -> bool
 // The seven tests.
 fn compared(b: u64, code: u64, c: u64, cd: u64) -> bool
     requires { (b < 64) × (1 ≤ code) × (code ≤ 7) }
-    ensures { result ≡ comparedBy b code c cd }
+    ensures { result ≡ compared_by b code c cd }
 {
     match code {
         codes::EQUAL => c == cd,
@@ -125,7 +125,7 @@ pub fn satisfied(
 ) -> Settled
     requires { Readable known.b (seen_by known bugs.now fields.now map.now storage.now)
         × (known.judged ≡ true → checked known.b table.now ≡ Lowest 0) × (1 ≤ rows table.now) }
-    ensures { told_settled result ≡ told (satisfiedBy known.b table.now
+    ensures { told_settled result ≡ told (satisfied_by known.b table.now
         (seen_by known bugs.now fields.now map.now storage.now)
         mode (rows table.now) first) }
 {

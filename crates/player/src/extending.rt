@@ -1,7 +1,7 @@
 // More storage while a tour runs, for players in C and Rust.
 ghost use Rattle.std.specs.Prelude.{◌≡◌, length};
 ghost use Rattle.layout.specs.Layout.{state_length, state_of};
-ghost use Rattle.machine.specs.Extend.{extend as extendOf};
+ghost use Rattle.machine.specs.Extend.{extend as extend_of};
 ghost use Rattle.player.specs.Extending.{extend_left};
 ghost use Rattle.player.specs.Calls.{engine_at};
 
@@ -17,7 +17,7 @@ pub extern "C" fn l6_extend(storage: &mut [u64], state: &mut [u8], last: u64) ->
     ensures state_after { record { answer = result; storage = storage.new; state = state.new }
         ≡ extend_left last storage.old state.old }
     ensures back { length state.old ≡ state_length → state_of state.new
-        ≡ (extendOf last (engine_at state.old storage.old)).extended.state }
+        ≡ (extend_of last (engine_at state.old storage.old)).extended.state }
 {
     if state.len() != STATE_BYTES {
         return STATE_LENGTH;

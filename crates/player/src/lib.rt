@@ -12,12 +12,12 @@ pub mod typing;
 ghost use Rattle.std.specs.Prelude.{◌≤◌, true, cond, [], ◌∷◌, ◌≡◌, eqb, length};
 ghost use Rattle.word.specs.Word.{is_width};
 ghost use Rattle.machine.specs.Sound.{lends};
-ghost use Rattle.machine.specs.State.{fresh as freshState};
+ghost use Rattle.machine.specs.State.{fresh as fresh_state};
 ghost use Rattle.machine.specs.Step.{step as step_of, run as run_of};
 ghost use Rattle.machine.specs.Storage.{placed};
 ghost use Rattle.layout.specs.Layout.{state_length, bytes_of_state, state_of};
 ghost use Rattle.player.specs.Calls.{version, code, moved, numbers_of_store, numbers_of_report, engine_at, fresh_left};
-ghost use Rattle.player.specs.Calls.{unreported as unreportedOf, step_leaves, step_left, run_leaves, run_left, check_left};
+ghost use Rattle.player.specs.Calls.{unreported as unreported_of, step_leaves, step_left, run_leaves, run_left, check_left};
 ghost use Rattle.player.specs.Calls.{state_fault, counts_left, blocks_left};
 
 use engine::answers::refusal_number;
@@ -148,7 +148,7 @@ pub extern "C" fn l6_version() -> u64
 pub extern "C" fn l6_fresh(width: u64, state: &mut [u8]) -> u64
     ensures state_after { record { answer = result; state = state.new } ≡ fresh_left width state.old }
     ensures back { is_width width ≡ true → length state.old ≡ state_length → state_of state.new
-        ≡ freshState width }
+        ≡ fresh_state width }
 {
     if !is_width(width) {
         return NO_WIDTH;
@@ -164,7 +164,7 @@ pub extern "C" fn l6_fresh(width: u64, state: &mut [u8]) -> u64
 // What a step answers where its report has a wrong length: refusal 31 where the state has another width, otherwise 102.
 fn unreported(state: &[u8]) -> u64
     requires { length state.now ≡ state_length }
-    ensures { result ≡ unreportedOf state.now }
+    ensures { result ≡ unreported_of state.now }
 {
     if !is_width(width_at(state) as u64) {
         return NO_WIDTH;

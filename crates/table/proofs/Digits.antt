@@ -9,7 +9,7 @@ use mathlib.Core.Path.{◌≡◌, refl, ap, sym, ◌∙◌}
 use borrow.Author.Tests.{lt-ltb, le-ltb, ne_eqb, ltb-true, leb-true}
 use lib.Dec.{leb, ltb}
 use lib.ListN.{length, drop, set, length-set, drop_of_length-le}
-use Rattle.word.proofs.Tests.{by_leb, and_true as both-parts}
+use Rattle.word.proofs.Tests.{by_leb, and_true as both_parts}
 use Rattle.table.specs.declared.FieldName.{FieldName}
 use Rattle.table.specs.Reference.{digits_before, digits_of, names, names_field, names_bug, name_fields, starts_with_bug, is_reference}
 use Rattle.table.specs.Reference.{named, reference_of, names_of}
@@ -66,7 +66,7 @@ reference_zero = refl
 -- a reference has six digits at most
 pub reference_small : (v : ℕ) → is_reference v ≡ true → v < 64 ^ 6
 unfolding is_reference
-reference_small v h = ltb-true v (64 ^ 6) (both-parts (ltb v (64 ^ 6)) (starts_with_bug (digits_of v)) h).0
+reference_small v h = ltb-true v (64 ^ 6) (both_parts (ltb v (64 ^ 6)) (starts_with_bug (digits_of v)) h).0
 
 -- and is not zero
 pub reference_positive : (v : ℕ) → is_reference v ≡ true → 0 < v
@@ -136,7 +136,7 @@ drop_set (x ∷ xs) (suc i) a h = drop_set xs i a (omega arith)
 pub name_range : (lowest x : ℕ) → names lowest x ≡ true → (lowest ≤ x) × (x ≤ 36)
 unfolding names
 name_range lowest x h =
-    let (low, high) = both-parts (leb lowest x) (leb x 36) h in
+    let (low, high) = both_parts (leb lowest x) (leb x 36) h in
     (leb-true lowest x low, leb-true x 36 high)
 
 -- what is known of the last digit where more than one is left
@@ -152,7 +152,7 @@ digit : (k v : ℕ) → well_named k v ≡ true → v < 64 ^ suc k → 64 ≤ v 
 unfolding names_field
 digit zero v g l h = absurd (omega (arith, one_digit v l))
 digit (suc j) v g l h =
-    let (is_field, good) = both-parts (names_field (v % 64)) (well_named j (v / 64)) (sym (named_next j v h) ∙ g) in
+    let (is_field, good) = both_parts (names_field (v % 64)) (well_named j (v / 64)) (sym (named_next j v h) ∙ g) in
     let (low, high) = name_range 1 (v % 64) is_field in
     record { before = j; count = refl; low = low; high = high; good = good; short = shorter j v l }
 
