@@ -1,0 +1,13 @@
+use Prim.Native.Nat.{◌-◌}
+use native.Mathlib.Omega.{arith}
+use lib.ListN.{length}
+use Rattle.silence.specs.Silence.{test_of}
+use Rattle.silence.proofs.Picking.{Counted, counted_start, left_by, counted_next, counted_all}
+use borrow.Author.Rules.{rules}
+use Rattle.silence.proofs.count_picked.Given as goal
+
+abbrev pub invariant-loop-i : goal.invariant-loop-i
+invariant-loop-i l = Counted (test_of l.asked l.pairs) l.stops l.i l.n
+
+abbrev pub decreases-loop-i : goal.decreases-loop-i
+decreases-loop-i l = length l.stops - l.i
