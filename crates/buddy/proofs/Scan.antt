@@ -57,7 +57,7 @@ first_block {j} {left} {m} {r} (suc k) at (Halves x y) l h whole rest =
     let found : or_else (lowest_in j k at x) (or_else (lowest_in j k (at + size k) y) r) ≡ or_else (lowest_in j (suc k) at (Halves x y)) r
     = or_else_assoc _ _ r ∙ ap (λ (f : Found). or_else f r) (sym (lowest_large j k at x y (omega arith))) in
     next_same (halves_words k left) (halves_bytes k x y m) found
-    (first_block k at x (omega arith) (omega arith) low (second_half k at y (omega arith) (omega arith) high rest)))
+    (first_block {left = size k + left} k at x (omega arith) (omega arith) low (second_half k at y (omega arith) (omega arith) high rest)))
 
 -- and of what is left
 next : {j at left : ℕ} {m : List ℕ} {r : Found} → Rest (lowest_made j) j at left m r → 0 < left → Next j at left m r

@@ -1,0 +1,12 @@
+use Rattle.std.proofs.Common.{◌≡◌, ◌-◌, ◌*◌, ◌≤◌, length, refl, ◌∙◌, zero-mul, arith, length-set, rules}
+use Rattle.block.specs.Blocks.{size}
+use Rattle.block.proofs.Size.{size_pos}
+use Rattle.buddy.proofs.FreeTrees.{free_trees, trees_room, trees_next, trees_none, trees_more}
+use Rattle.buddy.proofs.fresh.free_trees.Given as goal
+
+abbrev pub invariant-loop-done : goal.invariant-loop-done
+invariant-loop-done l =
+    (l.done ≤ l.count) × (length l.map ≡ length l.initial.map) × (l.i ≡ l.done * size l.k) × (l.map ≡ free_trees l.k l.done (length l.initial.map))
+
+abbrev pub decreases-loop-done : goal.decreases-loop-done
+decreases-loop-done l = l.count - l.done

@@ -1,0 +1,12 @@
+use Rattle.std.proofs.Common.{◌≡◌, ◌+◌, ◌-◌, ◌≤◌, length, take, drop, refl, ap, arith, length-drop}
+use lib.Seq.{take-length}
+use Rattle.buddy.specs.Marks.{marks}
+use Rattle.buddy.proofs.Marks.{marks_part, marks_most}
+use Rattle.buddy.proofs.Halves.{part_length, upper}
+use Rattle.buddy.proofs.section.marks_of.Given as goal
+
+abbrev pub invariant-loop-i : goal.invariant-loop-i
+invariant-loop-i l = (l.i ≤ length l.bytes) × (l.count ≡ marks (take l.i l.bytes)) × (l.count ≤ l.i)
+
+abbrev pub decreases-loop-i : goal.decreases-loop-i
+decreases-loop-i l = length l.bytes - l.i

@@ -1,0 +1,12 @@
+use Rattle.std.proofs.Common.{◌-◌, ◌≤◌, length, sym, arith}
+use Rattle.word.proofs.Tests.{known_true, known_false}
+use Rattle.buddy.specs.Marks.{tag_level, counted}
+use Rattle.block.proofs.Size.{size_small}
+use Rattle.buddy.proofs.Adding.{Adds, adds_all, adds_end, adds_stop, adds_pass, Tagged, tagged}
+use Rattle.buddy.proofs.tree.count_blocks.Given as goal
+
+abbrev pub invariant-loop-i : goal.invariant-loop-i
+invariant-loop-i l = (l.i ≤ 256) × (l.count ≤ l.i) × Adds l.k l.bytes l.i l.count (counted l.k l.bytes)
+
+abbrev pub decreases-loop-i : goal.decreases-loop-i
+decreases-loop-i l = length l.bytes - l.i

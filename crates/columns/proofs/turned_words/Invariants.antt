@@ -1,0 +1,15 @@
+use Prim.Native.Nat.{◌-◌, ◌/◌, ◌%◌, ◌^◌, ◌≤◌}
+use mathlib.Core.Path.{sym}
+use native.Mathlib.Omega.{arith}
+use lib.ListN.{get_or}
+use Rattle.columns.specs.Packing.{octets}
+use Rattle.columns.proofs.Packing.{Added, added_none, added_room, added_more, added_all, spread_small, length_octets}
+use Rattle.columns.proofs.Packing.{octets_at}
+use borrow.Author.Rules.{rules}
+use Rattle.columns.proofs.turned_words.Given as goal
+
+abbrev pub invariant-loop-i : goal.invariant-loop-i
+invariant-loop-i l = (l.i ≤ 8) × Added (octets l.right l.group) l.i l.made
+
+abbrev pub decreases-loop-i : goal.decreases-loop-i
+decreases-loop-i l = 8 - l.i

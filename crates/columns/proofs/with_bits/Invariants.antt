@@ -1,0 +1,15 @@
+use Prim.Native.Nat.{ℕ, ◌-◌, ◌*◌, ◌+◌, ◌/◌, ◌%◌, ◌^◌}
+use mathlib.Core.Path.{◌≡◌, refl, sym, ap, ◌∙◌}
+use native.Mathlib.Omega.{arith}
+use lib.ListN.{get_or}
+use Rattle.columns.specs.Packing.{longer}
+use Rattle.word.proofs.Filling.{Fills, fills_none, whole_next, whole_all}
+use Rattle.columns.proofs.Packing.{length_longer, longer_at, bytes_next}
+use borrow.Author.Rules.{rules}
+use Rattle.columns.proofs.with_bits.Given as goal
+
+abbrev pub invariant-loop-i : goal.invariant-loop-i
+invariant-loop-i l = (l.rest ≡ l.all / 256 ^ l.i) × Fills 0 8 (longer l.group l.all) l.initial.made l.made l.i
+
+abbrev pub decreases-loop-i : goal.decreases-loop-i
+decreases-loop-i l = 8 - l.i

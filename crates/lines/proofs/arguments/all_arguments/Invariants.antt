@@ -1,0 +1,15 @@
+use Prim.Native.Nat.{◌+◌, ◌-◌}
+use native.Mathlib.Omega.{arith}
+use mathlib.Core.Path.{sym, ap, ◌∙◌}
+use Rattle.word.proofs.Tests.{known_true, known_false}
+use lib.ListN.{length}
+use Rattle.lines.specs.Forms.{is_argument}
+use Rattle.lines.proofs.Parts.{Tested, tested_none, tested_more, tested_not, tested_all, part_inside, part_slice}
+use borrow.Author.Rules.{rules}
+use Rattle.lines.proofs.arguments.all_arguments.Given as goal
+
+abbrev pub invariant-loop-at : goal.invariant-loop-at
+invariant-loop-at l = Tested l.s is_argument l.at
+
+abbrev pub decreases-loop-at : goal.decreases-loop-at
+decreases-loop-at l = length l.s + 1 - l.at
