@@ -1,0 +1,13 @@
+use native.Mathlib.Omega.{arith}
+use Prim.Native.Nat.{◌-◌}
+use lib.ListN.{length-replicate}
+use Rattle.layout.specs.Layout.{place_of}
+use Rattle.layout.proofs.Records.{Reads, reads_none, reads_next, reads_all}
+use borrow.Author.Rules.{rules}
+use Rattle.layout.proofs.reading.calls_at.Given as goal
+
+abbrev pub invariant-loop-i : goal.invariant-loop-i
+invariant-loop-i l = Reads place_of 5 1939 128 l.bytes l.made l.i
+
+abbrev pub decreases-loop-i : goal.decreases-loop-i
+decreases-loop-i l = 128 - l.i

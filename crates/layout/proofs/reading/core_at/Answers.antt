@@ -1,0 +1,13 @@
+-- `layout::reading::core_at` meets its contract: its parts, each read as the definition has it, make the core (`core_read`).
+-- Assumes nothing.
+use Rattle.layout.proofs.Told.{core_read}
+use borrow.Author.Rules.{rules}
+use Rattle.layout.proofs.reading.core_at.Goals as goal
+
+pub returns : goal.returns
+returns c =
+    core_read c.args.bytes.now c.read_words.ensures c.read_words-2.ensures
+    c.current_at-current.ensures c.saved_at-saved.ensures
+    c.calls_at-calls.ensures c.place_at.ensures c.count_at.ensures c.count_at-2.ensures
+    c.count_at-3.ensures c.setup_at.ensures
+    c.count_at-4.ensures c.count_at-5.ensures

@@ -1,0 +1,12 @@
+use Prim.Native.Nat.{◌-◌}
+use lib.ListN.{length-replicate}
+use Rattle.layout.specs.Layout.{definition_of}
+use Rattle.layout.proofs.Records.{Reads, reads_none, reads_next, reads_all}
+use borrow.Author.Rules.{rules}
+use Rattle.layout.proofs.reading.saved_at.Given as goal
+
+abbrev pub invariant-loop-i : goal.invariant-loop-i
+invariant-loop-i l = Reads definition_of 4 1427 128 l.bytes l.made l.i
+
+abbrev pub decreases-loop-i : goal.decreases-loop-i
+decreases-loop-i l = 128 - l.i

@@ -1,0 +1,32 @@
+-- `layout::writing::put_saved` meets its contract. The loop's invariant: the first i records are put. Assumes nothing.
+use native.Mathlib.Omega.{arith}
+use Prim.Native.Nat.{◌-◌}
+use Rattle.machine.specs.State.{undefined}
+use Rattle.layout.specs.Layout.{bytes_of_definition}
+use Rattle.layout.specs.Ranged.{RangedDefinition}
+use Rattle.layout.proofs.Placing.{same_length as kept}
+use Rattle.layout.proofs.Records.{Puts, puts_none, puts_next, puts_all}
+use Rattle.layout.proofs.Widths.{length_definition}
+use borrow.Author.Rules.{rules}
+use Rattle.layout.proofs.writing.put_saved.Goals as goal
+
+pub loop-i-init : goal.loop-i-init
+loop-i-init c = puts_none bytes_of_definition undefined 4 length_definition (omega (arith, c.requires)) (search rules)
+
+pub put_definition-requires : goal.put_definition-requires
+put_definition-requires c = omega (arith, c.requires, kept c.loop-i.invariant.put_so)
+
+pub loop-i-preserved : goal.loop-i-preserved
+unfolding undefined
+loop-i-preserved c =
+    let put = c.put_definition.ensures in
+    puts_next bytes_of_definition undefined 4 length_definition (omega (arith, c.requires)) c.loop-i.invariant
+    c.loop-i-test.true put.bytes_after put.ranged
+
+pub shape_of-bytes : goal.shape_of-bytes
+shape_of-bytes c = kept c.loop-i.invariant.put_so
+
+pub returns : goal.returns
+returns c =
+    let all = puts_all bytes_of_definition undefined 4 length_definition (omega (arith, c.requires)) c.loop-i.invariant c.loop-i-test.false in
+    record { bytes_after = all.0; ranged = all.1 }
