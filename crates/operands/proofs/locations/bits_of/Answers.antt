@@ -2,14 +2,7 @@
 -- Assumes nothing.
 use native.Mathlib.Omega.{arith}
 use Rattle.operands.proofs.Numbers.{field_number}
-use Rattle.operands.proofs.locations.bits_of.Statement.{statement}
-use Rattle.operands.proofs.locations.bits_of.Tie as tie
+use Rattle.operands.proofs.locations.bits_of.Goals as goal
 
-returns : tie.Need-returns
+pub returns : goal.returns
 returns c = (field_number _ c.requires, omega arith, omega arith)
-
-pub bits-of-spec : {M : Type 1} → statement M
-bits-of-spec =
-    tie.close
-    (tie.spec
-    returns)
