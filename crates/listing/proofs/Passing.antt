@@ -70,7 +70,7 @@ first_block {w} {left} {m} {bs} (suc k) at (Halves x y) h whole rest =
     let found : held w k at x ++ (held w k (at + size k) y ++ bs) ≡ held w (suc k) at (Halves x y) ++ bs
     = sym (append_assoc (held w k at x) (held w k (at + size k) y) bs) ∙ ap (λ (xs : List Block). xs ++ bs) (sym (halves_held w k at x y)) in
     next_same (halves_words k left) (halves_bytes k x y m) found
-    (first_block k at x (omega arith) low (second_half k at y (omega arith) (omega arith) high rest))
+    (first_block {left = size k + left} k at x (omega arith) low (second_half k at y (omega arith) (omega arith) high rest))
 
 next : {w : Bool} {at left : ℕ} {m : List ℕ} {bs : List Block} → Rest (held_made w) 0 at left m bs → 0 < left → Next w at left m bs
 next none h = absurd (omega arith)
