@@ -3,7 +3,6 @@
 use mathlib.Core.Path.{◌≡◌, sym, ◌∙◌}
 use Prim.Native.Nat.{ℕ, ◌-◌, min}
 use native.Mathlib.Omega.{arith}
-use borrow.Author.Rules.{rules}
 use Rattle.character.specs.Character.{characters, packed, holds, blank, leading, printed, blanks_to_zeros}
 use Rattle.character.proofs.Digits.{blanks_first}
 use Rattle.character.proofs.blanks_to_zeros.Goals as goal

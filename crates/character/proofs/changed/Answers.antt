@@ -4,9 +4,8 @@ use mathlib.Core.Path.{◌≡◌, refl, sym, ◌∙◌}
 use Prim.Native.Nat.{◌+◌, ◌*◌, ◌%◌, ◌^◌, ◌<◌}
 use native.Mathlib.Nat.{mod-lt, one-le-pow}
 use native.Mathlib.Omega.{arith}
-use borrow.Author.Rules.{rules}
 use Rattle.character.specs.Character.{digits, number, characters, packed, leading}
-use Rattle.character.proofs.Digits.{Growing, growing, grown, grown_fits, whole_fits, leading_turn, leading_ends}
+use Rattle.character.proofs.Digits.{growing, grown, grown_fits, whole_fits, leading_turn, leading_ends}
 use Rattle.character.proofs.changed.Goals as goal
 use Rattle.character.proofs.changed.Goals.{After-power-rest, Else-digit-old}
 

@@ -1,10 +1,6 @@
-use mathlib.Core.Path.{◌≡◌, refl, sym, ◌∙◌}
-use Prim.Native.Nat.{◌+◌, ◌*◌, ◌%◌, ◌^◌, ◌<◌}
-use native.Mathlib.Nat.{mod-lt, one-le-pow}
-use native.Mathlib.Omega.{arith}
-use borrow.Author.Rules.{rules}
+use mathlib.Core.Path.{◌≡◌}
 use Rattle.character.specs.Character.{digits, number, characters, packed, leading}
-use Rattle.character.proofs.Digits.{Growing, growing, grown, grown_fits, whole_fits, leading_turn, leading_ends}
+use Rattle.character.proofs.Digits.{Growing}
 use Rattle.character.proofs.changed.Given as goal
 
 abbrev pub invariant-loop-left : goal.invariant-loop-left

@@ -1,7 +1,6 @@
 -- `character::digit` meets its contract: a shift is a division by a power.
 -- Assumes nothing.
 use lib.Pow.{pow_pos}
-use borrow.Author.Rules.{rules}
 use Rattle.character.proofs.Digits.{shifted, power_of}
 use Rattle.character.proofs.digit.Goals as goal
 

@@ -3,9 +3,8 @@
 use mathlib.Core.Path.{◌≡◌, refl}
 use native.Mathlib.Omega.{arith}
 use Prim.Native.Nat.{ℕ, ◌+◌, ◌*◌, ◌^◌, ◌<◌}
-use borrow.Author.Rules.{rules}
 use Rattle.character.specs.Character.{digits, number, packed, from_binary}
-use Rattle.character.proofs.Digits.{Growing, growing, grown, grown_fits, number_next}
+use Rattle.character.proofs.Digits.{growing, grown, grown_fits, number_next}
 use Rattle.character.proofs.from_binary_octal.Goals as goal
 use Rattle.character.proofs.from_binary_octal.Goals.{In-loop-left}
 

@@ -1,9 +1,6 @@
-use mathlib.Core.Path.{◌≡◌, refl}
-use native.Mathlib.Omega.{arith}
-use Prim.Native.Nat.{ℕ, ◌+◌, ◌*◌, ◌^◌, ◌<◌}
-use borrow.Author.Rules.{rules}
-use Rattle.character.specs.Character.{digits, number, packed, from_binary}
-use Rattle.character.proofs.Digits.{Growing, growing, grown, grown_fits, number_next}
+use mathlib.Core.Path.{◌≡◌}
+use Rattle.character.specs.Character.{digits, number, from_binary}
+use Rattle.character.proofs.Digits.{Growing}
 use Rattle.character.proofs.from_binary_octal.Given as goal
 
 abbrev pub invariant-loop-left : goal.invariant-loop-left

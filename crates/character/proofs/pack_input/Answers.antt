@@ -1,16 +1,14 @@
 -- `character::pack_input` meets its contract. The loop's invariant: the bytes that are left, after those that were packed, come to the result.
 -- Assumes nothing.
-use mathlib.Core.Path.{◌≡◌}
 use Prim.Native.Nat.{◌+◌, ◌-◌, ◌*◌, ◌^◌, ◌<◌, ℕ}
 use native.Mathlib.Nat.{sub_self}
 use native.Mathlib.Omega.{arith}
 use mathlib.Core.List.{List}
 use lib.ListN.{take, drop, get_or}
-use borrow.Author.Rules.{rules}
 use Rattle.character.specs.Character.{number, packed, all_below}
 use Rattle.word.specs.Told.{gives, refuses}
 use Rattle.character.specs.Converted.{told_packed, packing}
-use Rattle.character.proofs.Digits.{Growing, growing, grown, grown_fits, answer, answer_next, answer_stop, taken_first}
+use Rattle.character.proofs.Digits.{growing, grown, grown_fits, answer, answer_next, answer_stop, taken_first}
 use Rattle.character.proofs.Digits.{taken_last}
 use Rattle.character.proofs.pack_input.Goals as goal
 use Rattle.character.proofs.pack_input.Goals.{Else-next-ge-CODES}

@@ -1,8 +1,6 @@
 use Prim.Native.Nat.{◌-◌}
-use borrow.Author.Rules.{rules}
 use Rattle.character.specs.Character.{printed}
-use Rattle.character.proofs.Digits.{length_printed}
-use Rattle.word.proofs.Filling.{Fills, fills_none, fills_next, fills_all}
+use Rattle.word.proofs.Filling.{Fills}
 use Rattle.character.proofs.print_into.Given as goal
 
 abbrev pub invariant-loop-i : goal.invariant-loop-i

@@ -4,10 +4,9 @@ use mathlib.Core.Path.{◌≡◌, refl, sym, ◌∙◌}
 use mathlib.Core.Option.{none, some}
 use Prim.Native.Nat.{◌+◌, ◌*◌, ◌^◌, ◌<◌}
 use native.Mathlib.Omega.{arith}
-use borrow.Author.Rules.{rules}
 use Rattle.character.specs.Character.{digits, number, characters, all_below, to_binary}
 use Rattle.character.specs.Converted.{told_converted, converting}
-use Rattle.character.proofs.Digits.{Growing, growing, grown, grown_fits, answer, answer_turn, answer_ends}
+use Rattle.character.proofs.Digits.{growing, grown, grown_fits, answer, answer_turn, answer_ends}
 use Rattle.character.proofs.to_binary.Goals as goal
 use Rattle.character.proofs.to_binary.Goals.{Else-next-base}
 

@@ -1,11 +1,7 @@
-use mathlib.Core.Path.{◌≡◌, refl, sym, ◌∙◌}
+use mathlib.Core.Path.{◌≡◌}
 use mathlib.Core.Option.{none, some}
-use Prim.Native.Nat.{◌+◌, ◌*◌, ◌^◌, ◌<◌}
-use native.Mathlib.Omega.{arith}
-use borrow.Author.Rules.{rules}
-use Rattle.character.specs.Character.{digits, number, characters, all_below, to_binary}
-use Rattle.character.specs.Converted.{told_converted, converting}
-use Rattle.character.proofs.Digits.{Growing, growing, grown, grown_fits, answer, answer_turn, answer_ends}
+use Rattle.character.specs.Character.{digits, to_binary}
+use Rattle.character.proofs.Digits.{Growing, answer}
 use Rattle.character.proofs.to_binary.Given as goal
 
 abbrev pub invariant-loop-left : goal.invariant-loop-left

@@ -1,6 +1,5 @@
 -- `character::zeros_to_blanks` meets its contract. The definition is the call.
 -- Assumes nothing.
-use borrow.Author.Rules.{rules}
 use Rattle.character.specs.Character.{blank, zeros_to_blanks}
 use Rattle.character.proofs.zeros_to_blanks.Goals as goal
 

@@ -1,11 +1,11 @@
 -- `columns::filled_with_zeros` meets its contract. The loop's invariant: whether the words from n on are zeros is whether those from here
 -- on are. Assumes nothing.
-use Prim.Native.Nat.{◌≤◌, ◌*◌, ◌-◌, ◌<◌}
-use mathlib.Core.Path.{◌≡◌, refl, sym, ◌∙◌}
+use Prim.Native.Nat.{◌≤◌, ◌-◌, ◌<◌}
+use mathlib.Core.Path.{refl, sym, ◌∙◌}
 use native.Mathlib.Nat.{mul-le-mul_right}
 use native.Mathlib.Omega.{arith}
-use lib.ListN.{length, drop}
-use Rattle.columns.specs.Columns.{turned_groups, each_below}
+use lib.ListN.{length}
+use Rattle.columns.specs.Columns.{turned_groups}
 use Rattle.columns.proofs.Turning.{length_groups}
 use Rattle.columns.proofs.Loops.{below_next, below_not, below_all}
 use Rattle.columns.proofs.filled_with_zeros.Goals as goal

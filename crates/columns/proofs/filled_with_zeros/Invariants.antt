@@ -1,11 +1,7 @@
-use Prim.Native.Nat.{◌≤◌, ◌*◌, ◌-◌, ◌<◌}
-use mathlib.Core.Path.{◌≡◌, refl, sym, ◌∙◌}
-use native.Mathlib.Nat.{mul-le-mul_right}
-use native.Mathlib.Omega.{arith}
-use lib.ListN.{length, drop}
+use Prim.Native.Nat.{◌*◌, ◌-◌}
+use mathlib.Core.Path.{◌≡◌}
+use lib.ListN.{drop}
 use Rattle.columns.specs.Columns.{turned_groups, each_below}
-use Rattle.columns.proofs.Turning.{length_groups}
-use Rattle.columns.proofs.Loops.{below_next, below_not, below_all}
 use Rattle.columns.proofs.filled_with_zeros.Given as goal
 
 abbrev pub invariant-loop-i : goal.invariant-loop-i

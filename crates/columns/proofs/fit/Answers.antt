@@ -1,11 +1,9 @@
 -- `columns::fit` meets its contract. The loop's invariant: whether all words fit is whether those from here on do. Assumes nothing.
-use Prim.Native.Nat.{◌≤◌, ◌^◌, ◌-◌}
-use mathlib.Core.Path.{◌≡◌, refl}
+use Prim.Native.Nat.{◌-◌}
+use mathlib.Core.Path.{refl}
 use native.Mathlib.Omega.{arith}
-use lib.ListN.{length, drop}
-use Rattle.columns.specs.Columns.{fits_width, each_below}
+use Rattle.columns.specs.Columns.{fits_width}
 use Rattle.columns.proofs.Loops.{fits_next, fits_not, fits_all}
-use borrow.Author.Rules.{rules}
 use Rattle.columns.proofs.fit.Goals as goal
 
 pub loop-i-init : goal.loop-i-init

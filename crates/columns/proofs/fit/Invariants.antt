@@ -1,10 +1,7 @@
 use Prim.Native.Nat.{◌≤◌, ◌^◌, ◌-◌}
-use mathlib.Core.Path.{◌≡◌, refl}
-use native.Mathlib.Omega.{arith}
+use mathlib.Core.Path.{◌≡◌}
 use lib.ListN.{length, drop}
 use Rattle.columns.specs.Columns.{fits_width, each_below}
-use Rattle.columns.proofs.Loops.{fits_next, fits_not, fits_all}
-use borrow.Author.Rules.{rules}
 use Rattle.columns.proofs.fit.Given as goal
 
 abbrev pub invariant-loop-i : goal.invariant-loop-i

@@ -2,11 +2,8 @@
 use Prim.Native.Nat.{◌-◌}
 use mathlib.Core.Path.{refl, sym, ◌∙◌}
 use native.Mathlib.Omega.{arith}
-use lib.ListN.{take, drop}
-use Rattle.columns.specs.Columns.{filled_up}
-use Rattle.word.proofs.Filling.{Fills, fills_none, whole_next, whole_all}
+use Rattle.word.proofs.Filling.{fills_none, whole_next, whole_all}
 use Rattle.columns.proofs.Loops.{length_group, group_at, starts_inside}
-use borrow.Author.Rules.{rules}
 use Rattle.columns.proofs.group_at.Goals as goal
 
 pub loop-i-init : goal.loop-i-init

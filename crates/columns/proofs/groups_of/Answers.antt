@@ -2,7 +2,6 @@
 -- Assumes nothing.
 use native.Mathlib.Omega.{arith}
 use Rattle.columns.specs.Columns.{groups_of}
-use borrow.Author.Rules.{rules}
 use Rattle.columns.proofs.groups_of.Goals as goal
 
 pub returns : goal.returns

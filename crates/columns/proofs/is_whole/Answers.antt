@@ -1,7 +1,6 @@
 -- `columns::is_whole` meets its contract: remainder and quotient together tell whether a number is b times the groups (`whole_is`).
 -- Assumes nothing.
 use Rattle.columns.proofs.Calls.{whole_is}
-use borrow.Author.Rules.{rules}
 use Rattle.columns.proofs.is_whole.Goals as goal
 
 pub returns : goal.returns

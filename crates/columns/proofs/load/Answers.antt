@@ -5,7 +5,6 @@ use Rattle.word.proofs.Tests.{known_true, known_false}
 use Rattle.columns.proofs.Back.{room}
 use Rattle.columns.proofs.Calls.{loading_no_width, loading_uneven, loading_filled, loading_short, loading_done}
 use Rattle.word.proofs.Width.{width_range}
-use borrow.Author.Rules.{rules}
 use Rattle.columns.proofs.load.Goals as goal
 
 pub returns-then-not-is_width : goal.returns-then-not-is_width

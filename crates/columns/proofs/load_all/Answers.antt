@@ -1,5 +1,5 @@
 -- `columns::load_all` meets its contract. The loop's invariant: the first i words, those of k groups, are stored. Assumes nothing.
-use Prim.Native.Nat.{ℕ, suc, ◌+◌, ◌-◌, ◌*◌, ◌≤◌, ◌<◌}
+use Prim.Native.Nat.{ℕ, suc, ◌+◌, ◌-◌, ◌*◌, ◌<◌}
 use mathlib.Core.List.{List}
 use mathlib.Core.Path.{◌≡◌, refl, sym, ap, ◌∙◌}
 use native.Mathlib.Nat.{mul-le-mul_left}
@@ -10,7 +10,6 @@ use Rattle.columns.specs.Columns.{turned_groups}
 use Rattle.columns.proofs.Turning.{length_turned, length_groups}
 use Rattle.columns.proofs.Parts.{group_of}
 use Rattle.columns.proofs.Writing.{start_more, start_all}
-use borrow.Author.Rules.{rules}
 use Rattle.columns.proofs.load_all.Goals as goal
 
 pub loop-i-init : goal.loop-i-init

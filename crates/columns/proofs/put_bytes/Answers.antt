@@ -1,12 +1,10 @@
 -- `columns::put_bytes` meets its contract. The loop's invariant: the first i bytes are stored. Assumes nothing.
-use Prim.Native.Nat.{ℕ, ◌-◌, ◌/◌, ◌%◌, ◌^◌}
-use mathlib.Core.Path.{◌≡◌, sym, ap, ◌∙◌}
+use Prim.Native.Nat.{ℕ, ◌-◌, ◌%◌}
+use mathlib.Core.Path.{sym, ap, ◌∙◌}
 use native.Mathlib.Omega.{arith}
-use Rattle.columns.specs.Packing.{unpacked}
-use Rattle.word.proofs.Filling.{Fills, fills_none, fills_next}
+use Rattle.word.proofs.Filling.{fills_none, fills_next}
 use Rattle.columns.proofs.Packing.{length_unpacked, unpacked_at, bytes_next}
 use Rattle.columns.proofs.Writing.{fills_sets}
-use borrow.Author.Rules.{rules}
 use Rattle.columns.proofs.put_bytes.Goals as goal
 
 pub loop-i-init : goal.loop-i-init

@@ -1,11 +1,7 @@
-use Prim.Native.Nat.{ℕ, ◌-◌, ◌/◌, ◌%◌, ◌^◌}
-use mathlib.Core.Path.{◌≡◌, sym, ap, ◌∙◌}
-use native.Mathlib.Omega.{arith}
+use Prim.Native.Nat.{◌-◌, ◌/◌, ◌^◌}
+use mathlib.Core.Path.{◌≡◌}
 use Rattle.columns.specs.Packing.{unpacked}
-use Rattle.word.proofs.Filling.{Fills, fills_none, fills_next}
-use Rattle.columns.proofs.Packing.{length_unpacked, unpacked_at, bytes_next}
-use Rattle.columns.proofs.Writing.{fills_sets}
-use borrow.Author.Rules.{rules}
+use Rattle.word.proofs.Filling.{Fills}
 use Rattle.columns.proofs.put_bytes.Given as goal
 
 abbrev pub invariant-loop-i : goal.invariant-loop-i

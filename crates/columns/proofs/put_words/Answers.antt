@@ -1,11 +1,9 @@
 -- `columns::put_words` meets its contract. The loop's invariant: the first i words are stored. Assumes nothing.
 use Prim.Native.Nat.{◌-◌}
 use mathlib.Core.Path.{sym}
-use lib.ListN.{take}
 use lib.Seq.{length-take-le, get_or-take}
-use Rattle.word.proofs.Filling.{Fills, fills_none, fills_next}
+use Rattle.word.proofs.Filling.{fills_none, fills_next}
 use Rattle.columns.proofs.Writing.{fills_sets}
-use borrow.Author.Rules.{rules}
 use Rattle.columns.proofs.put_words.Goals as goal
 
 pub loop-i-init : goal.loop-i-init

@@ -1,10 +1,6 @@
 use Prim.Native.Nat.{◌-◌}
-use mathlib.Core.Path.{sym}
 use lib.ListN.{take}
-use lib.Seq.{length-take-le, get_or-take}
-use Rattle.word.proofs.Filling.{Fills, fills_none, fills_next}
-use Rattle.columns.proofs.Writing.{fills_sets}
-use borrow.Author.Rules.{rules}
+use Rattle.word.proofs.Filling.{Fills}
 use Rattle.columns.proofs.put_words.Given as goal
 
 abbrev pub invariant-loop-i : goal.invariant-loop-i

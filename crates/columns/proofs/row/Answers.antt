@@ -1,11 +1,9 @@
 -- `columns::row` meets its contract. The loop's invariant: so far p bits are gathered. Assumes nothing.
-use Prim.Native.Nat.{suc, ◌+◌, ◌≤◌, ◌-◌}
-use mathlib.Core.Path.{◌≡◌, refl, sym}
+use Prim.Native.Nat.{◌+◌, ◌≤◌, ◌-◌}
+use mathlib.Core.Path.{refl, sym}
 use native.Mathlib.Omega.{arith}
-use lib.ListN.{take, drop}
-use Rattle.columns.proofs.Bits.{Gathered, gathered_none, gathered_more, gathered_all, gathered_small}
+use Rattle.columns.proofs.Bits.{gathered_none, gathered_more, gathered_all, gathered_small}
 use Rattle.columns.proofs.Loops.{length_part, part_at}
-use borrow.Author.Rules.{rules}
 use Rattle.columns.proofs.row.Goals as goal
 
 pub loop-p-init : goal.loop-p-init

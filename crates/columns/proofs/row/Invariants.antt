@@ -1,10 +1,7 @@
-use Prim.Native.Nat.{suc, ◌+◌, ◌≤◌, ◌-◌}
-use mathlib.Core.Path.{◌≡◌, refl, sym}
-use native.Mathlib.Omega.{arith}
+use Prim.Native.Nat.{suc, ◌≤◌, ◌-◌}
+use mathlib.Core.Path.{◌≡◌}
 use lib.ListN.{take, drop}
-use Rattle.columns.proofs.Bits.{Gathered, gathered_none, gathered_more, gathered_all, gathered_small}
-use Rattle.columns.proofs.Loops.{length_part, part_at}
-use borrow.Author.Rules.{rules}
+use Rattle.columns.proofs.Bits.{Gathered}
 use Rattle.columns.proofs.row.Given as goal
 
 abbrev pub invariant-loop-p : goal.invariant-loop-p

@@ -5,7 +5,6 @@ use native.Mathlib.Omega.{arith}
 use Rattle.word.proofs.Tests.{known_true, known_false}
 use Rattle.columns.proofs.Calls.{groups_short, groups_fit, saving_no_width, saving_wide, saving_short, saving_done}
 use Rattle.word.proofs.Width.{width_range}
-use borrow.Author.Rules.{rules}
 use Rattle.columns.proofs.save.Goals as goal
 
 pub returns-then-not-is_width : goal.returns-then-not-is_width

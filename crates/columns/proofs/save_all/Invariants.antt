@@ -1,16 +1,8 @@
-use Prim.Native.Nat.{ℕ, suc, ◌+◌, ◌-◌, ◌*◌, ◌≤◌}
-use mathlib.Core.List.{List, ◌++◌}
-use mathlib.Core.Path.{◌≡◌, refl, sym, ap, ◌∙◌}
-use native.Mathlib.Nat.{mul-le-mul_left}
-use native.Mathlib.Omega.{arith}
-use lib.ListN.{length, take, drop}
-use lib.Seq.{sets, length-sets, take_all}
-use Rattle.columns.specs.Columns.{groups_of, turned, saved}
-use Rattle.columns.proofs.Back.{length_saved}
-use Rattle.columns.proofs.Loops.{length_group}
-use Rattle.columns.proofs.Parts.{saved_group}
-use Rattle.columns.proofs.Writing.{start_more, start_all}
-use borrow.Author.Rules.{rules}
+use Prim.Native.Nat.{◌-◌, ◌*◌, ◌≤◌}
+use mathlib.Core.Path.{◌≡◌}
+use lib.ListN.{length, take}
+use lib.Seq.{sets}
+use Rattle.columns.specs.Columns.{saved}
 use Rattle.columns.proofs.save_all.Given as goal
 
 abbrev pub invariant-loop-k : goal.invariant-loop-k

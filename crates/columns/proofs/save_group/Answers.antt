@@ -9,7 +9,6 @@ use Rattle.columns.specs.Packing.{unpacked}
 use Rattle.columns.proofs.Turning.{length_turned}
 use Rattle.columns.proofs.Parts.{eight_turned, first_turned}
 use Rattle.columns.proofs.Writing.{sets_later, sets_both}
-use borrow.Author.Rules.{rules}
 use Rattle.columns.proofs.save_group.Goals as goal
 
 pub turned_words-requires : goal.turned_words-requires

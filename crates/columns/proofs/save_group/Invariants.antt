@@ -1,14 +1,8 @@
-use Prim.Native.Nat.{ℕ, ◌+◌, ◌-◌, ◌*◌, ◌/◌, ◌%◌, ◌^◌, ◌≤◌}
-use mathlib.Core.Path.{◌≡◌, refl, sym, ap, ◌∙◌}
-use native.Mathlib.Omega.{arith}
+use Prim.Native.Nat.{◌+◌, ◌-◌, ◌%◌, ◌≤◌}
+use mathlib.Core.Path.{◌≡◌}
 use lib.ListN.{length, take, drop}
-use lib.Seq.{sets, length-sets}
+use lib.Seq.{sets}
 use Rattle.columns.specs.Columns.{turned}
-use Rattle.columns.specs.Packing.{unpacked}
-use Rattle.columns.proofs.Turning.{length_turned}
-use Rattle.columns.proofs.Parts.{eight_turned, first_turned}
-use Rattle.columns.proofs.Writing.{sets_later, sets_both}
-use borrow.Author.Rules.{rules}
 use Rattle.columns.proofs.save_group.Given as goal
 
 abbrev pub invariant-loop-p : goal.invariant-loop-p

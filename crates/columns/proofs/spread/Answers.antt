@@ -4,7 +4,6 @@ use native.Mathlib.Omega.{arith}
 use Prim.Native.Nat.{◌*◌}
 use lib.Bits.{and_le_r}
 use Rattle.columns.proofs.Packing.{ones, spread_is}
-use borrow.Author.Rules.{rules}
 use Rattle.columns.proofs.spread.Goals as goal
 
 pub overflow_add-result : goal.overflow_add-result

@@ -1,11 +1,10 @@
 -- `columns::turned_bytes` meets its contract. The loop's invariant: i bytes are added up. Assumes nothing.
-use Prim.Native.Nat.{◌+◌, ◌-◌, ◌≤◌}
+use Prim.Native.Nat.{◌+◌, ◌-◌}
 use mathlib.Core.Path.{sym}
 use native.Mathlib.Omega.{arith}
-use lib.ListN.{get_or, take, drop}
-use Rattle.columns.proofs.Packing.{Added, added_none, added_room, added_more, added_all, spread_small}
+use lib.ListN.{get_or}
+use Rattle.columns.proofs.Packing.{added_none, added_room, added_more, added_all, spread_small}
 use Rattle.columns.proofs.Loops.{length_part, part_at}
-use borrow.Author.Rules.{rules}
 use Rattle.columns.proofs.turned_bytes.Goals as goal
 
 pub loop-i-init : goal.loop-i-init

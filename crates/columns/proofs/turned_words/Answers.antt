@@ -1,10 +1,9 @@
 -- `columns::turned_words` meets its contract. The loop's invariant: eight bits of i words are added up. Assumes nothing.
-use Prim.Native.Nat.{◌-◌, ◌/◌, ◌%◌, ◌^◌, ◌≤◌}
+use Prim.Native.Nat.{◌-◌, ◌/◌, ◌%◌, ◌^◌}
 use mathlib.Core.Path.{sym}
 use native.Mathlib.Omega.{arith}
 use lib.ListN.{get_or}
-use Rattle.columns.specs.Packing.{octets}
-use Rattle.columns.proofs.Packing.{Added, added_none, added_room, added_more, added_all, spread_small, length_octets}
+use Rattle.columns.proofs.Packing.{added_none, added_room, added_more, added_all, spread_small, length_octets}
 use Rattle.columns.proofs.Packing.{octets_at}
 use borrow.Author.Rules.{rules}
 use Rattle.columns.proofs.turned_words.Goals as goal

@@ -1,11 +1,6 @@
-use Prim.Native.Nat.{◌-◌, ◌/◌, ◌%◌, ◌^◌, ◌≤◌}
-use mathlib.Core.Path.{sym}
-use native.Mathlib.Omega.{arith}
-use lib.ListN.{get_or}
+use Prim.Native.Nat.{◌-◌, ◌≤◌}
 use Rattle.columns.specs.Packing.{octets}
-use Rattle.columns.proofs.Packing.{Added, added_none, added_room, added_more, added_all, spread_small, length_octets}
-use Rattle.columns.proofs.Packing.{octets_at}
-use borrow.Author.Rules.{rules}
+use Rattle.columns.proofs.Packing.{Added}
 use Rattle.columns.proofs.turned_words.Given as goal
 
 abbrev pub invariant-loop-i : goal.invariant-loop-i

@@ -1,12 +1,10 @@
 -- `columns::with_bits` meets its contract. The loop's invariant: i words are made. Assumes nothing.
-use Prim.Native.Nat.{ℕ, ◌-◌, ◌*◌, ◌+◌, ◌/◌, ◌%◌, ◌^◌}
-use mathlib.Core.Path.{◌≡◌, refl, sym, ap, ◌∙◌}
+use Prim.Native.Nat.{ℕ, ◌-◌, ◌*◌, ◌+◌, ◌%◌}
+use mathlib.Core.Path.{refl, sym, ap, ◌∙◌}
 use native.Mathlib.Omega.{arith}
 use lib.ListN.{get_or}
-use Rattle.columns.specs.Packing.{longer}
-use Rattle.word.proofs.Filling.{Fills, fills_none, whole_next, whole_all}
+use Rattle.word.proofs.Filling.{fills_none, whole_next, whole_all}
 use Rattle.columns.proofs.Packing.{length_longer, longer_at, bytes_next}
-use borrow.Author.Rules.{rules}
 use Rattle.columns.proofs.with_bits.Goals as goal
 
 pub loop-i-init : goal.loop-i-init

@@ -1,11 +1,7 @@
-use Prim.Native.Nat.{ℕ, ◌-◌, ◌*◌, ◌+◌, ◌/◌, ◌%◌, ◌^◌}
-use mathlib.Core.Path.{◌≡◌, refl, sym, ap, ◌∙◌}
-use native.Mathlib.Omega.{arith}
-use lib.ListN.{get_or}
+use Prim.Native.Nat.{◌-◌, ◌/◌, ◌^◌}
+use mathlib.Core.Path.{◌≡◌}
 use Rattle.columns.specs.Packing.{longer}
-use Rattle.word.proofs.Filling.{Fills, fills_none, whole_next, whole_all}
-use Rattle.columns.proofs.Packing.{length_longer, longer_at, bytes_next}
-use borrow.Author.Rules.{rules}
+use Rattle.word.proofs.Filling.{Fills}
 use Rattle.columns.proofs.with_bits.Given as goal
 
 abbrev pub invariant-loop-i : goal.invariant-loop-i

@@ -3,7 +3,6 @@ use Prim.Native.Nat.{◌+◌}
 use mathlib.Core.Path.{sym}
 use native.Mathlib.Omega.{arith}
 use Rattle.columns.proofs.Loops.{past_end}
-use borrow.Author.Rules.{rules}
 use Rattle.columns.proofs.word_or_zero.Goals as goal
 
 pub returns-else-i-words : goal.returns-else-i-words

@@ -1,9 +1,5 @@
-use native.Mathlib.Omega.{arith}
-use Rattle.word.proofs.Tests.{known_true, known_false}
 use Rattle.hours.specs.Hours.{all_keep_of}
-use Rattle.hours.proofs.Walk.{Walk, walk_start, walk_done, walk_inside, walk_next, walk_found}
-use Rattle.hours.proofs.Tests.{all_keep}
-use borrow.Author.Rules.{rules}
+use Rattle.hours.proofs.Walk.{Walk}
 use Rattle.hours.proofs.all_keep.Given as goal
 
 abbrev pub invariant-loop-left : goal.invariant-loop-left

@@ -1,7 +1,7 @@
 -- `hours::any_names` meets its contract. The loop's invariant: whether some entry names the day is whether one that is left does. Assumes nothing.
 use native.Mathlib.Omega.{arith}
 use Rattle.hours.specs.Hours.{any_names}
-use Rattle.hours.proofs.Walk.{Walk, walk_start, walk_done, walk_inside, walk_next, walk_found}
+use Rattle.hours.proofs.Walk.{walk_start, walk_done, walk_inside, walk_next, walk_found}
 use Rattle.hours.proofs.Tests.{names_first, names_later}
 use borrow.Author.Rules.{rules}
 use Rattle.hours.proofs.any_names.Goals as goal

@@ -1,8 +1,5 @@
-use native.Mathlib.Omega.{arith}
 use Rattle.hours.specs.Hours.{any_names}
-use Rattle.hours.proofs.Walk.{Walk, walk_start, walk_done, walk_inside, walk_next, walk_found}
-use Rattle.hours.proofs.Tests.{names_first, names_later}
-use borrow.Author.Rules.{rules}
+use Rattle.hours.proofs.Walk.{Walk}
 use Rattle.hours.proofs.any_names.Given as goal
 
 abbrev pub invariant-loop-left : goal.invariant-loop-left

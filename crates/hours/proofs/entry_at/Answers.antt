@@ -4,7 +4,6 @@ use mathlib.Core.Path.{◌≡◌, ap, ◌∙◌}
 use native.Mathlib.Omega.{arith}
 use lib.ListN.{take, drop, length-drop, length-take}
 use Rattle.hours.specs.Hours.{entry_of}
-use borrow.Author.Rules.{rules}
 use Rattle.hours.proofs.entry_at.Goals as goal
 
 pub entry_of-requires : goal.entry_of-requires

@@ -1,10 +1,8 @@
 -- `hours::first_holding` meets its contract. The loop's invariant: what is found in the whole list is what is found from here on. Assumes nothing.
-use mathlib.Core.List.{List}
 use mathlib.Core.Path.{sym, ◌∙◌}
 use native.Mathlib.Omega.{arith}
-use Rattle.hours.specs.declared.Entry.{Entry}
 use Rattle.hours.specs.Hours.{naming, first_holding}
-use Rattle.hours.proofs.Walk.{Walk, walk_start, walk_done, walk_inside, walk_next, walk_found}
+use Rattle.hours.proofs.Walk.{walk_start, walk_done, walk_inside, walk_next, walk_found}
 use Rattle.hours.proofs.Tests.{search_from}
 use Rattle.hours.proofs.Answering.{searched_told}
 use borrow.Author.Rules.{rules}

@@ -1,12 +1,7 @@
 use mathlib.Core.List.{List}
-use mathlib.Core.Path.{sym, ◌∙◌}
-use native.Mathlib.Omega.{arith}
 use Rattle.hours.specs.declared.Entry.{Entry}
 use Rattle.hours.specs.Hours.{naming, first_holding}
-use Rattle.hours.proofs.Walk.{Walk, walk_start, walk_done, walk_inside, walk_next, walk_found}
-use Rattle.hours.proofs.Tests.{search_from}
-use Rattle.hours.proofs.Answering.{searched_told}
-use borrow.Author.Rules.{rules}
+use Rattle.hours.proofs.Walk.{Walk}
 use Rattle.hours.proofs.first_holding.Given as goal
 
 abbrev pub invariant-loop-left : goal.invariant-loop-left

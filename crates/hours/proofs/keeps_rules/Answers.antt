@@ -4,7 +4,6 @@ use mathlib.Core.Path.{ap, ◌∙◌}
 use lib.Dec.{eqb}
 use Rattle.word.proofs.Tests.{known_true, known_false}
 use Rattle.hours.proofs.Tests.{keeps_unnamed, keeps_open, keeps_other}
-use borrow.Author.Rules.{rules}
 use Rattle.hours.proofs.keeps_rules.Goals as goal
 
 pub returns-then-not-has_name : goal.returns-then-not-has_name

@@ -1,7 +1,6 @@
 -- `hours::list_keeps` meets its contract: by the list's length. Assumes nothing.
 use mathlib.Core.Path.{◌∙◌}
 use Rattle.hours.proofs.Answering.{list_uneven, list_even}
-use borrow.Author.Rules.{rules}
 use Rattle.hours.proofs.list_keeps.Goals as goal
 
 pub returns-then-list-n-ne0 : goal.returns-then-list-n-ne0

@@ -4,7 +4,6 @@ use mathlib.Core.Path.{sym, ap, ◌∙◌}
 use Rattle.word.proofs.Tests.{known_true, known_false}
 use Rattle.hours.specs.Hours.{window, entries, naming, first_holding}
 use Rattle.hours.proofs.Answering.{windows_broken, exceptions_broken, minute_late, by_exceptions, by_windows}
-use borrow.Author.Rules.{rules}
 use Rattle.hours.proofs.open_at.Goals as goal
 
 pub returns-then-not-list_keeps : goal.returns-then-not-list_keeps

@@ -1,13 +1,7 @@
-use native.Mathlib.Omega.{arith}
-use Prim.Native.Nat.{◌-◌, ◌/◌}
-use lib.ListN.{get_or}
+use Prim.Native.Nat.{◌-◌}
 use Rattle.block.specs.SetUp.{words}
-use Rattle.block.proofs.Map.{keeps_words}
-use Rattle.block.proofs.Size.{size_pos, words_le}
 use Rattle.listing.specs.Listing.{blocks}
-use Rattle.listing.proofs.Passing.{passed_none}
-use Rattle.listing.proofs.Lists.{byte_most, Counting, counting_none, met, counting_next, counting_all}
-use borrow.Author.Rules.{rules}
+use Rattle.listing.proofs.Lists.{Counting}
 use Rattle.listing.proofs.count_blocks.Given as goal
 
 abbrev pub invariant-loop-i : goal.invariant-loop-i

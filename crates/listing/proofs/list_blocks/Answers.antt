@@ -1,16 +1,12 @@
 -- `listing::list_blocks` meets its contract. The loop's invariant: the numbers of the blocks up to word i are put. Assumes nothing.
 use native.Mathlib.Omega.{arith}
 use Prim.Native.Nat.{◌-◌, ◌/◌}
-use mathlib.Core.Path.{◌≡◌}
-use lib.ListN.{length, get_or}
-use Rattle.block.specs.SetUp.{words}
+use lib.ListN.{get_or}
 use Rattle.block.proofs.Map.{keeps_words}
 use Rattle.block.proofs.Size.{size_pos, words_le}
 use Rattle.layout.proofs.Placing.{same_length as kept}
-use Rattle.listing.specs.Listing.{blocks, numbers_of}
 use Rattle.listing.proofs.Passing.{passed_none}
-use Rattle.listing.proofs.Lists.{Listing, listing_none, found, room, listing_next, listing_all}
-use borrow.Author.Rules.{rules}
+use Rattle.listing.proofs.Lists.{listing_none, found, room, listing_next, listing_all}
 use Rattle.listing.proofs.list_blocks.Goals as goal
 
 pub loop-i-init : goal.loop-i-init

@@ -1,15 +1,9 @@
-use native.Mathlib.Omega.{arith}
-use Prim.Native.Nat.{◌-◌, ◌/◌}
+use Prim.Native.Nat.{◌-◌}
 use mathlib.Core.Path.{◌≡◌}
-use lib.ListN.{length, get_or}
+use lib.ListN.{length}
 use Rattle.block.specs.SetUp.{words}
-use Rattle.block.proofs.Map.{keeps_words}
-use Rattle.block.proofs.Size.{size_pos, words_le}
-use Rattle.layout.proofs.Placing.{same_length as kept}
 use Rattle.listing.specs.Listing.{blocks, numbers_of}
-use Rattle.listing.proofs.Passing.{passed_none}
-use Rattle.listing.proofs.Lists.{Listing, listing_none, found, room, listing_next, listing_all}
-use borrow.Author.Rules.{rules}
+use Rattle.listing.proofs.Lists.{Listing}
 use Rattle.listing.proofs.list_blocks.Given as goal
 
 abbrev pub invariant-loop-i : goal.invariant-loop-i

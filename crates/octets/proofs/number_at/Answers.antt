@@ -1,8 +1,7 @@
 -- `octets::number_at` meets its contract. The loop's invariant: the number of the bytes from left on. Assumes nothing.
 use native.Mathlib.Omega.{arith}
 use Prim.Native.Nat.{ℕ, ◌^◌, ◌<◌}
-use Rattle.octets.proofs.Reading.{Low, low_none, low_fits, low_next, low_all}
-use borrow.Author.Rules.{rules}
+use Rattle.octets.proofs.Reading.{low_none, low_fits, low_next, low_all}
 use Rattle.octets.proofs.number_at.Goals as goal
 
 -- a byte fits a word

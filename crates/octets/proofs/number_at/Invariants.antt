@@ -1,7 +1,4 @@
-use native.Mathlib.Omega.{arith}
-use Prim.Native.Nat.{ℕ, ◌^◌, ◌<◌}
-use Rattle.octets.proofs.Reading.{Low, low_none, low_fits, low_next, low_all}
-use borrow.Author.Rules.{rules}
+use Rattle.octets.proofs.Reading.{Low}
 use Rattle.octets.proofs.number_at.Given as goal
 
 abbrev pub invariant-loop-left : goal.invariant-loop-left

@@ -1,10 +1,8 @@
 -- `octets::put_number` meets its contract. The loop's invariant: the first i bytes are written. Assumes nothing.
 use Prim.Native.Nat.{◌-◌}
-use Rattle.octets.specs.Octets.{bytes_of}
-use Rattle.word.proofs.Filling.{Fills, fills_none, fills_next, fills_all}
+use Rattle.word.proofs.Filling.{fills_none, fills_next, fills_all}
 use Rattle.octets.proofs.RoundTrip.{length_bytes}
-use Rattle.octets.proofs.Writing.{Rest, rest_none, rest_next}
-use borrow.Author.Rules.{rules}
+use Rattle.octets.proofs.Writing.{rest_none, rest_next}
 use Rattle.octets.proofs.put_number.Goals as goal
 
 pub loop-i-init : goal.loop-i-init

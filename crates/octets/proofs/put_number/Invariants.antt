@@ -1,9 +1,7 @@
 use Prim.Native.Nat.{◌-◌}
 use Rattle.octets.specs.Octets.{bytes_of}
-use Rattle.word.proofs.Filling.{Fills, fills_none, fills_next, fills_all}
-use Rattle.octets.proofs.RoundTrip.{length_bytes}
-use Rattle.octets.proofs.Writing.{Rest, rest_none, rest_next}
-use borrow.Author.Rules.{rules}
+use Rattle.word.proofs.Filling.{Fills}
+use Rattle.octets.proofs.Writing.{Rest}
 use Rattle.octets.proofs.put_number.Given as goal
 
 abbrev pub invariant-loop-i : goal.invariant-loop-i

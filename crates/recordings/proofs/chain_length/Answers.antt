@@ -1,10 +1,8 @@
 -- `recordings::chain_length` meets its contract. The loop's invariant: the walk has passed as many rows as it has counted. Assumes nothing.
-use Prim.Native.Nat.{◌≤◌, ◌-◌}
+use Prim.Native.Nat.{◌-◌}
 use native.Mathlib.Omega.{arith}
-use lib.ListN.{length}
-use Rattle.recordings.specs.Recordings.{row_count, next_of, chain}
-use Rattle.recordings.proofs.Chain.{At, at_start, at_next, at_more, at_zero, at_last, number_inside, some_row}
-use borrow.Author.Rules.{rules}
+use Rattle.recordings.specs.Recordings.{next_of}
+use Rattle.recordings.proofs.Chain.{at_start, at_next, at_more, at_zero, at_last, number_inside, some_row}
 use Rattle.recordings.proofs.chain_length.Goals as goal
 
 pub number_of-row-requires : goal.number_of-row-requires

@@ -1,9 +1,7 @@
 use Prim.Native.Nat.{◌≤◌, ◌-◌}
-use native.Mathlib.Omega.{arith}
 use lib.ListN.{length}
-use Rattle.recordings.specs.Recordings.{row_count, next_of, chain}
-use Rattle.recordings.proofs.Chain.{At, at_start, at_next, at_more, at_zero, at_last, number_inside, some_row}
-use borrow.Author.Rules.{rules}
+use Rattle.recordings.specs.Recordings.{row_count, chain}
+use Rattle.recordings.proofs.Chain.{At}
 use Rattle.recordings.proofs.chain_length.Given as goal
 
 abbrev pub invariant-loop-count : goal.invariant-loop-count

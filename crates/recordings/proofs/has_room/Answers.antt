@@ -1,16 +1,12 @@
 -- `recordings::has_room` meets its contract. The loop's invariant: whether there is room for all stops is whether there is room for those left.
 -- Assumes nothing.
-use mathlib.Core.Path.{◌≡◌, sym, ◌∙◌}
+use mathlib.Core.Path.{sym, ◌∙◌}
 use native.Mathlib.Omega.{arith}
 use borrow.Author.Tests.{lt-leb}
-use lib.Dec.{leb}
 use lib.ListN.{length}
 use Rattle.recordings.specs.Recordings.{all_standing}
-use Rattle.recordings.specs.Walking.{stops, from}
-use Rattle.recordings.proofs.Counting.{above}
 use Rattle.recordings.proofs.Stops.{room_for_all, room_start, room_none, room_short, room_next}
 use Rattle.recordings.proofs.Telling.{least_is}
-use borrow.Author.Rules.{rules}
 use Rattle.recordings.proofs.has_room.Goals as goal
 
 pub returns-then-steps-room : goal.returns-then-steps-room

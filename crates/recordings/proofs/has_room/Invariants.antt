@@ -1,14 +1,9 @@
-use mathlib.Core.Path.{◌≡◌, sym, ◌∙◌}
-use native.Mathlib.Omega.{arith}
-use borrow.Author.Tests.{lt-leb}
+use mathlib.Core.Path.{◌≡◌}
 use lib.Dec.{leb}
 use lib.ListN.{length}
 use Rattle.recordings.specs.Recordings.{all_standing}
 use Rattle.recordings.specs.Walking.{stops, from}
 use Rattle.recordings.proofs.Counting.{above}
-use Rattle.recordings.proofs.Stops.{room_for_all, room_start, room_none, room_short, room_next}
-use Rattle.recordings.proofs.Telling.{least_is}
-use borrow.Author.Rules.{rules}
 use Rattle.recordings.proofs.has_room.Given as goal
 
 abbrev pub invariant-loop-stop : goal.invariant-loop-stop

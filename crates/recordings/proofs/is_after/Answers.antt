@@ -2,7 +2,6 @@
 use mathlib.Core.Path.{sym}
 use lib.Dec.{leb-zero}
 use Rattle.recordings.specs.Walking.{from}
-use borrow.Author.Rules.{rules}
 use Rattle.recordings.proofs.is_after.Goals as goal
 
 pub returns-in-Nothing : goal.returns-in-Nothing

@@ -5,7 +5,6 @@ use native.Mathlib.Nat.{div-add-mod'}
 use Rattle.word.proofs.Tests.{known_true, known_false}
 use lib.ListN.{length}
 use Rattle.recordings.proofs.Loops.{no_rows, uneven, not_zeros, by_nexts}
-use borrow.Author.Rules.{rules}
 use Rattle.recordings.proofs.is_list.Goals as goal
 
 pub returns-then-list-eq0 : goal.returns-then-list-eq0

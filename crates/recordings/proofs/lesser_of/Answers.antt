@@ -2,7 +2,6 @@
 use Rattle.word.proofs.Tests.{known_true, known_false}
 use Rattle.recordings.proofs.Stops.{lesser_below, lesser_only, lesser_new, lesser_old}
 use Rattle.recordings.proofs.Telling.{lesser_tells}
-use borrow.Author.Rules.{rules}
 use Rattle.recordings.proofs.lesser_of.Goals as goal
 
 pub returns-then-not-is_after : goal.returns-then-not-is_after

@@ -1,14 +1,11 @@
 -- `recordings::next_stop` meets its contract. The loop's invariant: what was found is the least stop of the rows passed. Assumes nothing.
-use Prim.Native.Nat.{◌≤◌, ◌<◌, ◌-◌}
+use Prim.Native.Nat.{◌<◌, ◌-◌}
 use native.Mathlib.Omega.{arith}
-use lib.ListN.{length, take}
+use lib.ListN.{length}
 use Rattle.recordings.specs.Recordings.{next_of, stop_of, chain}
-use Rattle.recordings.specs.Walking.{stops, from}
-use Rattle.recordings.proofs.Chain.{At, at_start, at_next, number_inside, some_row}
+use Rattle.recordings.proofs.Chain.{at_start, at_next, number_inside, some_row}
 use Rattle.recordings.proofs.Loops.{least_start, least_step, least_end}
-use Rattle.recordings.proofs.Stops.{LeastOf}
 use Rattle.recordings.proofs.Telling.{lesser_is, least_tells}
-use borrow.Author.Rules.{rules}
 use Rattle.recordings.proofs.next_stop.Goals as goal
 
 pub number_of-row-requires : goal.number_of-row-requires

@@ -1,13 +1,9 @@
-use Prim.Native.Nat.{◌≤◌, ◌<◌, ◌-◌}
-use native.Mathlib.Omega.{arith}
-use lib.ListN.{length, take}
-use Rattle.recordings.specs.Recordings.{next_of, stop_of, chain}
+use Prim.Native.Nat.{◌≤◌, ◌-◌}
+use lib.ListN.{take}
+use Rattle.recordings.specs.Recordings.{chain}
 use Rattle.recordings.specs.Walking.{stops, from}
-use Rattle.recordings.proofs.Chain.{At, at_start, at_next, number_inside, some_row}
-use Rattle.recordings.proofs.Loops.{least_start, least_step, least_end}
+use Rattle.recordings.proofs.Chain.{At}
 use Rattle.recordings.proofs.Stops.{LeastOf}
-use Rattle.recordings.proofs.Telling.{lesser_is, least_tells}
-use borrow.Author.Rules.{rules}
 use Rattle.recordings.proofs.next_stop.Given as goal
 
 abbrev pub invariant-loop-i : goal.invariant-loop-i

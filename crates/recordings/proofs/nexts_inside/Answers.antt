@@ -1,13 +1,10 @@
 -- `recordings::nexts_inside` meets its contract. The loop's invariant: whether every row's next index lies inside is whether that of the rows below
 -- does. Assumes nothing.
-use Prim.Native.Nat.{◌≤◌}
-use mathlib.Core.Path.{◌≡◌, refl, sym, ◌∙◌}
+use mathlib.Core.Path.{refl, sym, ◌∙◌}
 use native.Mathlib.Omega.{arith}
 use native.Mathlib.Nat.{div-mul-le_self}
 use lib.ListN.{length}
-use Rattle.recordings.specs.Recordings.{row_count, nexts_inside}
 use Rattle.recordings.proofs.Loops.{next_outside, next_passed, nexts_none}
-use borrow.Author.Rules.{rules}
 use Rattle.recordings.proofs.nexts_inside.Goals as goal
 
 pub loop-row-init : goal.loop-row-init

@@ -1,6 +1,5 @@
 -- `recordings::note` meets its contract: the heads it makes are as `note_standing` asks, which answers what is asked. Assumes nothing.
 use mathlib.Core.Path.{sym}
-use borrow.Author.Rules.{rules}
 use Rattle.recordings.proofs.note.Goals as goal
 
 pub slice_bounds-note_standing-end : goal.slice_bounds-note_standing-end

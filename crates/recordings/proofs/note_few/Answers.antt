@@ -1,14 +1,12 @@
 -- `recordings::note_few` meets its contract. The loop's invariant: the pairs hold the standing rows of those passed, and these are few.
 -- Assumes nothing.
-use Prim.Native.Nat.{◌+◌, ◌≤◌, ◌-◌}
+use Prim.Native.Nat.{◌+◌, ◌-◌}
 use mathlib.Core.Path.{◌∙◌}
 use native.Mathlib.Omega.{arith}
-use lib.ListN.{length}
-use Rattle.recordings.specs.Recordings.{row_count, next_of, chain}
+use Rattle.recordings.specs.Recordings.{next_of}
 use Rattle.recordings.proofs.Chain.{number_inside, some_row, at_more, at_zero, at_last}
-use Rattle.recordings.proofs.Growing.{Passing, passing_none, passing_next, passing_all, entering, grown_few, noted_count}
+use Rattle.recordings.proofs.Growing.{passing_none, passing_next, passing_all, entering, grown_few, noted_count}
 use Rattle.recordings.proofs.Growing.{noted_itself, so_far_most}
-use borrow.Author.Rules.{rules}
 use Rattle.recordings.proofs.note_few.Goals as goal
 
 pub number_of-row-requires : goal.number_of-row-requires

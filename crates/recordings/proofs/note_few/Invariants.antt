@@ -1,12 +1,7 @@
-use Prim.Native.Nat.{◌+◌, ◌≤◌, ◌-◌}
-use mathlib.Core.Path.{◌∙◌}
-use native.Mathlib.Omega.{arith}
+use Prim.Native.Nat.{◌≤◌, ◌-◌}
 use lib.ListN.{length}
-use Rattle.recordings.specs.Recordings.{row_count, next_of, chain}
-use Rattle.recordings.proofs.Chain.{number_inside, some_row, at_more, at_zero, at_last}
-use Rattle.recordings.proofs.Growing.{Passing, passing_none, passing_next, passing_all, entering, grown_few, noted_count}
-use Rattle.recordings.proofs.Growing.{noted_itself, so_far_most}
-use borrow.Author.Rules.{rules}
+use Rattle.recordings.specs.Recordings.{row_count, chain}
+use Rattle.recordings.proofs.Growing.{Passing}
 use Rattle.recordings.proofs.note_few.Given as goal
 
 abbrev pub invariant-loop-i : goal.invariant-loop-i

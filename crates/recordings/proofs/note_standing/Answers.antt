@@ -1,12 +1,11 @@
 -- `recordings::note_standing` meets its contract. The loop's invariant: the output holds the standing rows of those passed. Assumes nothing.
-use Prim.Native.Nat.{◌+◌, ◌≤◌, ◌<◌, ◌-◌}
+use Prim.Native.Nat.{◌+◌, ◌<◌, ◌-◌}
 use native.Mathlib.Omega.{arith}
 use lib.ListN.{length}
 use Rattle.recordings.specs.Recordings.{next_of, chain}
 use Rattle.recordings.proofs.Chain.{number_inside, some_row}
-use Rattle.recordings.proofs.Growing.{Passing, passing_none, passing_holds, passing_regrown, passing_next, passing_all}
+use Rattle.recordings.proofs.Growing.{passing_none, passing_holds, passing_regrown, passing_next, passing_all}
 use Rattle.recordings.proofs.Growing.{entering, so_far_most}
-use borrow.Author.Rules.{rules}
 use Rattle.recordings.proofs.note_standing.Goals as goal
 
 pub number_of-row-requires : goal.number_of-row-requires

@@ -1,11 +1,5 @@
-use Prim.Native.Nat.{◌+◌, ◌≤◌, ◌<◌, ◌-◌}
-use native.Mathlib.Omega.{arith}
-use lib.ListN.{length}
-use Rattle.recordings.specs.Recordings.{next_of, chain}
-use Rattle.recordings.proofs.Chain.{number_inside, some_row}
-use Rattle.recordings.proofs.Growing.{Passing, passing_none, passing_holds, passing_regrown, passing_next, passing_all}
-use Rattle.recordings.proofs.Growing.{entering, so_far_most}
-use borrow.Author.Rules.{rules}
+use Prim.Native.Nat.{◌≤◌, ◌-◌}
+use Rattle.recordings.proofs.Growing.{Passing}
 use Rattle.recordings.proofs.note_standing.Given as goal
 
 abbrev pub invariant-loop-i : goal.invariant-loop-i

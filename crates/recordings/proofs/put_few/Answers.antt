@@ -1,11 +1,10 @@
 -- `recordings::put_few` meets its contract. The loop's invariant: stops and recordings of the rows passed are put. Assumes nothing.
-use Prim.Native.Nat.{◌≤◌, ◌-◌}
-use mathlib.Core.Path.{◌≡◌, ap, ◌∙◌}
+use Prim.Native.Nat.{◌-◌}
+use mathlib.Core.Path.{ap, ◌∙◌}
 use native.Mathlib.Omega.{arith}
 use lib.ListN.{length}
 use Rattle.recordings.proofs.Growing.{noted_row}
-use Rattle.recordings.proofs.Putting.{partly, fits, puts_none, puts_length, puts_room, puts_number, puts_next, puts_all}
-use borrow.Author.Rules.{rules}
+use Rattle.recordings.proofs.Putting.{fits, puts_none, puts_length, puts_room, puts_number, puts_next, puts_all}
 use Rattle.recordings.proofs.put_few.Goals as goal
 
 pub loop-k-init : goal.loop-k-init

@@ -1,11 +1,10 @@
 -- `recordings::put_recordings` meets its contract. The loop's invariant: stops and recordings of the rows passed are put. Assumes nothing.
-use Prim.Native.Nat.{◌≤◌, ◌-◌}
-use mathlib.Core.Path.{◌≡◌, ap, ◌∙◌}
+use Prim.Native.Nat.{◌-◌}
+use mathlib.Core.Path.{ap, ◌∙◌}
 use native.Mathlib.Omega.{arith}
 use lib.ListN.{length}
-use Rattle.recordings.proofs.Putting.{partly, noted_fits, puts_none, puts_length, puts_room, puts_row, puts_number}
+use Rattle.recordings.proofs.Putting.{noted_fits, puts_none, puts_length, puts_room, puts_row, puts_number}
 use Rattle.recordings.proofs.Putting.{puts_next, puts_all}
-use borrow.Author.Rules.{rules}
 use Rattle.recordings.proofs.put_recordings.Goals as goal
 
 pub loop-k-init : goal.loop-k-init

@@ -1,10 +1,6 @@
 use Prim.Native.Nat.{◌≤◌, ◌-◌}
-use mathlib.Core.Path.{◌≡◌, ap, ◌∙◌}
-use native.Mathlib.Omega.{arith}
-use lib.ListN.{length}
-use Rattle.recordings.proofs.Putting.{partly, noted_fits, puts_none, puts_length, puts_room, puts_row, puts_number}
-use Rattle.recordings.proofs.Putting.{puts_next, puts_all}
-use borrow.Author.Rules.{rules}
+use mathlib.Core.Path.{◌≡◌}
+use Rattle.recordings.proofs.Putting.{partly}
 use Rattle.recordings.proofs.put_recordings.Given as goal
 
 abbrev pub invariant-loop-k : goal.invariant-loop-k

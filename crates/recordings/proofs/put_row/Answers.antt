@@ -1,6 +1,5 @@
 -- `recordings::put_row` meets its contract: the pair put is made of the two numbers read, as the definition has it. Assumes nothing.
 use native.Mathlib.Omega.{arith}
-use borrow.Author.Rules.{rules}
 use Rattle.recordings.proofs.put_row.Goals as goal
 
 pub number_of-requires : goal.number_of-requires

@@ -10,7 +10,6 @@ use Rattle.recordings.specs.Recordings.{all_standing}
 use Rattle.recordings.proofs.Calls.{output_short, all_written_lem}
 use Rattle.recordings.proofs.Growing.{noted_count}
 use Rattle.recordings.proofs.Telling.{few_tells, many_tells}
-use borrow.Author.Rules.{rules}
 use Rattle.recordings.proofs.write_few.Goals as goal
 
 pub slice_bounds-note_few-end : goal.slice_bounds-note_few-end

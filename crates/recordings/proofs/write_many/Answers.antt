@@ -8,7 +8,6 @@ use Rattle.recordings.specs.Walking.{all_written}
 use Rattle.recordings.proofs.Chain.{chain_most}
 use Rattle.recordings.proofs.Calls.{row_twice, output_short, pairs_fit, all_written_lem}
 use Rattle.recordings.proofs.Growing.{noted_itself, noted_count}
-use borrow.Author.Rules.{rules}
 use Rattle.recordings.proofs.write_many.Goals as goal
 
 pub chain_length-steps-requires : goal.chain_length-steps-requires

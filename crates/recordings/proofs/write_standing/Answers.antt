@@ -3,7 +3,6 @@ use mathlib.Core.Path.{sym}
 use Rattle.word.proofs.Tests.{known_true, known_false}
 use Rattle.recordings.proofs.Calls.{bad_list}
 use Rattle.recordings.proofs.Telling.{few_answered, many_left}
-use borrow.Author.Rules.{rules}
 use Rattle.recordings.proofs.write_standing.Goals as goal
 
 pub returns-then-not-is_list : goal.returns-then-not-is_list

@@ -1,7 +1,6 @@
 -- `recordings::zeros_after` meets its contract, number by number. Assumes nothing.
 use mathlib.Core.Path.{refl}
 use Rattle.recordings.specs.Recordings.{stop_of, day_of, recording_of}
-use borrow.Author.Rules.{rules}
 use Rattle.recordings.proofs.zeros_after.Goals as goal
 
 pub returns : goal.returns

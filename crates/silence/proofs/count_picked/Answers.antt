@@ -1,10 +1,7 @@
 -- `silence::count_picked` meets its contract. The loop's invariant: the stops counted and those that are left are all. Assumes nothing.
 use Prim.Native.Nat.{◌-◌}
 use native.Mathlib.Omega.{arith}
-use lib.ListN.{length}
-use Rattle.silence.specs.Silence.{test_of}
-use Rattle.silence.proofs.Picking.{Counted, counted_start, left_by, counted_next, counted_all}
-use borrow.Author.Rules.{rules}
+use Rattle.silence.proofs.Picking.{counted_start, left_by, counted_next, counted_all}
 use Rattle.silence.proofs.count_picked.Goals as goal
 
 pub loop-i-init : goal.loop-i-init

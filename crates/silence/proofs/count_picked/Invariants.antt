@@ -1,9 +1,7 @@
 use Prim.Native.Nat.{◌-◌}
-use native.Mathlib.Omega.{arith}
 use lib.ListN.{length}
 use Rattle.silence.specs.Silence.{test_of}
-use Rattle.silence.proofs.Picking.{Counted, counted_start, left_by, counted_next, counted_all}
-use borrow.Author.Rules.{rules}
+use Rattle.silence.proofs.Picking.{Counted}
 use Rattle.silence.proofs.count_picked.Given as goal
 
 abbrev pub invariant-loop-i : goal.invariant-loop-i

@@ -1,5 +1,4 @@
 -- `silence::counted` meets its contract. Each branch is one case of what is asked. Assumes nothing.
-use borrow.Author.Rules.{rules}
 use Rattle.silence.proofs.counted.Goals as goal
 
 pub returns-then-is : goal.returns-then-is

@@ -1,11 +1,8 @@
 -- `silence::has_recording` meets its contract. The loop's invariant: the pairs that are left decide. Assumes nothing.
-use Prim.Native.Nat.{◌*◌, ◌-◌, ◌/◌}
-use mathlib.Core.Path.{◌≡◌, refl, sym, ◌∙◌}
+use Prim.Native.Nat.{◌-◌}
+use mathlib.Core.Path.{refl, sym, ◌∙◌}
 use native.Mathlib.Omega.{arith}
-use lib.ListN.{length, drop}
-use Rattle.silence.specs.Silence.{has_recording}
 use Rattle.silence.proofs.Looking.{recording_found, recording_passed, recording_done}
-use borrow.Author.Rules.{rules}
 use Rattle.silence.proofs.has_recording.Goals as goal
 
 pub loop-k-init : goal.loop-k-init

@@ -1,10 +1,7 @@
 use Prim.Native.Nat.{◌*◌, ◌-◌, ◌/◌}
-use mathlib.Core.Path.{◌≡◌, refl, sym, ◌∙◌}
-use native.Mathlib.Omega.{arith}
+use mathlib.Core.Path.{◌≡◌}
 use lib.ListN.{length, drop}
 use Rattle.silence.specs.Silence.{has_recording}
-use Rattle.silence.proofs.Looking.{recording_found, recording_passed, recording_done}
-use borrow.Author.Rules.{rules}
 use Rattle.silence.proofs.has_recording.Given as goal
 
 abbrev pub invariant-loop-k : goal.invariant-loop-k

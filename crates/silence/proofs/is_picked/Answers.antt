@@ -2,7 +2,6 @@
 use mathlib.Core.Bool.{not}
 use mathlib.Core.Path.{ap}
 use Rattle.silence.specs.Silence.{test_of}
-use borrow.Author.Rules.{rules}
 use Rattle.silence.proofs.is_picked.Goals as goal
 
 pub returns-in-Silent : goal.returns-in-Silent

@@ -9,7 +9,6 @@ use lib.Seq.{length-take-le}
 use Rattle.recordings.specs.Recordings.{member}
 use Rattle.silence.specs.Silence.{test_of}
 use Rattle.silence.proofs.Looking.{part_rest}
-use borrow.Author.Rules.{rules}
 use Rattle.silence.proofs.is_repeated.Goals as goal
 
 pub returns-then-not-stands : goal.returns-then-not-stands

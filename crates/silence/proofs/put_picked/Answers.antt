@@ -1,11 +1,8 @@
 -- `silence::put_picked` meets its contract. The loop's invariant: the stops picked so far stand at the start of the output. Assumes nothing.
 use Prim.Native.Nat.{◌-◌}
 use native.Mathlib.Omega.{arith}
-use lib.ListN.{length}
-use Rattle.silence.specs.Silence.{test_of}
-use Rattle.silence.proofs.Picking.{Counted, counted_start, left_by, counted_next}
-use Rattle.silence.proofs.Putting.{put_start, Putting, putting_room, putting_next, putting_done}
-use borrow.Author.Rules.{rules}
+use Rattle.silence.proofs.Picking.{counted_start, left_by, counted_next}
+use Rattle.silence.proofs.Putting.{put_start, putting_room, putting_next, putting_done}
 use Rattle.silence.proofs.put_picked.Goals as goal
 
 pub loop-i-init : goal.loop-i-init

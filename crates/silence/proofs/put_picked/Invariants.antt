@@ -1,10 +1,8 @@
 use Prim.Native.Nat.{◌-◌}
-use native.Mathlib.Omega.{arith}
 use lib.ListN.{length}
 use Rattle.silence.specs.Silence.{test_of}
-use Rattle.silence.proofs.Picking.{Counted, counted_start, left_by, counted_next}
-use Rattle.silence.proofs.Putting.{put_start, Putting, putting_room, putting_next, putting_done}
-use borrow.Author.Rules.{rules}
+use Rattle.silence.proofs.Picking.{Counted}
+use Rattle.silence.proofs.Putting.{Putting}
 use Rattle.silence.proofs.put_picked.Given as goal
 
 abbrev pub invariant-loop-i : goal.invariant-loop-i

@@ -1,11 +1,8 @@
 -- `silence::stands` meets its contract. The loop's invariant: what is left of the list decides. Assumes nothing.
 use Prim.Native.Nat.{◌-◌}
-use mathlib.Core.Path.{◌≡◌, refl, sym, ◌∙◌}
+use mathlib.Core.Path.{refl, sym, ◌∙◌}
 use native.Mathlib.Omega.{arith}
-use lib.ListN.{length, drop}
-use Rattle.recordings.specs.Recordings.{member}
 use Rattle.silence.proofs.Looking.{member_found, member_passed, member_done}
-use borrow.Author.Rules.{rules}
 use Rattle.silence.proofs.stands.Goals as goal
 
 pub loop-i-init : goal.loop-i-init

@@ -1,10 +1,7 @@
 use Prim.Native.Nat.{◌-◌}
-use mathlib.Core.Path.{◌≡◌, refl, sym, ◌∙◌}
-use native.Mathlib.Omega.{arith}
+use mathlib.Core.Path.{◌≡◌}
 use lib.ListN.{length, drop}
 use Rattle.recordings.specs.Recordings.{member}
-use Rattle.silence.proofs.Looking.{member_found, member_passed, member_done}
-use borrow.Author.Rules.{rules}
 use Rattle.silence.proofs.stands.Given as goal
 
 abbrev pub invariant-loop-i : goal.invariant-loop-i

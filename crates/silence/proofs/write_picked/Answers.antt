@@ -1,7 +1,6 @@
 -- `silence::write_picked` meets its contract: by the room for what is counted. Assumes nothing.
 use native.Mathlib.Omega.{arith}
 use Rattle.silence.proofs.Calls.{tells_short, tells_all}
-use borrow.Author.Rules.{rules}
 use Rattle.silence.proofs.write_picked.Goals as goal
 
 pub returns-then-output-count : goal.returns-then-output-count

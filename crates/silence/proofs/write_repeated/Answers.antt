@@ -1,6 +1,5 @@
 -- `silence::write_repeated` meets its contract: pairs have no bearing on it. Assumes nothing.
 use Rattle.silence.specs.Silence.{test_of}
-use borrow.Author.Rules.{rules}
 use Rattle.silence.proofs.write_repeated.Goals as goal
 
 pub returns : goal.returns

@@ -1,5 +1,4 @@
 -- `silence::write_silent` meets its contract: what `write_picked` answers of silent stops is what is asked. Assumes nothing.
-use borrow.Author.Rules.{rules}
 use Rattle.silence.proofs.write_silent.Goals as goal
 
 pub returns : goal.returns

@@ -1,5 +1,5 @@
 -- `buddy::extension::extend_map` meets its contract: free blocks of the largest size in the bytes past the words. Assumes nothing.
-use Rattle.std.proofs.Common.{arith, rules}
+use Rattle.std.proofs.Common.{arith}
 use Rattle.block.proofs.Size.{size_pos, top_le}
 use Rattle.block.proofs.Extension.{extending_facts}
 use Rattle.buddy.proofs.Added.{words_room, count_room, part_zeros, added_map}

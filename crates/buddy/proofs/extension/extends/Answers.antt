@@ -1,5 +1,5 @@
 -- `buddy::extension::extends` meets its contract: each return by the tests made before it. Assumes nothing.
-use Rattle.std.proofs.Common.{◌+◌, ◌-◌, arith, rules}
+use Rattle.std.proofs.Common.{◌+◌, ◌-◌, arith}
 use borrow.Author.Tests.{not-true, not-false}
 use Rattle.buddy.proofs.Added.{not_later, later_order, later_judged}
 use Rattle.buddy.proofs.extension.extends.Goals as goal

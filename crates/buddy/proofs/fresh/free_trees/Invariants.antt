@@ -1,7 +1,6 @@
-use Rattle.std.proofs.Common.{◌≡◌, ◌-◌, ◌*◌, ◌≤◌, length, refl, ◌∙◌, zero-mul, arith, length-set, rules}
+use Rattle.std.proofs.Common.{◌≡◌, ◌-◌, ◌*◌, ◌≤◌, length}
 use Rattle.block.specs.Blocks.{size}
-use Rattle.block.proofs.Size.{size_pos}
-use Rattle.buddy.proofs.FreeTrees.{free_trees, trees_room, trees_next, trees_none, trees_more}
+use Rattle.buddy.proofs.FreeTrees.{free_trees}
 use Rattle.buddy.proofs.fresh.free_trees.Given as goal
 
 abbrev pub invariant-loop-done : goal.invariant-loop-done

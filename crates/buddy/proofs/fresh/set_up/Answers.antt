@@ -1,5 +1,5 @@
 -- `buddy::fresh::set_up` meets its contract: zeros, and then free blocks of the largest size. Assumes nothing.
-use Rattle.std.proofs.Common.{arith, rules}
+use Rattle.std.proofs.Common.{arith}
 use Rattle.block.proofs.Size.{size_pos}
 use Rattle.block.proofs.Size.{top_le}
 use Rattle.buddy.proofs.Count.{count_fill}

@@ -1,7 +1,7 @@
 -- `buddy::fresh::zero_all` meets its contract. The loop's invariant: the first i bytes are zero. Assumes nothing.
-use Rattle.std.proofs.Common.{◌-◌, length, replicate, sym, refl, arith, rules}
+use Rattle.std.proofs.Common.{◌-◌, length, sym, refl, arith}
 use lib.ListN.{length-replicate, get_or-replicate}
-use Rattle.word.proofs.Filling.{Fills, fills_none, whole_next, whole_all}
+use Rattle.word.proofs.Filling.{fills_none, whole_next, whole_all}
 use Rattle.buddy.proofs.fresh.zero_all.Goals as goal
 
 pub loop-i-init : goal.loop-i-init

@@ -1,6 +1,5 @@
-use Rattle.std.proofs.Common.{◌-◌, length, replicate, sym, refl, arith, rules}
-use lib.ListN.{length-replicate, get_or-replicate}
-use Rattle.word.proofs.Filling.{Fills, fills_none, whole_next, whole_all}
+use Rattle.std.proofs.Common.{◌-◌, length, replicate}
+use Rattle.word.proofs.Filling.{Fills}
 use Rattle.buddy.proofs.fresh.zero_all.Given as goal
 
 abbrev pub invariant-loop-i : goal.invariant-loop-i

@@ -1,10 +1,5 @@
-use Rattle.std.proofs.Common.{◌≡◌, ℕ, ◌+◌, ◌-◌, ◌*◌, ◌≤◌, length, take, drop, sym, ap, ◌∙◌, arith}
-use Rattle.block.specs.Blocks.{size}
-use Rattle.block.proofs.Size.{size_pos}
+use Rattle.std.proofs.Common.{◌-◌, ◌≤◌, length}
 use Rattle.buddy.specs.Marks.{Passing}
-use Rattle.buddy.proofs.Halves.{part_length}
-use Rattle.buddy.proofs.Parts.{count_small}
-use Rattle.buddy.proofs.Passing.{room_left, pass_on, pass_broken, pass_more, pass_end}
 use Rattle.buddy.proofs.section.all_blocks.Given as goal
 
 abbrev pub invariant-loop-whole : goal.invariant-loop-whole

@@ -1,5 +1,5 @@
 -- `deliver` splits the free block that the lowest run starts. Assumes nothing.
-use Rattle.std.proofs.Common.{◌-◌, ◌/◌, get_or, ◌∙◌, arith, rules}
+use Rattle.std.proofs.Common.{◌-◌, ◌/◌, get_or, ◌∙◌, arith}
 use Rattle.block.specs.SetUp.{top}
 use Rattle.block.specs.Map.{delivered_map}
 use Rattle.block.proofs.Size.{top_le}

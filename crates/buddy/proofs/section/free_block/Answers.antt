@@ -1,5 +1,5 @@
 -- `free_block` frees in the tree around an address, upward from the block's own byte. Assumes nothing.
-use Rattle.std.proofs.Common.{◌-◌, div-add-mod', arith, rules}
+use Rattle.std.proofs.Common.{◌-◌, div-add-mod', arith}
 use Rattle.block.proofs.Size.{size_pos, top_le}
 use Rattle.buddy.proofs.Address.{Freeing, freeing}
 use Rattle.buddy.proofs.section.free_block.Goals as goal

@@ -1,5 +1,5 @@
 -- `live_size` looks at one byte of the map. Assumes nothing.
-use Rattle.std.proofs.Common.{◌∙◌, rules}
+use Rattle.std.proofs.Common.{◌∙◌}
 use Rattle.buddy.proofs.Address.{live_start_lem}
 use Rattle.buddy.proofs.section.live_size.Goals as goal
 

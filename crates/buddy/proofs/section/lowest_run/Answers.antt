@@ -1,12 +1,12 @@
 -- `lowest_run` scans the map from block to block. The loop's invariant: the first of the aligned runs is among the words that are left, and
 -- no smaller block stands first there. The measure is how many are left. Assumes nothing.
-use Rattle.std.proofs.Common.{◌≡◌, ℕ, ◌+◌, ◌-◌, ◌/◌, ◌<◌, ◌≤◌, length, get_or, arith, rules}
+use Rattle.std.proofs.Common.{◌≡◌, ℕ, ◌+◌, ◌-◌, ◌/◌, ◌<◌, ◌≤◌, length, get_or, arith}
 use Rattle.block.specs.Blocks.{size}
 use Rattle.block.specs.SetUp.{words, runs}
 use Rattle.block.specs.Map.{live, free_tag}
 use Rattle.block.proofs.Size.{size_pos, size_small, top_le, words_le}
 use Rattle.block.proofs.Map.{keeps_words}
-use Rattle.buddy.specs.Lowest.{first_of, Passed}
+use Rattle.buddy.specs.Lowest.{first_of}
 use Rattle.buddy.proofs.Answers.{first_told_lem}
 use Rattle.buddy.proofs.Scan.{Scanned, meets_free, meets_live, passed_scanned, passed_on, scan_starts, scan_ends}
 use Rattle.buddy.proofs.section.lowest_run.Goals as goal

@@ -1,12 +1,9 @@
-use Rattle.std.proofs.Common.{◌≡◌, ℕ, ◌+◌, ◌-◌, ◌/◌, ◌<◌, ◌≤◌, length, get_or, arith, rules}
+use Rattle.std.proofs.Common.{◌-◌, ◌<◌, ◌≤◌, get_or}
 use Rattle.block.specs.Blocks.{size}
 use Rattle.block.specs.SetUp.{words, runs}
-use Rattle.block.specs.Map.{live, free_tag}
-use Rattle.block.proofs.Size.{size_pos, size_small, top_le, words_le}
-use Rattle.block.proofs.Map.{keeps_words}
-use Rattle.buddy.specs.Lowest.{first_of, Passed}
-use Rattle.buddy.proofs.Answers.{first_told_lem}
-use Rattle.buddy.proofs.Scan.{Scanned, meets_free, meets_live, passed_scanned, passed_on, scan_starts, scan_ends}
+use Rattle.block.specs.Map.{live}
+use Rattle.buddy.specs.Lowest.{first_of}
+use Rattle.buddy.proofs.Scan.{Scanned}
 use Rattle.buddy.proofs.section.lowest_run.Given as goal
 
 abbrev pub invariant-loop-i : goal.invariant-loop-i

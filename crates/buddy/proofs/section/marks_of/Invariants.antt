@@ -1,8 +1,5 @@
-use Rattle.std.proofs.Common.{◌≡◌, ◌+◌, ◌-◌, ◌≤◌, length, take, drop, refl, ap, arith, length-drop}
-use lib.Seq.{take-length}
+use Rattle.std.proofs.Common.{◌≡◌, ◌-◌, ◌≤◌, length, take}
 use Rattle.buddy.specs.Marks.{marks}
-use Rattle.buddy.proofs.Marks.{marks_part, marks_most}
-use Rattle.buddy.proofs.Halves.{part_length, upper}
 use Rattle.buddy.proofs.section.marks_of.Given as goal
 
 abbrev pub invariant-loop-i : goal.invariant-loop-i

@@ -1,5 +1,5 @@
 -- `off_tag` leaves less than 2 of a tag. Assumes nothing.
-use Rattle.std.proofs.Common.{arith, rules}
+use Rattle.std.proofs.Common.{arith}
 use Rattle.buddy.proofs.Whole.{near_tag}
 use Rattle.buddy.proofs.section.off_tag.Goals as goal
 

@@ -1,6 +1,6 @@
 -- `part_marks` counts the bytes of a part that are not zero. The loop's invariant: the count is that of the bytes passed, at most one for
 -- each. Assumes nothing.
-use Rattle.std.proofs.Common.{◌≡◌, ◌-◌, ◌≤◌, length, get_or, take, refl, ap, ◌∙◌, arith, take_all, rules}
+use Rattle.std.proofs.Common.{◌-◌, get_or, refl, ap, ◌∙◌, arith, take_all}
 use Rattle.buddy.specs.Marks.{marks}
 use Rattle.buddy.proofs.Marks.{marks_next, mark_most}
 use Rattle.buddy.proofs.section.part_marks.Goals as goal

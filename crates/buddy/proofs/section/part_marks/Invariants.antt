@@ -1,6 +1,5 @@
-use Rattle.std.proofs.Common.{◌≡◌, ◌-◌, ◌≤◌, length, get_or, take, refl, ap, ◌∙◌, arith, take_all, rules}
+use Rattle.std.proofs.Common.{◌≡◌, ◌-◌, ◌≤◌, length, take}
 use Rattle.buddy.specs.Marks.{marks}
-use Rattle.buddy.proofs.Marks.{marks_next, mark_most}
 use Rattle.buddy.proofs.section.part_marks.Given as goal
 
 abbrev pub invariant-loop-i : goal.invariant-loop-i

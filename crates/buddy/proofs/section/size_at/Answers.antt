@@ -1,5 +1,5 @@
 -- `size_at` looks at one byte of the map; past its end there is none. Assumes nothing.
-use Rattle.std.proofs.Common.{◌∙◌, rules, le-ltb, lt-ltb}
+use Rattle.std.proofs.Common.{◌∙◌, le-ltb, lt-ltb}
 use lib.ListN.{get_or-eq_default}
 use Rattle.buddy.specs.Tag.{tag_size, start_size}
 use Rattle.buddy.proofs.section.size_at.Goals as goal

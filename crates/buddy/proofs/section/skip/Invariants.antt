@@ -1,5 +1,5 @@
-use Rattle.std.proofs.Common.{◌-◌, arith}
-use Rattle.buddy.specs.Lowest.{Passed, here, more}
+use Rattle.std.proofs.Common.{◌-◌}
+use Rattle.buddy.specs.Lowest.{Passed}
 use Rattle.buddy.proofs.section.skip.Given as goal
 
 abbrev pub invariant-loop-i : goal.invariant-loop-i

@@ -1,5 +1,5 @@
 -- `tag_size` gives the size of the live block of which a byte is the tag. Assumes nothing.
-use Rattle.std.proofs.Common.{◌∙◌, rules, le-ltb, lt-ltb, eq-eqb, ne_eqb}
+use Rattle.std.proofs.Common.{◌∙◌, le-ltb, lt-ltb, eq-eqb, ne_eqb}
 use Rattle.buddy.specs.Tag.{tag_size}
 use Rattle.buddy.proofs.section.tag_size.Goals as goal
 

@@ -1,9 +1,6 @@
-use Rattle.std.proofs.Common.{◌≡◌, ℕ, ◌-◌, ◌%◌, ◌^◌, ◌<◌, ◌≤◌, sym, ap, ◌∙◌, mod-eq_of_lt, one-mul, arith, rules, ltb-true}
-use lib.Pow.{pow-lt}
+use Rattle.std.proofs.Common.{◌≡◌, ◌-◌, ◌<◌, ◌≤◌}
 use Rattle.block.specs.Blocks.{size}
-use Rattle.block.proofs.Size.{size_pow, size_pos}
 use Rattle.buddy.specs.Marks.{TagsAt}
-use Rattle.buddy.proofs.Whole.{tags_next}
 use Rattle.buddy.proofs.section.whole_part.Given as goal
 
 abbrev pub invariant-loop-i : goal.invariant-loop-i

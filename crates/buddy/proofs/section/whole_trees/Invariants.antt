@@ -1,7 +1,5 @@
-use Rattle.std.proofs.Common.{◌+◌, ◌-◌, ◌*◌, ◌≤◌, mul-le-mul_left, arith, rules}
-use Rattle.block.proofs.Size.{size_pos, size_small}
+use Rattle.std.proofs.Common.{◌+◌, ◌-◌, ◌≤◌}
 use Rattle.buddy.specs.Marks.{PassedOver}
-use Rattle.buddy.proofs.Passing.{pass_none, pass_blocks}
 use Rattle.buddy.proofs.section.whole_trees.Given as goal
 
 abbrev pub invariant-loop-i : goal.invariant-loop-i

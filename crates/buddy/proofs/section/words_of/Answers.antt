@@ -1,5 +1,5 @@
 -- `words_of` counts the set-up words. Assumes nothing.
-use Rattle.std.proofs.Common.{sym, arith, rules}
+use Rattle.std.proofs.Common.{sym, arith}
 use Rattle.block.proofs.Size.{words_set, words_none}
 use Rattle.buddy.proofs.section.words_of.Goals as goal
 

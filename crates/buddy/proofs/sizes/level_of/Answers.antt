@@ -1,5 +1,5 @@
 -- `level_of` gives the level of n up to k. Assumes nothing.
-use Rattle.std.proofs.Common.{◌-◌, sym, arith, rules}
+use Rattle.std.proofs.Common.{◌-◌, sym, arith}
 use lib.Count.{leading_le}
 use Rattle.buddy.proofs.Level.{level_none, level_below, level_above}
 use Rattle.buddy.proofs.sizes.level_of.Goals as goal

@@ -1,5 +1,5 @@
 -- `size_of` gives the k-th size: a one shifted by k places. Assumes nothing.
-use Rattle.std.proofs.Common.{ℕ, ◌%◌, ◌^◌, sym, ap, ◌∙◌, mod-eq_of_lt, one-mul, arith, rules}
+use Rattle.std.proofs.Common.{ℕ, ◌%◌, ◌^◌, sym, ap, ◌∙◌, mod-eq_of_lt, one-mul, arith}
 use lib.Pow.{pow-lt}
 use Rattle.block.proofs.Size.{size_pow}
 use Rattle.buddy.proofs.sizes.size_of.Goals as goal

@@ -1,6 +1,5 @@
 -- `top_of` gives the place of the largest size. Assumes nothing.
 use Rattle.block.specs.SetUp.{top}
-use Rattle.std.proofs.Common.{rules}
 use Rattle.buddy.proofs.sizes.top_of.Goals as goal
 
 pub returns : goal.returns

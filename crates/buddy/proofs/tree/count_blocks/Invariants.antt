@@ -1,8 +1,6 @@
-use Rattle.std.proofs.Common.{◌-◌, ◌≤◌, length, sym, arith}
-use Rattle.word.proofs.Tests.{known_true, known_false}
-use Rattle.buddy.specs.Marks.{tag_level, counted}
-use Rattle.block.proofs.Size.{size_small}
-use Rattle.buddy.proofs.Adding.{Adds, adds_all, adds_end, adds_stop, adds_pass, Tagged, tagged}
+use Rattle.std.proofs.Common.{◌-◌, ◌≤◌, length}
+use Rattle.buddy.specs.Marks.{counted}
+use Rattle.buddy.proofs.Adding.{Adds}
 use Rattle.buddy.proofs.tree.count_blocks.Given as goal
 
 abbrev pub invariant-loop-i : goal.invariant-loop-i

@@ -1,9 +1,9 @@
 -- `free_up` frees a block upward. The loop's invariant: the bytes lack just the tag of a free block at the place, and rejoined upward they
 -- are what they would have been at first. The measure is how many levels are left. Assumes nothing.
-use Rattle.std.proofs.Common.{◌≡◌, ℕ, ◌+◌, ◌-◌, ◌<◌, ◌≤◌, List, length, get_or, set, sym, ap, ◌∙◌, arith, length-set}
+use Rattle.std.proofs.Common.{◌≡◌, ℕ, ◌+◌, ◌-◌, ◌<◌, ◌≤◌, get_or, set, sym, ap, ◌∙◌, arith, length-set}
 use Rattle.block.specs.Blocks.{size}
 use Rattle.block.specs.Map.{free_tag}
-use Rattle.buddy.specs.Upward.{other_place, Rises, Rising}
+use Rattle.buddy.specs.Upward.{other_place}
 use Rattle.block.proofs.Size.{size_pos, size_small}
 use Rattle.buddy.proofs.Upward.{rise_low, rise_inside, rise_pair, rise_widens, rise_ends, both_hold, not_both}
 use Rattle.buddy.proofs.tree.free_up.Goals as goal

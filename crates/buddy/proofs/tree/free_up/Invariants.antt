@@ -1,9 +1,6 @@
-use Rattle.std.proofs.Common.{◌≡◌, ℕ, ◌+◌, ◌-◌, ◌<◌, ◌≤◌, List, length, get_or, set, sym, ap, ◌∙◌, arith, length-set}
+use Rattle.std.proofs.Common.{◌≡◌, ℕ, ◌-◌, List, length}
 use Rattle.block.specs.Blocks.{size}
-use Rattle.block.specs.Map.{free_tag}
-use Rattle.buddy.specs.Upward.{other_place, Rises, Rising}
-use Rattle.block.proofs.Size.{size_pos, size_small}
-use Rattle.buddy.proofs.Upward.{rise_low, rise_inside, rise_pair, rise_widens, rise_ends, both_hold, not_both}
+use Rattle.buddy.specs.Upward.{Rises, Rising}
 use Rattle.buddy.proofs.tree.free_up.Given as goal
 
 abbrev pub invariant-loop-n : goal.invariant-loop-n

@@ -1,5 +1,5 @@
 -- `is_rest` tests the kind of the block, its place and the byte of the low half. Assumes nothing.
-use Rattle.std.proofs.Common.{◌/◌, ◌%◌, arith, rules, eq-eqb, ne_eqb}
+use Rattle.std.proofs.Common.{◌/◌, ◌%◌, arith, eq-eqb, ne_eqb}
 use Rattle.buddy.specs.Marks.{is_rest}
 use Rattle.buddy.proofs.Adding.{odd_past}
 use Rattle.buddy.proofs.tree.is_rest.Goals as goal

@@ -1,5 +1,4 @@
 -- `is_tag` tells the two tags of a size. Assumes nothing.
-use Rattle.std.proofs.Common.{rules}
 use Rattle.buddy.specs.Marks.{is_tag}
 use Rattle.buddy.proofs.tree.is_tag.Goals as goal
 

@@ -1,7 +1,7 @@
 -- `zero_from` tests that every byte from a place on is zero. The loop's invariant: they are if what those passed are joined to is zero, and
 -- those from i on are. Assumes nothing.
-use Rattle.std.proofs.Common.{◌≡◌, ◌-◌, ◌≤◌, ◌&&◌, eqb, length, sym, refl, ◌∙◌, arith}
-use Rattle.buddy.proofs.Zeros.{zero_from, zero_next, zero_end}
+use Rattle.std.proofs.Common.{◌-◌, sym, refl, ◌∙◌, arith}
+use Rattle.buddy.proofs.Zeros.{zero_next, zero_end}
 use Rattle.buddy.proofs.tree.zero_from.Goals as goal
 
 pub loop-i-init : goal.loop-i-init

@@ -1,5 +1,5 @@
-use Rattle.std.proofs.Common.{◌≡◌, ◌-◌, ◌≤◌, ◌&&◌, eqb, length, sym, refl, ◌∙◌, arith}
-use Rattle.buddy.proofs.Zeros.{zero_from, zero_next, zero_end}
+use Rattle.std.proofs.Common.{◌≡◌, ◌-◌, ◌≤◌, ◌&&◌, eqb, length}
+use Rattle.buddy.proofs.Zeros.{zero_from}
 use Rattle.buddy.proofs.tree.zero_from.Given as goal
 
 abbrev pub invariant-loop-i : goal.invariant-loop-i

@@ -3,11 +3,10 @@ use mathlib.Core.Path.{◌≡◌, sym, ◌∙◌}
 use Prim.Native.Nat.{◌-◌}
 use native.Mathlib.Omega.{arith}
 use lib.ListN.{length}
-use borrow.Author.Rules.{rules}
 use borrow.Author.Tests.{eq-eqb, ne_eqb}
-use Rattle.character.specs.Triples.{triples, filled, answered}
+use Rattle.character.specs.Triples.{filled, answered}
 use Rattle.character.proofs.Entries.{length_triples, triples_at, thousand_made}
-use Rattle.word.proofs.Filling.{Fills, fills_none, whole_next, whole_all}
+use Rattle.word.proofs.Filling.{fills_none, whole_next, whole_all}
 use Rattle.character.proofs.triples.fill.Goals as goal
 
 pub returns-then-buffer-ne-COUNT : goal.returns-then-buffer-ne-COUNT

@@ -1,12 +1,7 @@
-use mathlib.Core.Path.{◌≡◌, sym, ◌∙◌}
 use Prim.Native.Nat.{◌-◌}
-use native.Mathlib.Omega.{arith}
 use lib.ListN.{length}
-use borrow.Author.Rules.{rules}
-use borrow.Author.Tests.{eq-eqb, ne_eqb}
-use Rattle.character.specs.Triples.{triples, filled, answered}
-use Rattle.character.proofs.Entries.{length_triples, triples_at, thousand_made}
-use Rattle.word.proofs.Filling.{Fills, fills_none, whole_next, whole_all}
+use Rattle.character.specs.Triples.{triples}
+use Rattle.word.proofs.Filling.{Fills}
 use Rattle.character.proofs.triples.fill.Given as goal
 
 abbrev pub invariant-loop-made : goal.invariant-loop-made

@@ -3,8 +3,7 @@ use native.Mathlib.Omega.{arith}
 use Prim.Native.Nat.{◌-◌}
 use lib.ListN.{length-replicate}
 use Rattle.layout.specs.Layout.{place_of}
-use Rattle.layout.proofs.Records.{Reads, reads_none, reads_next, reads_all}
-use borrow.Author.Rules.{rules}
+use Rattle.layout.proofs.Records.{reads_none, reads_next, reads_all}
 use Rattle.layout.proofs.reading.calls_at.Goals as goal
 
 pub loop-i-init : goal.loop-i-init

@@ -1,7 +1,6 @@
 -- `layout::reading::core_at` meets its contract: its parts, each read as the definition has it, make the core (`core_read`).
 -- Assumes nothing.
 use Rattle.layout.proofs.Told.{core_read}
-use borrow.Author.Rules.{rules}
 use Rattle.layout.proofs.reading.core_at.Goals as goal
 
 pub returns : goal.returns

@@ -1,8 +1,6 @@
 use Prim.Native.Nat.{◌-◌}
-use lib.ListN.{length-replicate}
 use Rattle.layout.specs.Layout.{definition_of}
-use Rattle.layout.proofs.Records.{Reads, reads_none, reads_next, reads_all}
-use borrow.Author.Rules.{rules}
+use Rattle.layout.proofs.Records.{Reads}
 use Rattle.layout.proofs.reading.current_at.Given as goal
 
 abbrev pub invariant-loop-i : goal.invariant-loop-i

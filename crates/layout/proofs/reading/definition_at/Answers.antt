@@ -1,7 +1,6 @@
 -- `layout::reading::definition_at` meets its contract: four bytes one after the other are those of the definition's part of the bytes
 -- (`definition_read`). Assumes nothing.
 use Rattle.layout.proofs.Told.{definition_read}
-use borrow.Author.Rules.{rules}
 use Rattle.layout.proofs.reading.definition_at.Goals as goal
 
 pub returns : goal.returns

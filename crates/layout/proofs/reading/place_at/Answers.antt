@@ -1,7 +1,6 @@
 -- `layout::reading::place_at` meets its contract: a byte and two numbers of two bytes are those of the place's part of the bytes
 -- (`place_read`). Assumes nothing.
 use Rattle.layout.proofs.Told.{place_read}
-use borrow.Author.Rules.{rules}
 use Rattle.layout.proofs.reading.place_at.Goals as goal
 
 pub returns : goal.returns

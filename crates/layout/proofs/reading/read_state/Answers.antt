@@ -1,7 +1,6 @@
 -- `layout::reading::read_state` meets its contract: width, core and map, each read as the definition has it, make the state (`state_read`).
 -- Assumes nothing.
 use Rattle.layout.proofs.Told.{state_read}
-use borrow.Author.Rules.{rules}
 use Rattle.layout.proofs.reading.read_state.Goals as goal
 
 pub returns : goal.returns

@@ -2,10 +2,8 @@
 use native.Mathlib.Omega.{arith}
 use Prim.Native.Nat.{◌-◌}
 use mathlib.Core.Path.{refl}
-use lib.ListN.{length}
 use Rattle.octets.specs.Octets.{low_first}
-use Rattle.layout.proofs.Records.{Reads, reads_none, reads_next, reads_all}
-use borrow.Author.Rules.{rules}
+use Rattle.layout.proofs.Records.{reads_none, reads_next, reads_all}
 use Rattle.layout.proofs.reading.read_words.Goals as goal
 
 pub loop-i-init : goal.loop-i-init

@@ -1,10 +1,7 @@
-use native.Mathlib.Omega.{arith}
 use Prim.Native.Nat.{◌-◌}
-use mathlib.Core.Path.{refl}
 use lib.ListN.{length}
 use Rattle.octets.specs.Octets.{low_first}
-use Rattle.layout.proofs.Records.{Reads, reads_none, reads_next, reads_all}
-use borrow.Author.Rules.{rules}
+use Rattle.layout.proofs.Records.{Reads}
 use Rattle.layout.proofs.reading.read_words.Given as goal
 
 abbrev pub invariant-loop-i : goal.invariant-loop-i

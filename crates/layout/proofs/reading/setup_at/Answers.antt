@@ -1,6 +1,5 @@
 -- `layout::reading::setup_at` meets its contract: the three numbers read are the definition's own. Assumes nothing.
 use Rattle.layout.specs.Layout.{state_of}
-use borrow.Author.Rules.{rules}
 use Rattle.layout.proofs.reading.setup_at.Goals as goal
 
 pub returns : goal.returns

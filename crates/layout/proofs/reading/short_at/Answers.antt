@@ -3,7 +3,6 @@
 use native.Mathlib.Omega.{arith}
 use Prim.Native.Nat.{◌+◌}
 use Rattle.layout.proofs.Widths.{short_at}
-use borrow.Author.Rules.{rules}
 use Rattle.layout.proofs.reading.short_at.Goals as goal
 
 pub overflow_cast-result : goal.overflow_cast-result

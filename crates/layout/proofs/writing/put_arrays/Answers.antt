@@ -1,7 +1,7 @@
 -- `layout::writing::put_arrays` meets its contract: the five arrays put one after the other are the definition's bytes (`arrays_put`), each
 -- in the range that its call gives. Assumes nothing.
 use native.Mathlib.Omega.{arith}
-use mathlib.Core.Path.{◌≡◌, sym}
+use mathlib.Core.Path.{◌≡◌}
 use lib.ListN.{length}
 use Rattle.layout.specs.Ranged.{RangedArrays}
 use Rattle.layout.proofs.Parts.{arrays_put}

@@ -1,12 +1,9 @@
-use native.Mathlib.Omega.{arith}
 use Prim.Native.Nat.{◌-◌}
 use Rattle.machine.specs.State.{tests_of}
 use Rattle.layout.specs.Layout.{bytes_of_place}
 use Rattle.layout.specs.Ranged.{RangedPlace}
-use Rattle.layout.proofs.Placing.{same_length as kept}
-use Rattle.layout.proofs.Records.{Puts, puts_none, puts_next, puts_all}
+use Rattle.layout.proofs.Records.{Puts}
 use Rattle.layout.proofs.Widths.{length_place}
-use borrow.Author.Rules.{rules}
 use Rattle.layout.proofs.writing.put_calls.Given as goal
 
 abbrev pub invariant-loop-i : goal.invariant-loop-i

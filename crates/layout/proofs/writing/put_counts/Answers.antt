@@ -4,7 +4,6 @@ use native.Mathlib.Omega.{arith}
 use Rattle.octets.proofs.RoundTrip.{length_bytes}
 use Rattle.octets.specs.Octets.{bytes_of}
 use Rattle.layout.proofs.Placing.{number_placed, three_row}
-use borrow.Author.Rules.{rules}
 use Rattle.layout.proofs.writing.put_counts.Goals as goal
 
 pub returns : goal.returns

@@ -1,7 +1,6 @@
 -- `layout::writing::put_numbers` meets its contract: streams, set-up and counts put one after the other are the definition's bytes
 -- (`numbers_put`), in the ranges of the calls. Assumes nothing.
 use Rattle.layout.proofs.Parts.{numbers_put}
-use borrow.Author.Rules.{rules}
 use Rattle.layout.proofs.writing.put_numbers.Goals as goal
 
 pub returns : goal.returns

@@ -1,12 +1,9 @@
-use native.Mathlib.Omega.{arith}
 use Prim.Native.Nat.{◌-◌}
 use Rattle.machine.specs.State.{undefined}
 use Rattle.layout.specs.Layout.{bytes_of_definition}
 use Rattle.layout.specs.Ranged.{RangedDefinition}
-use Rattle.layout.proofs.Placing.{same_length as kept}
-use Rattle.layout.proofs.Records.{Puts, puts_none, puts_next, puts_all}
+use Rattle.layout.proofs.Records.{Puts}
 use Rattle.layout.proofs.Widths.{length_definition}
-use borrow.Author.Rules.{rules}
 use Rattle.layout.proofs.writing.put_saved.Given as goal
 
 abbrev pub invariant-loop-i : goal.invariant-loop-i

@@ -6,7 +6,6 @@ use Rattle.layout.specs.Layout.{bytes_of_place}
 use Rattle.layout.proofs.Widths.{length_place}
 use Rattle.octets.specs.Octets.{bytes_of}
 use Rattle.layout.proofs.Placing.{number_placed, three_row}
-use borrow.Author.Rules.{rules}
 use Rattle.layout.proofs.writing.put_streams.Goals as goal
 
 pub returns : goal.returns

@@ -2,13 +2,10 @@
 use native.Mathlib.Omega.{arith}
 use Prim.Native.Nat.{◌-◌}
 use mathlib.Core.Path.{refl}
-use lib.ListN.{length}
 use Rattle.octets.specs.Octets.{bytes_of}
 use Rattle.octets.proofs.RoundTrip.{length_bytes}
-use Rattle.layout.specs.Ranged.{Bytes}
 use Rattle.layout.proofs.Placing.{number_placed, same_length as kept}
-use Rattle.layout.proofs.Records.{Puts, puts_none, puts_next, puts_all}
-use borrow.Author.Rules.{rules}
+use Rattle.layout.proofs.Records.{puts_none, puts_next, puts_all}
 use Rattle.layout.proofs.writing.put_words.Goals as goal
 
 pub loop-i-init : goal.loop-i-init

@@ -1,13 +1,9 @@
-use native.Mathlib.Omega.{arith}
 use Prim.Native.Nat.{◌-◌}
-use mathlib.Core.Path.{refl}
 use lib.ListN.{length}
 use Rattle.octets.specs.Octets.{bytes_of}
 use Rattle.octets.proofs.RoundTrip.{length_bytes}
 use Rattle.layout.specs.Ranged.{Bytes}
-use Rattle.layout.proofs.Placing.{number_placed, same_length as kept}
-use Rattle.layout.proofs.Records.{Puts, puts_none, puts_next, puts_all}
-use borrow.Author.Rules.{rules}
+use Rattle.layout.proofs.Records.{Puts}
 use Rattle.layout.proofs.writing.put_words.Given as goal
 
 abbrev pub invariant-loop-i : goal.invariant-loop-i

@@ -1,7 +1,7 @@
 -- `layout::writing::write_state` meets its contract: the four parts put one after the other are the state's bytes (`state_put`), from which
 -- it comes back (`state_back`). Assumes nothing.
 use native.Mathlib.Omega.{arith}
-use mathlib.Core.Path.{◌≡◌, sym}
+use mathlib.Core.Path.{◌≡◌}
 use lib.ListN.{length}
 use Rattle.layout.specs.Ranged.{Ranged}
 use Rattle.layout.proofs.Parts.{state_put}

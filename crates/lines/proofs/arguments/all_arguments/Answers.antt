@@ -1,12 +1,10 @@
 -- `lines::arguments::all_arguments` meets its contract. The loop's invariant: those passed are arguments. Assumes nothing.
-use Prim.Native.Nat.{◌+◌, ◌-◌}
+use Prim.Native.Nat.{◌-◌}
 use native.Mathlib.Omega.{arith}
 use mathlib.Core.Path.{sym, ap, ◌∙◌}
 use Rattle.word.proofs.Tests.{known_true, known_false}
-use lib.ListN.{length}
 use Rattle.lines.specs.Forms.{is_argument}
-use Rattle.lines.proofs.Parts.{Tested, tested_none, tested_more, tested_not, tested_all, part_inside, part_slice}
-use borrow.Author.Rules.{rules}
+use Rattle.lines.proofs.Parts.{tested_none, tested_more, tested_not, tested_all, part_inside, part_slice}
 use Rattle.lines.proofs.arguments.all_arguments.Goals as goal
 
 pub loop-at-init : goal.loop-at-init

@@ -1,11 +1,7 @@
 use Prim.Native.Nat.{◌+◌, ◌-◌}
-use native.Mathlib.Omega.{arith}
-use mathlib.Core.Path.{sym, ap, ◌∙◌}
-use Rattle.word.proofs.Tests.{known_true, known_false}
 use lib.ListN.{length}
 use Rattle.lines.specs.Forms.{is_argument}
-use Rattle.lines.proofs.Parts.{Tested, tested_none, tested_more, tested_not, tested_all, part_inside, part_slice}
-use borrow.Author.Rules.{rules}
+use Rattle.lines.proofs.Parts.{Tested}
 use Rattle.lines.proofs.arguments.all_arguments.Given as goal
 
 abbrev pub invariant-loop-at : goal.invariant-loop-at

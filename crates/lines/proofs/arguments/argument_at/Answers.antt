@@ -1,8 +1,7 @@
 -- `lines::arguments::argument_at` meets its contract. The loop's invariant: the argument is that of the parts left. Assumes nothing.
 use native.Mathlib.Omega.{arith}
 use Rattle.lines.proofs.Parts.{part_inside}
-use Rattle.lines.proofs.Picking.{Stepping, stepping_none, stepping_inside, stepping_more, stepping_all}
-use borrow.Author.Rules.{rules}
+use Rattle.lines.proofs.Picking.{stepping_none, stepping_inside, stepping_more, stepping_all}
 use Rattle.lines.proofs.arguments.argument_at.Goals as goal
 
 pub loop-left-init : goal.loop-left-init

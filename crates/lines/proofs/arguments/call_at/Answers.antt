@@ -10,7 +10,6 @@ use Rattle.lines.specs.Forms.{expanded}
 use Rattle.lines.specs.Reading.{split}
 use Rattle.lines.proofs.Parts.{alone_one, longer_three, called_two, short_three, part_slice}
 use Rattle.lines.proofs.Calling.{calls_none, calls_one, calls_at_none, calls_at_lem}
-use borrow.Author.Rules.{rules}
 use Rattle.lines.proofs.arguments.call_at.Goals as goal
 
 pub returns-then-s-first : goal.returns-then-s-first

@@ -1,7 +1,6 @@
 -- `lines::arguments::is_argument` meets its contract: its tests joined are the definition. Assumes nothing.
 use Rattle.lines.specs.Forms.{is_argument}
 use Rattle.lines.proofs.Literals.{some_bytes}
-use borrow.Author.Rules.{rules}
 use Rattle.lines.proofs.arguments.is_argument.Goals as goal
 
 pub returns : goal.returns

@@ -5,7 +5,6 @@ use Rattle.lines.specs.Words.{spelled, same}
 use Rattle.lines.proofs.Parts.{alone, longer, called, shortened, part_slice}
 use mathlib.Core.List.{List}
 use Prim.Native.Nat.{ℕ}
-use borrow.Author.Rules.{rules}
 use Rattle.lines.proofs.arguments.names_at.Goals as goal
 
 pub returns-then-s-first : goal.returns-then-s-first

@@ -7,7 +7,6 @@ use Rattle.lines.specs.Words.{is_field}
 use Rattle.lines.proofs.Coding.{operations_fit}
 use Rattle.lines.proofs.Moving.{fits_plain, fits_moved}
 use Rattle.lines.proofs.Parts.{part_slice, part_rest}
-use borrow.Author.Rules.{rules}
 use Rattle.lines.proofs.fitting.fits_operation.Goals as goal
 
 pub form_at-requires : goal.form_at-requires

@@ -4,7 +4,6 @@ use mathlib.Core.Path.{ap, sym, ◌∙◌}
 use mathlib.Core.Bool.{Bool}
 use Rattle.lines.specs.Reading.{split}
 use Rattle.lines.specs.Walking.{forms_of, form_place}
-use borrow.Author.Rules.{rules}
 use Rattle.lines.proofs.fitting.form_at.Goals as goal
 
 pub form_in-requires : goal.form_in-requires

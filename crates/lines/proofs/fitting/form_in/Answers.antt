@@ -1,14 +1,10 @@
 -- `lines::fitting::form_in` meets its contract. The loop's invariant: no form passed fits. Assumes nothing.
 use Prim.Native.Nat.{◌+◌, ◌-◌}
 use native.Mathlib.Omega.{arith}
-use mathlib.Core.Path.{◌≡◌, sym, ◌∙◌}
-use lib.ListN.{length}
-use Rattle.lines.specs.Reading.{split}
-use Rattle.lines.specs.Walking.{forms_of}
+use mathlib.Core.Path.{sym, ◌∙◌}
 use Rattle.lines.proofs.Parts.{part_inside, part_slice, alone_split, second_is}
-use Rattle.lines.proofs.Coding.{Tried, tried_none, tried_more, tried_stop, tried_all}
+use Rattle.lines.proofs.Coding.{tried_none, tried_more, tried_stop, tried_all}
 use Rattle.lines.proofs.Meant.{alone_nowhere}
-use borrow.Author.Rules.{rules}
 use Rattle.lines.proofs.fitting.form_in.Goals as goal
 
 pub returns-then-s-first : goal.returns-then-s-first

@@ -11,7 +11,6 @@ use Rattle.lines.specs.Forms.{no_form}
 use Rattle.lines.specs.Walking.{forms_of, kind_of}
 use Rattle.lines.proofs.Coding.{kind_numbers, kind_at, of_kind, number_there}
 use Rattle.lines.proofs.Meant.{not_meant}
-use borrow.Author.Rules.{rules}
 use Rattle.lines.proofs.fitting.is_meant.Goals as goal
 
 pub number_in-requires : goal.number_in-requires

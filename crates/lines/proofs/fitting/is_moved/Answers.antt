@@ -8,7 +8,6 @@ use lib.Dec.{leb}
 use lib.ListN.{length}
 use Rattle.word.proofs.Tests.{known_true, known_false}
 use Rattle.lines.proofs.Moving.{not_moved, short_field, moved}
-use borrow.Author.Rules.{rules}
 use Rattle.lines.proofs.fitting.is_moved.Goals as goal
 
 pub returns-then-not-is_field : goal.returns-then-not-is_field

@@ -2,7 +2,6 @@
 use mathlib.Core.Path.{ap₂}
 use mathlib.Core.Bool.{◌&&◌}
 use Rattle.lines.specs.Forms.{is_operation}
-use borrow.Author.Rules.{rules}
 use Rattle.lines.proofs.fitting.is_operation.Goals as goal
 
 pub fits_operation-requires : goal.fits_operation-requires

@@ -4,7 +4,6 @@ use mathlib.Core.Path.{ap₂}
 use mathlib.Core.Bool.{◌&&◌}
 use Rattle.lines.specs.Forms.{is_test}
 use Rattle.lines.proofs.Coding.{tests_fit}
-use borrow.Author.Rules.{rules}
 use Rattle.lines.proofs.fitting.is_test.Goals as goal
 
 pub form_at-requires : goal.form_at-requires

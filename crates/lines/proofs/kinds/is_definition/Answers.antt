@@ -3,7 +3,6 @@ use mathlib.Core.Path.{refl, sym, ap, ◌∙◌}
 use lib.Dec.{eqb}
 use Rattle.lines.specs.Words.{is_definition}
 use Rattle.lines.proofs.Scanning.{starts_first}
-use borrow.Author.Rules.{rules}
 use Rattle.lines.proofs.kinds.is_definition.Goals as goal
 
 pub returns : goal.returns

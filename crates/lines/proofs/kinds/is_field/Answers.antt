@@ -2,7 +2,6 @@
 use mathlib.Core.Path.{refl, sym, ap, ◌∙◌}
 use Rattle.lines.specs.Words.{is_field, is_letter}
 use Rattle.lines.proofs.Scanning.{starts_first}
-use borrow.Author.Rules.{rules}
 use Rattle.lines.proofs.kinds.is_field.Goals as goal
 
 pub returns : goal.returns

@@ -1,6 +1,5 @@
 -- `lines::kinds::is_field_name` meets its contract: its tests joined are the definition. Assumes nothing.
 use Rattle.lines.specs.Words.{is_field_name}
-use borrow.Author.Rules.{rules}
 use Rattle.lines.proofs.kinds.is_field_name.Goals as goal
 
 pub returns : goal.returns

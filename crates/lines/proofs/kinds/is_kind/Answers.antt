@@ -1,10 +1,8 @@
 -- `lines::kinds::is_kind` meets its contract: by the number. Assumes nothing.
 use mathlib.Core.Path.{sym, ap, ap₂, ◌∙◌}
-use mathlib.Core.Bool.{◌||◌}
 use Rattle.lines.specs.Words.{Kind, is_kind}
 use Rattle.lines.specs.Walking.{kind_of}
 use Rattle.lines.proofs.Coding.{of_kind, kind_word}
-use borrow.Author.Rules.{rules}
 use Rattle.lines.proofs.kinds.is_kind.Goals as goal
 
 pub returns-in-1 : goal.returns-in-1

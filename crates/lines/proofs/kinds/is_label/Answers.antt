@@ -4,7 +4,6 @@ use lib.Dec.{eqb}
 use Prim.Native.Nat.{ℕ}
 use Rattle.lines.specs.Words.{spelled, is_label, is_done}
 use Rattle.lines.proofs.Literals.{some_bytes, no_mode}
-use borrow.Author.Rules.{rules}
 use Rattle.lines.proofs.kinds.is_label.Goals as goal
 
 pub returns : goal.returns

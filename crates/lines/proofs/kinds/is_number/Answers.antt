@@ -3,9 +3,7 @@ use Prim.Native.Nat.{ℕ, ◌-◌, ◌*◌, ◌^◌, ◌≤◌, ◌<◌}
 use native.Mathlib.Nat.{mul-le-mul_left}
 use native.Mathlib.Omega.{arith}
 use Rattle.word.proofs.Tests.{known_true, known_false}
-use lib.ListN.{length}
-use Rattle.lines.proofs.Literals.{Valued, valued_none, valued_more, valued_not, valued_over, valued_all, digit_least}
-use borrow.Author.Rules.{rules}
+use Rattle.lines.proofs.Literals.{valued_none, valued_more, valued_not, valued_over, valued_all, digit_least}
 use Rattle.lines.proofs.kinds.is_number.Goals as goal
 
 tenfold : (v base : ℕ) → base ≤ 10 → v < 2 ^ 48 → v * base ≤ 2 ^ 52

@@ -5,7 +5,6 @@ use mathlib.Core.Path.{sym, ap, ◌∙◌}
 use Prim.Native.Nat.{ℕ}
 use Rattle.lines.specs.Walking.{is_number}
 use Rattle.lines.proofs.Literals.{octal_number, some_numbers, wide_enough}
-use borrow.Author.Rules.{rules}
 use Rattle.lines.proofs.kinds.is_octal.Goals as goal
 
 pub is_number-requires : goal.is_number-requires

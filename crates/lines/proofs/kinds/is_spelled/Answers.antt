@@ -1,7 +1,7 @@
 -- `lines::kinds::is_spelled` meets its contract. The loop's invariant: the bytes passed, from the end, are those of the number. Assumes nothing.
 use Prim.Native.Nat.{◌-◌}
 use native.Mathlib.Omega.{arith}
-use Rattle.lines.proofs.Literals.{Spelt, spelt_none, spelt_short, spelt_more, spelt_not, spelt_all}
+use Rattle.lines.proofs.Literals.{spelt_none, spelt_short, spelt_more, spelt_not, spelt_all}
 use Rattle.lines.proofs.kinds.is_spelled.Goals as goal
 
 pub loop-k-init : goal.loop-k-init

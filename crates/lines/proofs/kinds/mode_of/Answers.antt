@@ -2,7 +2,6 @@
 use mathlib.Core.Path.{sym, ◌∙◌}
 use Rattle.lines.specs.Words.{spelled, mode_words}
 use Rattle.lines.specs.Reading.{place_of}
-use borrow.Author.Rules.{rules}
 use Rattle.lines.proofs.kinds.mode_of.Goals as goal
 
 pub returns-then-is_same : goal.returns-then-is_same

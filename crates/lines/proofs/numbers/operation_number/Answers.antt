@@ -1,6 +1,5 @@
 -- `lines::numbers::operation_number` meets its contract: the constant is the table, computed. Assumes nothing.
 use mathlib.Core.Path.{refl}
-use borrow.Author.Rules.{rules}
 use Rattle.character.specs.Character.{number}
 use Rattle.lines.specs.Words.{spelled}
 use Rattle.lines.specs.Forms.{operation_forms}

@@ -2,7 +2,6 @@
 use mathlib.Core.Path.{sym, ◌∙◌}
 use Rattle.lines.proofs.Scanning.{no_token, no_token_here, word_here, open_here, never_closed, within_word, within_open}
 use Rattle.lines.proofs.Telling.{spot_tells}
-use borrow.Author.Rules.{rules}
 use Rattle.lines.proofs.spots.token_at.Goals as goal
 
 pub returns-then-text-at : goal.returns-then-text-at

@@ -1,10 +1,7 @@
 use Prim.Native.Nat.{◌-◌}
-use native.Mathlib.Omega.{arith}
-use Rattle.word.proofs.Tests.{known_true, known_false}
 use lib.ListN.{length}
 use Rattle.lines.specs.Words.{is_character}
-use Rattle.lines.proofs.Scanning.{Passed, passed_none, passed_more, passed_not, passed_whole}
-use borrow.Author.Rules.{rules}
+use Rattle.lines.proofs.Scanning.{Passed}
 use Rattle.lines.proofs.words.all_characters.Given as goal
 
 abbrev pub invariant-loop-i : goal.invariant-loop-i

@@ -1,7 +1,6 @@
 -- `lines::words::all_names` meets its contract: the word ends where its letters and digits do. Assumes nothing.
 use native.Mathlib.Nat.{zero-add}
 use mathlib.Core.Path.{◌∙◌}
-use borrow.Author.Rules.{rules}
 use Rattle.lines.specs.Words.{is_name}
 use Rattle.lines.proofs.Scanning.{all_front}
 use Rattle.lines.proofs.words.all_names.Goals as goal

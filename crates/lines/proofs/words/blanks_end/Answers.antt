@@ -1,10 +1,8 @@
 -- `lines::words::blanks_end` meets its contract. The loop's invariant: the blanks end where it did at the start. Assumes nothing.
 use Prim.Native.Nat.{◌-◌}
-use borrow.Author.Rules.{rules}
 use borrow.Author.Tests.{eq-eqb, ne_eqb}
-use lib.ListN.{length}
 use Rattle.lines.specs.Reading.{is_blank}
-use Rattle.lines.proofs.Scanning.{Passed, passed_none, passed_more, passed_stop, passed_all}
+use Rattle.lines.proofs.Scanning.{passed_none, passed_more, passed_stop, passed_all}
 use Rattle.lines.proofs.words.blanks_end.Goals as goal
 
 pub loop-i-init : goal.loop-i-init

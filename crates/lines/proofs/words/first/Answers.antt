@@ -1,10 +1,9 @@
 -- `lines::words::first` meets its contract: an empty word has no byte (`none_first`), and another's first is read. Assumes nothing.
 use mathlib.Core.Path.{◌≡◌, refl}
-use mathlib.Core.List.{List, [], ◌∷◌}
+use mathlib.Core.List.{List, ◌∷◌}
 use Prim.Native.Nat.{ℕ}
 use native.Mathlib.Omega.{arith}
 use lib.ListN.{length, get_or}
-use borrow.Author.Rules.{rules}
 use Rattle.lines.proofs.words.first.Goals as goal
 
 none_first : (w : List ℕ) → length w ≡ 0 → 0 ≡ get_or w 0 0

@@ -1,5 +1,4 @@
 -- `lines::words::is_character` meets its contract: its tests joined are the definition. Assumes nothing.
-use borrow.Author.Rules.{rules}
 use Rattle.lines.specs.Words.{is_character}
 use Rattle.lines.proofs.words.is_character.Goals as goal
 

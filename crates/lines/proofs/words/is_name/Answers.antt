@@ -1,5 +1,4 @@
 -- `lines::words::is_name` meets its contract: its tests joined are the definition. Assumes nothing.
-use borrow.Author.Rules.{rules}
 use Rattle.lines.specs.Words.{is_name}
 use Rattle.lines.proofs.words.is_name.Goals as goal
 

@@ -1,10 +1,7 @@
 -- `lines::words::is_same` meets its contract. The loop's invariant: the bytes passed are the same. Assumes nothing.
 use Prim.Native.Nat.{◌-◌}
 use native.Mathlib.Omega.{arith}
-use mathlib.Core.Path.{◌≡◌}
-use borrow.Author.Rules.{rules}
-use lib.ListN.{length}
-use Rattle.lines.proofs.Scanning.{Alike, alike_none, alike_more, alike_not, alike_all, unlike}
+use Rattle.lines.proofs.Scanning.{alike_none, alike_more, alike_not, alike_all, unlike}
 use Rattle.lines.proofs.words.is_same.Goals as goal
 
 pub returns-then-v-w : goal.returns-then-v-w

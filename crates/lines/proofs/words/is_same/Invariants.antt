@@ -1,9 +1,7 @@
 use Prim.Native.Nat.{◌-◌}
-use native.Mathlib.Omega.{arith}
 use mathlib.Core.Path.{◌≡◌}
-use borrow.Author.Rules.{rules}
 use lib.ListN.{length}
-use Rattle.lines.proofs.Scanning.{Alike, alike_none, alike_more, alike_not, alike_all, unlike}
+use Rattle.lines.proofs.Scanning.{Alike}
 use Rattle.lines.proofs.words.is_same.Given as goal
 
 abbrev pub invariant-loop-i : goal.invariant-loop-i

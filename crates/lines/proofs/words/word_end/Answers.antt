@@ -1,10 +1,8 @@
 -- `lines::words::word_end` meets its contract. The loop's invariant: the word ends where it did at the start. Assumes nothing.
 use Prim.Native.Nat.{◌-◌}
-use borrow.Author.Rules.{rules}
 use Rattle.word.proofs.Tests.{known_true, known_false}
-use lib.ListN.{length}
 use Rattle.lines.specs.Words.{is_name}
-use Rattle.lines.proofs.Scanning.{Passed, passed_none, passed_more, passed_stop, passed_all}
+use Rattle.lines.proofs.Scanning.{passed_none, passed_more, passed_stop, passed_all}
 use Rattle.lines.proofs.words.word_end.Goals as goal
 
 pub loop-i-init : goal.loop-i-init

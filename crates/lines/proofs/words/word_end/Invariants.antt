@@ -1,9 +1,7 @@
 use Prim.Native.Nat.{◌-◌}
-use borrow.Author.Rules.{rules}
-use Rattle.word.proofs.Tests.{known_true, known_false}
 use lib.ListN.{length}
 use Rattle.lines.specs.Words.{is_name}
-use Rattle.lines.proofs.Scanning.{Passed, passed_none, passed_more, passed_stop, passed_all}
+use Rattle.lines.proofs.Scanning.{Passed}
 use Rattle.lines.proofs.words.word_end.Given as goal
 
 abbrev pub invariant-loop-i : goal.invariant-loop-i

@@ -2,7 +2,6 @@
 -- 65,536 or more, by arithmetic. Assumes nothing.
 use native.Mathlib.Omega.{arith}
 use Rattle.operands.proofs.Numbers.{parts_number}
-use borrow.Author.Rules.{rules}
 use Rattle.operands.proofs.locations.field_number.Goals as goal
 
 pub returns : goal.returns

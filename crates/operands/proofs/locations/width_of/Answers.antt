@@ -3,7 +3,6 @@
 use mathlib.Core.Path.{◌∙◌}
 use Rattle.operands.proofs.Numbers.{bug_number}
 use Rattle.operands.proofs.Operands.{bug_width, field_width}
-use borrow.Author.Rules.{rules}
 use Rattle.operands.proofs.locations.width_of.Goals as goal
 
 pub returns-then-at-lt-FIELDS : goal.returns-then-at-lt-FIELDS

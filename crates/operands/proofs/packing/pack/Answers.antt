@@ -1,7 +1,6 @@
 -- `operands::packing::pack` meets its contract: four parts of eight bits. Assumes nothing.
 use native.Mathlib.Omega.{arith}
 use Rattle.operands.proofs.Unpacking.{flag_small, packed_is}
-use borrow.Author.Rules.{rules}
 use Rattle.operands.proofs.packing.pack.Goals as goal
 
 pub overflow_add-result : goal.overflow_add-result

@@ -1,11 +1,9 @@
 -- `operands::packing::pack_all` meets its contract. The loop's invariant: the first i numbers stand for the first i definitions. Assumes nothing.
 use Prim.Native.Nat.{◌-◌}
 use native.Mathlib.Omega.{arith}
-use mathlib.Core.Path.{◌≡◌, ◌∙◌}
-use lib.ListN.{length}
+use mathlib.Core.Path.{◌∙◌}
 use Rattle.machine.specs.State.{undefined}
-use Rattle.operands.specs.Packing.{unpacked_all}
-use Rattle.word.proofs.Filling.{Fills, fills_none, whole_next, whole_all}
+use Rattle.word.proofs.Filling.{fills_none, whole_next, whole_all}
 use Rattle.operands.proofs.Unpacking.{unpacked_set, length_unpacked}
 use borrow.Author.Rules.{rules}
 use Rattle.operands.proofs.packing.pack_all.Goals as goal

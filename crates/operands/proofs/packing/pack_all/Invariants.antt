@@ -1,12 +1,8 @@
 use Prim.Native.Nat.{◌-◌}
-use native.Mathlib.Omega.{arith}
-use mathlib.Core.Path.{◌≡◌, ◌∙◌}
+use mathlib.Core.Path.{◌≡◌}
 use lib.ListN.{length}
-use Rattle.machine.specs.State.{undefined}
 use Rattle.operands.specs.Packing.{unpacked_all}
-use Rattle.word.proofs.Filling.{Fills, fills_none, whole_next, whole_all}
-use Rattle.operands.proofs.Unpacking.{unpacked_set, length_unpacked}
-use borrow.Author.Rules.{rules}
+use Rattle.word.proofs.Filling.{Fills}
 use Rattle.operands.proofs.packing.pack_all.Given as goal
 
 abbrev pub invariant-loop-i : goal.invariant-loop-i

@@ -1,7 +1,6 @@
 -- `operands::packing::unpack` meets its contract: each part by a remainder and a quotient. Assumes nothing.
 use mathlib.Core.Path.{refl}
 use Rattle.operands.specs.Packing.{unpacked}
-use borrow.Author.Rules.{rules}
 use Rattle.operands.proofs.packing.unpack.Goals as goal
 
 pub returns : goal.returns

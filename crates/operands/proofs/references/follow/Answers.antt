@@ -1,14 +1,11 @@
 -- `operands::references::follow` meets its contract: one field at once, or the fields one after the other. The loop's invariant: whatever the set-up,
 -- what the first links leave to follow leads where the whole reference does, from a spot that can be read. The measure is what is left.
 -- Assumes nothing.
-use Prim.Native.Nat.{ℕ}
 use native.Mathlib.Omega.{arith}
 use mathlib.Core.Path.{refl, ◌∙◌}
-use Rattle.operands.specs.Reading.{seen, set_up_of, Readable}
-use Rattle.operands.proofs.Follows.{Followed, followed_first, followed_all, followed_last, followed_next, followed_stopped, name_left}
+use Rattle.operands.proofs.Follows.{followed_first, followed_all, followed_last, followed_next, followed_stopped, name_left}
 use Rattle.operands.proofs.Follows.{one_field, one_name, link_seen, lying_seen}
 use Rattle.operands.proofs.Unpacking.{unpacked_at}
-use borrow.Author.Rules.{rules}
 use Rattle.operands.proofs.references.follow.Goals as goal
 
 pub bug_before-bug-requires : goal.bug_before-bug-requires

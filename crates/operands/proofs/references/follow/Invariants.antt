@@ -1,11 +1,6 @@
 use Prim.Native.Nat.{ℕ}
-use native.Mathlib.Omega.{arith}
-use mathlib.Core.Path.{refl, ◌∙◌}
 use Rattle.operands.specs.Reading.{seen, set_up_of, Readable}
-use Rattle.operands.proofs.Follows.{Followed, followed_first, followed_all, followed_last, followed_next, followed_stopped, name_left}
-use Rattle.operands.proofs.Follows.{one_field, one_name, link_seen, lying_seen}
-use Rattle.operands.proofs.Unpacking.{unpacked_at}
-use borrow.Author.Rules.{rules}
+use Rattle.operands.proofs.Follows.{Followed}
 use Rattle.operands.proofs.references.follow.Given as goal
 
 abbrev pub invariant-loop-left : goal.invariant-loop-left

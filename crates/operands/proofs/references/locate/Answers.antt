@@ -1,6 +1,5 @@
 -- `operands::references::locate` meets its contract: a bug's word at once, or what follows. Assumes nothing.
 use Rattle.operands.proofs.Follows.{no_field, bug_spot}
-use borrow.Author.Rules.{rules}
 use Rattle.operands.proofs.references.locate.Goals as goal
 
 pub bug_before-bug-requires : goal.bug_before-bug-requires

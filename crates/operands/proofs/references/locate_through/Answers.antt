@@ -2,15 +2,14 @@
 -- whole reference does, from a spot that can be read, once the block is delivered. The measure is what is left. Assumes nothing.
 use native.Mathlib.Omega.{arith}
 use mathlib.Core.Path.{sym, ap, ◌∙◌}
-use Rattle.operands.specs.Reading.{seen, told_linked}
+use Rattle.operands.specs.Reading.{told_linked}
 use Rattle.operands.specs.Through.{through, delivered}
 use Rattle.operands.proofs.Answers.{at_is, stopped_is}
-use Rattle.operands.proofs.Follows.{Followed, followed_first, followed_all, name_left, followed_at, followed_refused}
+use Rattle.operands.proofs.Follows.{followed_first, followed_all, name_left, followed_at, followed_refused}
 use Rattle.operands.proofs.Follows.{link_reached}
 use Rattle.operands.proofs.Through.{delivery_low, delivery_lies, through_readable, through_reached, through_contents}
 use Rattle.operands.proofs.Through.{through_lying, through_link}
 use Rattle.operands.proofs.Unpacking.{unpacked_at}
-use borrow.Author.Rules.{rules}
 use Rattle.operands.proofs.references.locate_through.Goals as goal
 
 pub bits_after-bits-requires : goal.bits_after-bits-requires

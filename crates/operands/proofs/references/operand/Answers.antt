@@ -1,7 +1,6 @@
 -- `operands::references::operand` meets its contract: a literal, a bug's word, or what stands where the links lead. Assumes nothing.
 use Rattle.operands.proofs.Follows.{no_field, bug_spot}
 use Rattle.operands.proofs.Operands.{literal, found}
-use borrow.Author.Rules.{rules}
 use Rattle.operands.proofs.references.operand.Goals as goal
 
 pub returns-then-p-eq-LITERAL : goal.returns-then-p-eq-LITERAL

@@ -3,7 +3,6 @@ use native.Mathlib.Omega.{arith}
 use Rattle.operands.proofs.Links.{field_reached}
 use Rattle.operands.proofs.Numbers.{bug_number}
 use Rattle.operands.proofs.Through.{word_bug, word_same, word_other, room_delivered}
-use borrow.Author.Rules.{rules}
 use Rattle.operands.proofs.references.word_after.Goals as goal
 
 pub returns-then-at-lt-FIELDS : goal.returns-then-at-lt-FIELDS

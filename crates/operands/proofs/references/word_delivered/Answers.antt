@@ -3,7 +3,6 @@ use native.Mathlib.Omega.{arith}
 use mathlib.Core.Logic.{inl, inr}
 use mathlib.Core.Path.{◌∙◌}
 use Rattle.operands.proofs.Through.{word_inside, word_outside}
-use borrow.Author.Rules.{rules}
 use Rattle.operands.proofs.references.word_delivered.Goals as goal
 
 pub returns-then-address-from : goal.returns-then-address-from

@@ -1,11 +1,8 @@
 -- `recordings::places::clear` meets its contract. The loop's invariant: the second numbers of the pairs passed are zero. Assumes nothing.
-use Prim.Native.Nat.{ℕ, ◌+◌, ◌*◌, ◌≤◌, ◌<◌, ◌-◌}
-use mathlib.Core.Path.{◌≡◌}
+use Prim.Native.Nat.{◌+◌, ◌*◌, ◌≤◌, ◌-◌}
 use native.Mathlib.Omega.{arith}
 use lib.ListN.{length}
-use Rattle.recordings.specs.Walking.{second_at_of, Kept}
 use Rattle.recordings.proofs.Pushing.{kept_none, kept_twice, second_kept, zeros_more}
-use borrow.Author.Rules.{rules}
 use Rattle.recordings.proofs.places.clear.Goals as goal
 
 pub loop-k-init : goal.loop-k-init

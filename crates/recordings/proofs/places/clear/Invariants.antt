@@ -1,10 +1,6 @@
-use Prim.Native.Nat.{ℕ, ◌+◌, ◌*◌, ◌≤◌, ◌<◌, ◌-◌}
+use Prim.Native.Nat.{ℕ, ◌≤◌, ◌<◌, ◌-◌}
 use mathlib.Core.Path.{◌≡◌}
-use native.Mathlib.Omega.{arith}
-use lib.ListN.{length}
 use Rattle.recordings.specs.Walking.{second_at_of, Kept}
-use Rattle.recordings.proofs.Pushing.{kept_none, kept_twice, second_kept, zeros_more}
-use borrow.Author.Rules.{rules}
 use Rattle.recordings.proofs.places.clear.Given as goal
 
 abbrev pub invariant-loop-k : goal.invariant-loop-k

@@ -2,7 +2,6 @@
 use native.Mathlib.Omega.{arith}
 use Rattle.recordings.proofs.Chain.{number_inside}
 use Rattle.recordings.proofs.Entering.{pair_room, row_number, new_room, new_pushes, enters_new, old_inside, enters_old}
-use borrow.Author.Rules.{rules}
 use Rattle.recordings.proofs.places.enter.Goals as goal
 
 pub number_of-stop-requires : goal.number_of-stop-requires

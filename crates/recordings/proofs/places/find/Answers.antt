@@ -2,10 +2,8 @@
 -- Assumes nothing.
 use mathlib.Core.Path.{sym, ◌∙◌}
 use native.Mathlib.Omega.{arith}
-use Rattle.recordings.specs.Walking.{chain_count}
 use Rattle.recordings.proofs.Entering.{pair_room, row_number}
-use Rattle.recordings.proofs.Links.{Along, along_start, along_inside, along_less, along_here, along_next, along_end}
-use borrow.Author.Rules.{rules}
+use Rattle.recordings.proofs.Links.{along_start, along_inside, along_less, along_here, along_next, along_end}
 use Rattle.recordings.proofs.places.find.Goals as goal
 
 pub place_of-requires : goal.place_of-requires

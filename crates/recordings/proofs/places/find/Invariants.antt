@@ -1,9 +1,5 @@
-use mathlib.Core.Path.{sym, ◌∙◌}
-use native.Mathlib.Omega.{arith}
 use Rattle.recordings.specs.Walking.{chain_count}
-use Rattle.recordings.proofs.Entering.{pair_room, row_number}
-use Rattle.recordings.proofs.Links.{Along, along_start, along_inside, along_less, along_here, along_next, along_end}
-use borrow.Author.Rules.{rules}
+use Rattle.recordings.proofs.Links.{Along}
 use Rattle.recordings.proofs.places.find.Given as goal
 
 abbrev pub invariant-loop-at : goal.invariant-loop-at

@@ -3,7 +3,6 @@
 use mathlib.Core.Path.{refl}
 use native.Mathlib.Omega.{arith}
 use Rattle.recordings.proofs.Pushing.{kept_none}
-use borrow.Author.Rules.{rules}
 use Rattle.recordings.proofs.places.grow.Goals as goal
 
 pub returns-then-count-lt-FIRST : goal.returns-then-count-lt-FIRST

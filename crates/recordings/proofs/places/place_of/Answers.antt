@@ -1,11 +1,10 @@
 -- `recordings::places::place_of` meets its contract. The loop's invariant: none of the pairs passed has the stop. Assumes nothing.
-use Prim.Native.Nat.{ℕ, ◌≤◌, ◌-◌, ◌<◌}
-use mathlib.Core.Path.{◌≡◌, sym, ◌∙◌}
+use Prim.Native.Nat.{◌-◌}
+use mathlib.Core.Path.{sym, ◌∙◌}
 use native.Mathlib.Omega.{arith}
 use borrow.Author.Count.{below_more}
 use Rattle.recordings.specs.Walking.{stop_at}
 use Rattle.recordings.proofs.Entering.{pair_room, row_number}
-use borrow.Author.Rules.{rules}
 use Rattle.recordings.proofs.places.place_of.Goals as goal
 
 pub loop-k-init : goal.loop-k-init

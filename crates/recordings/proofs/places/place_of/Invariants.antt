@@ -1,10 +1,6 @@
 use Prim.Native.Nat.{ℕ, ◌≤◌, ◌-◌, ◌<◌}
-use mathlib.Core.Path.{◌≡◌, sym, ◌∙◌}
-use native.Mathlib.Omega.{arith}
-use borrow.Author.Count.{below_more}
+use mathlib.Core.Path.{◌≡◌}
 use Rattle.recordings.specs.Walking.{stop_at}
-use Rattle.recordings.proofs.Entering.{pair_room, row_number}
-use borrow.Author.Rules.{rules}
 use Rattle.recordings.proofs.places.place_of.Given as goal
 
 abbrev pub invariant-loop-k : goal.invariant-loop-k

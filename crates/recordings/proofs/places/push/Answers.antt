@@ -7,7 +7,6 @@ use lib.ListN.{length-set}
 use Rattle.recordings.specs.Walking.{chain_count}
 use Rattle.recordings.proofs.Entering.{pair_room, row_number}
 use Rattle.recordings.proofs.Pushing.{pushed}
-use borrow.Author.Rules.{rules}
 use Rattle.recordings.proofs.places.push.Goals as goal
 
 pub stop_at-requires : goal.stop_at-requires

@@ -1,7 +1,6 @@
 -- `recordings::places::put_head` meets its contract: heads in numbers apart, and in the pairs. Assumes nothing.
 use native.Mathlib.Omega.{arith}
 use Rattle.recordings.proofs.Pushing.{apart, within, head_apart, head_within}
-use borrow.Author.Rules.{rules}
 use Rattle.recordings.proofs.places.put_head.Goals as goal
 
 pub overflow_cast-heads : goal.overflow_cast-heads

@@ -1,7 +1,6 @@
 -- `recordings::places::put_link` meets its contract: what the calls read and put is what is asked; the link fits the lower half.
 -- Assumes nothing.
 use native.Mathlib.Omega.{arith}
-use borrow.Author.Rules.{rules}
 use Rattle.recordings.proofs.places.put_link.Goals as goal
 
 pub second_of-second-requires : goal.second_of-second-requires

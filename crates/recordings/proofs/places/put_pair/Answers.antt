@@ -1,6 +1,5 @@
 -- `recordings::places::put_pair` meets its contract: the two calls' numbers, put one after the other, are what is asked. Assumes nothing.
 use lib.ListN.{length-set}
-use borrow.Author.Rules.{rules}
 use Rattle.recordings.proofs.places.put_pair.Goals as goal
 
 pub put_second-requires : goal.put_second-requires

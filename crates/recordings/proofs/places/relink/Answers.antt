@@ -1,8 +1,7 @@
 -- `recordings::places::relink` meets its contract. The loop's invariant: the places passed are linked. Assumes nothing.
 use Prim.Native.Nat.{◌-◌}
 use mathlib.Core.Path.{◌∙◌}
-use Rattle.recordings.proofs.Pushing.{Relinking, relinking_none, relinking_pushes, relinking_next, relinking_all, kept_holds}
-use borrow.Author.Rules.{rules}
+use Rattle.recordings.proofs.Pushing.{relinking_none, relinking_pushes, relinking_next, relinking_all, kept_holds}
 use Rattle.recordings.proofs.places.relink.Goals as goal
 
 pub clear-requires : goal.clear-requires

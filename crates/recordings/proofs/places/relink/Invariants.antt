@@ -1,7 +1,5 @@
 use Prim.Native.Nat.{◌-◌}
-use mathlib.Core.Path.{◌∙◌}
-use Rattle.recordings.proofs.Pushing.{Relinking, relinking_none, relinking_pushes, relinking_next, relinking_all, kept_holds}
-use borrow.Author.Rules.{rules}
+use Rattle.recordings.proofs.Pushing.{Relinking}
 use Rattle.recordings.proofs.places.relink.Given as goal
 
 abbrev pub invariant-loop-k : goal.invariant-loop-k

@@ -2,7 +2,6 @@
 use borrow.Author.Tests.{not-true, not-false}
 use Rattle.word.proofs.Tests.{known_true, known_false}
 use Rattle.table.proofs.Formed.{checked_rows, checked_length, check_no_width, check_at_width, check_numbers}
-use borrow.Author.Rules.{rules}
 use Rattle.table.proofs.check.check_table.Goals as goal
 
 pub returns-then-not-is_width : goal.returns-then-not-is_width

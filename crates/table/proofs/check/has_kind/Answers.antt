@@ -1,5 +1,4 @@
 -- `table::check::has_kind` meets its contract: each return by the kind that led there. Assumes nothing.
-use borrow.Author.Rules.{rules}
 use native.Mathlib.Omega.{arith}
 use Rattle.table.proofs.Formed.{shaped_line, shaped_test, shaped_operation}
 use Rattle.table.proofs.check.has_kind.Goals as goal

@@ -1,5 +1,4 @@
 -- `table::check::is_line` meets its contract: its two tests joined are the definition. Assumes nothing.
-use borrow.Author.Rules.{rules}
 use mathlib.Core.Bool.{◌&&◌}
 use mathlib.Core.Path.{ap₂}
 use Rattle.table.specs.Table.{is_line}

@@ -1,5 +1,4 @@
 -- `table::check::is_operation` meets its contract: each return by the tests that led there. Assumes nothing.
-use borrow.Author.Rules.{rules}
 use native.Mathlib.Omega.{arith}
 use Rattle.table.proofs.Formed.{operation_small, operation_large, operation_from}
 use Rattle.table.proofs.check.is_operation.Goals as goal

@@ -1,5 +1,4 @@
 -- `table::check::is_test` meets its contract: its tests joined are the definition. Assumes nothing.
-use borrow.Author.Rules.{rules}
 use Rattle.table.proofs.Formed.{test_from}
 use Rattle.table.specs.Table.{is_test}
 use Rattle.table.proofs.check.is_test.Goals as goal

@@ -1,5 +1,4 @@
 -- `table::check::is_usable` meets its contract: each return by the tests that led there. Assumes nothing.
-use borrow.Author.Rules.{rules}
 use native.Mathlib.Omega.{arith}
 use Rattle.table.proofs.Formed.{missing_low, missing_high, used_row}
 use Rattle.table.proofs.check.is_usable.Goals as goal

@@ -1,12 +1,10 @@
 -- `table::check::lowest_ill_formed` meets its contract: the rows passed are well-formed, so the lowest ill-formed one is at or after r. Assumes nothing.
-use borrow.Author.Rules.{rules}
-use Prim.Native.Nat.{◌≤◌, ◌-◌, ◌/◌}
+use Prim.Native.Nat.{◌-◌}
 use native.Mathlib.Numerals.{add-one}
-use mathlib.Core.Path.{◌≡◌, refl, ap, sym, ◌∙◌}
+use mathlib.Core.Path.{refl, ap, sym, ◌∙◌}
 use Rattle.word.proofs.Tests.{known_true, known_false}
-use lib.ListN.{length}
 use Rattle.table.specs.Row.{rows}
-use Rattle.table.specs.Table.{well_formed, lowest_from}
+use Rattle.table.specs.Table.{well_formed}
 use native.Mathlib.Omega.{arith}
 use Rattle.table.proofs.Formed.{lowest_here, lowest_later, lowest_none}
 use Rattle.table.proofs.check.lowest_ill_formed.Goals as goal

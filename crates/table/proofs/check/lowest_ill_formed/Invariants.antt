@@ -1,13 +1,8 @@
-use borrow.Author.Rules.{rules}
 use Prim.Native.Nat.{◌≤◌, ◌-◌, ◌/◌}
-use native.Mathlib.Numerals.{add-one}
-use mathlib.Core.Path.{◌≡◌, refl, ap, sym, ◌∙◌}
-use Rattle.word.proofs.Tests.{known_true, known_false}
+use mathlib.Core.Path.{◌≡◌}
 use lib.ListN.{length}
 use Rattle.table.specs.Row.{rows}
-use Rattle.table.specs.Table.{well_formed, lowest_from}
-use native.Mathlib.Omega.{arith}
-use Rattle.table.proofs.Formed.{lowest_here, lowest_later, lowest_none}
+use Rattle.table.specs.Table.{lowest_from}
 use Rattle.table.proofs.check.lowest_ill_formed.Given as goal
 
 abbrev pub invariant-loop-r : goal.invariant-loop-r

@@ -1,5 +1,4 @@
 -- `table::check::names_rows` meets its contract: its tests joined are the definition. Assumes nothing.
-use borrow.Author.Rules.{rules}
 use Rattle.table.specs.Table.{names_rows}
 use Rattle.table.proofs.check.names_rows.Goals as goal
 

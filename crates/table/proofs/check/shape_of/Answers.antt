@@ -1,5 +1,4 @@
 -- `table::check::shape_of` meets its contract: each arm's codes are a run of the list of shapes. Assumes nothing.
-use borrow.Author.Rules.{rules}
 use native.Mathlib.Omega.{arith}
 use mathlib.Core.Path.{refl, ◌∙◌}
 use Rattle.table.specs.Operands.{shapes}

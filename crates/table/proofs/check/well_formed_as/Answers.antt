@@ -1,5 +1,4 @@
 -- `table::check::well_formed_as` meets its contract: each return by the tests that led there. Assumes nothing.
-use borrow.Author.Rules.{rules}
 use native.Mathlib.Omega.{arith}
 use Rattle.word.proofs.Tests.{known_true, known_false}
 use Rattle.table.proofs.Formed.{other_kind, not_chained, formed_from_lem}

@@ -1,5 +1,4 @@
 -- `table::forms::fits_word` meets its contract: from 64 bits on, 2 ^ b is above every number that is held. Assumes nothing.
-use borrow.Author.Rules.{rules}
 use borrow.Author.Tests.{lt-ltb}
 use mathlib.Core.Path.{sym}
 use native.Mathlib.Nat.{lt_of_lt_of_le}

@@ -1,5 +1,4 @@
 -- `table::forms::has_pairs` meets its contract: the three calls' answers joined are the definition. Assumes nothing.
-use borrow.Author.Rules.{rules}
 use mathlib.Core.Bool.{◌&&◌}
 use mathlib.Core.Path.{ap₂}
 use Rattle.table.specs.Table.{fit_pairs}

@@ -1,5 +1,4 @@
 -- `table::forms::is_literal` meets its contract: its test and the call's answer joined are the definition. Assumes nothing.
-use borrow.Author.Rules.{rules}
 use Rattle.table.proofs.forms.is_literal.Goals as goal
 
 pub returns : goal.returns

@@ -1,6 +1,4 @@
 -- `table::forms::is_operand` meets its contract: each arm's tests joined are the definition at its operand. Assumes nothing.
-use borrow.Author.Rules.{rules}
-use mathlib.Core.Bool.{◌||◌}
 use mathlib.Core.Path.{ap₂}
 use Rattle.table.proofs.Formed.{takes_at}
 use Rattle.table.proofs.forms.is_operand.Goals as goal

@@ -1,6 +1,5 @@
 -- `table::references::bits_after` meets its contract: six bits for each digit after the first. Assumes nothing.
 use Rattle.table.proofs.FromLeft.{following, leading_63}
-use borrow.Author.Rules.{rules}
 use Rattle.table.proofs.references.bits_after.Goals as goal
 
 pub overflow_sub-result : goal.overflow_sub-result

@@ -1,12 +1,12 @@
 -- `table::references::is_reference` meets its contract. The loop's invariant: what is left is well named exactly when v is a
 -- reference, and has at most k + 1 digits. The measure is what is left. Assumes nothing.
-use Prim.Native.Nat.{ℕ, suc, ◌<◌, ◌^◌}
+use Prim.Native.Nat.{◌^◌}
 use native.Mathlib.Omega.{arith}
-use mathlib.Core.Path.{◌≡◌, ◌∙◌, sym}
+use mathlib.Core.Path.{◌∙◌, sym}
 use borrow.Author.Tests.{le-ltb}
 use Rattle.word.proofs.Tests.{known_true, known_false}
 use Rattle.table.specs.Reference.{is_reference, names_bug, names_field}
-use Rattle.table.proofs.Digits.{well_named, is_reference_named, named_last, goes_on, goes_wrong}
+use Rattle.table.proofs.Digits.{is_reference_named, named_last, goes_on, goes_wrong}
 use Rattle.table.proofs.references.is_reference.Goals as goal
 
 pub returns-then-v-ge-SIX_DIGITS : goal.returns-then-v-ge-SIX_DIGITS

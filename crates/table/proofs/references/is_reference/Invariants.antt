@@ -1,10 +1,7 @@
 use Prim.Native.Nat.{ℕ, suc, ◌<◌, ◌^◌}
-use native.Mathlib.Omega.{arith}
-use mathlib.Core.Path.{◌≡◌, ◌∙◌, sym}
-use borrow.Author.Tests.{le-ltb}
-use Rattle.word.proofs.Tests.{known_true, known_false}
-use Rattle.table.specs.Reference.{is_reference, names_bug, names_field}
-use Rattle.table.proofs.Digits.{well_named, is_reference_named, named_last, goes_on, goes_wrong}
+use mathlib.Core.Path.{◌≡◌}
+use Rattle.table.specs.Reference.{is_reference}
+use Rattle.table.proofs.Digits.{well_named}
 use Rattle.table.proofs.references.is_reference.Given as goal
 
 abbrev pub invariant-loop-rest : goal.invariant-loop-rest

@@ -2,7 +2,7 @@
 -- on, and the digits of v are those of what is left before them. The measure is what is left. Assumes nothing.
 use native.Mathlib.Omega.{arith}
 use mathlib.Core.Path.{refl}
-use Rattle.table.proofs.Digits.{Found, found_first, found_next, found_last, found_pos, found_digit}
+use Rattle.table.proofs.Digits.{found_first, found_next, found_last, found_pos, found_digit}
 use Rattle.table.proofs.references.names_in.Goals as goal
 
 pub loop-rest-init : goal.loop-rest-init

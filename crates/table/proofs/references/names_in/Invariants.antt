@@ -1,6 +1,4 @@
-use native.Mathlib.Omega.{arith}
-use mathlib.Core.Path.{refl}
-use Rattle.table.proofs.Digits.{Found, found_first, found_next, found_last, found_pos, found_digit}
+use Rattle.table.proofs.Digits.{Found}
 use Rattle.table.proofs.references.names_in.Given as goal
 
 abbrev pub invariant-loop-rest : goal.invariant-loop-rest

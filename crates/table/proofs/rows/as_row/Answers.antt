@@ -1,5 +1,4 @@
 -- `table::rows::as_row` meets its contract: the row built is the definition's own text. Assumes nothing.
-use borrow.Author.Rules.{rules}
 use mathlib.Core.Path.{refl}
 use Rattle.table.specs.Row.{as_row, pair_at}
 use Rattle.table.proofs.rows.as_row.Goals as goal

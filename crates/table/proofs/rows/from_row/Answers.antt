@@ -1,6 +1,5 @@
 -- `table::rows::from_row` meets its contract: all that is left from number 10 r on (`take_all`) is what the definition reads row r from.
 -- Assumes nothing.
-use borrow.Author.Rules.{rules}
 use Prim.Native.Nat.{◌*◌, ◌-◌}
 use native.Mathlib.Omega.{arith}
 use mathlib.Core.Path.{refl}

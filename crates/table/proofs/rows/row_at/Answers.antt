@@ -1,5 +1,4 @@
 -- `table::rows::row_at` meets its contract: the row of the part that `from_row` gives is row r. Assumes nothing.
-use borrow.Author.Rules.{rules}
 use mathlib.Core.Path.{◌∙◌}
 use Rattle.table.proofs.rows.row_at.Goals as goal
 

@@ -1,5 +1,5 @@
 -- `word::arithmetic::add` meets its contract: the wrap at 64 bits is a multiple of 2 ^ b. Assumes nothing.
-use Rattle.std.proofs.Common.{le_of_lt, rules}
+use Rattle.std.proofs.Common.{le_of_lt}
 use Rattle.word.specs.Word.{sum}
 use Rattle.word.proofs.Modulo.{mod_mod_le}
 use Rattle.word.proofs.arithmetic.add.Goals as goal

@@ -1,5 +1,5 @@
 -- `word::arithmetic::divide` meets its contract. Where it rounds up, the divisor is at least 2, so that the quotient has room. Assumes nothing.
-use Rattle.std.proofs.Common.{◌/◌, ◌≤◌, sym, ◌∙◌, mod-lt, mul-le-mul_left, div-add-mod', add-one, arith, rules}
+use Rattle.std.proofs.Common.{◌/◌, ◌≤◌, sym, ◌∙◌, mod-lt, mul-le-mul_left, div-add-mod', add-one, arith}
 use Rattle.word.proofs.Nearest.{rounds_up, rounds_down}
 use Rattle.word.proofs.arithmetic.divide.Goals as goal
 

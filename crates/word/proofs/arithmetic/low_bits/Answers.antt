@@ -1,5 +1,5 @@
 -- `word::arithmetic::low_bits` meets its contract: the remainder is by the power that `power` answers, which is not zero. Assumes nothing.
-use Rattle.std.proofs.Common.{arith, pow_pos, rules}
+use Rattle.std.proofs.Common.{arith, pow_pos}
 use Rattle.word.proofs.arithmetic.low_bits.Goals as goal
 
 pub nonzero_rem-result : goal.nonzero_rem-result

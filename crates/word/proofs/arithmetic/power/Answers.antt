@@ -1,5 +1,5 @@
 -- `word::arithmetic::power` meets its contract: a one shifted by less than 64 places stays. Assumes nothing.
-use Rattle.std.proofs.Common.{mod-eq_of_lt, one-mul, rules}
+use Rattle.std.proofs.Common.{mod-eq_of_lt, one-mul}
 use lib.Pow.{pow-lt}
 use Rattle.word.proofs.arithmetic.power.Goals as goal
 

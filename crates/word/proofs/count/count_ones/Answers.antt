@@ -1,5 +1,5 @@
 -- `word::count::count_ones` meets its contract: the ones of the low bits are those of the field (`ones_low`). Assumes nothing.
-use Rattle.std.proofs.Common.{arith, rules}
+use Rattle.std.proofs.Common.{arith}
 use lib.Count.{ones-le}
 use Rattle.word.proofs.Places.{ones_low}
 use Rattle.word.proofs.count.count_ones.Goals as goal

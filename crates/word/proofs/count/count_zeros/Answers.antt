@@ -1,6 +1,6 @@
 -- `word::count::count_zeros` meets its contract: the width less its ones is the definition, and the ones are at most the width (`ones_le`).
 -- Assumes nothing.
-use Rattle.std.proofs.Common.{◌≤◌, arith, rules}
+use Rattle.std.proofs.Common.{◌≤◌, arith}
 use Rattle.word.specs.Word.{zeros}
 use Rattle.word.proofs.Places.{ones_le}
 use Rattle.word.proofs.count.count_zeros.Goals as goal

@@ -1,6 +1,6 @@
 -- `word::count::leftmost_one` meets its contract: of 64 bits the zeros left of the first one are those outside the width and those within
 -- it (`leftmost_one`). Assumes nothing.
-use Rattle.std.proofs.Common.{ℕ, ◌-◌, ◌%◌, ◌^◌, ◌<◌, ◌≤◌, arith, rules}
+use Rattle.std.proofs.Common.{ℕ, ◌-◌, ◌%◌, ◌^◌, ◌<◌, ◌≤◌, arith}
 use lib.Count.{count_leading_zeros, leading_le}
 use Rattle.word.proofs.Places.{leftmost_one}
 use Rattle.word.proofs.count.leftmost_one.Goals as goal

@@ -1,6 +1,5 @@
 -- `word::count::leftmost_zero` meets its contract: the leftmost one of the complement is the leftmost zero (`leftmost_flip`).
 -- Assumes nothing.
-use Rattle.std.proofs.Common.{rules}
 use Rattle.word.proofs.Places.{leftmost_flip}
 use Rattle.word.proofs.count.leftmost_zero.Goals as goal
 

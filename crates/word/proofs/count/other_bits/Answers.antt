@@ -1,6 +1,6 @@
 -- `word::count::other_bits` meets its contract: the two calls' answers put one into the other are what is asked, as low bits are below 2^w.
 -- Assumes nothing.
-use Rattle.std.proofs.Common.{mod-lt, pow_pos, rules}
+use Rattle.std.proofs.Common.{mod-lt, pow_pos}
 use Rattle.word.proofs.count.other_bits.Goals as goal
 
 pub complement-requires : goal.complement-requires

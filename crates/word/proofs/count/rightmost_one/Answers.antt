@@ -1,6 +1,6 @@
 -- `word::count::rightmost_one` meets its contract: without a one it is the width (`rightmost_none`), and otherwise the zeros right of the
 -- one give its place (`rightmost_one`). Assumes nothing.
-use Rattle.std.proofs.Common.{◌≡◌, suc, ◌+◌, sym, ◌∙◌, arith, rules}
+use Rattle.std.proofs.Common.{◌≡◌, suc, ◌+◌, sym, ◌∙◌, arith}
 use lib.Count.{count_trailing_zeros, trailing_le}
 use Rattle.word.specs.Word.{rightmost}
 use Rattle.word.proofs.Places.{rightmost_one, rightmost_none}

@@ -1,6 +1,5 @@
 -- `word::count::rightmost_zero` meets its contract: the rightmost one of the complement is the rightmost zero (`rightmost_flip`).
 -- Assumes nothing.
-use Rattle.std.proofs.Common.{rules}
 use Rattle.word.proofs.Places.{rightmost_flip}
 use Rattle.word.proofs.count.rightmost_zero.Goals as goal
 

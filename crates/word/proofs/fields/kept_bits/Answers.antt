@@ -1,5 +1,5 @@
 -- `word::fields::kept_bits` meets its contract: the low bits of the field's width are the bits kept (`kept_is`). Assumes nothing.
-use Rattle.std.proofs.Common.{sym, arith, rules}
+use Rattle.std.proofs.Common.{sym, arith}
 use Rattle.word.specs.Field.{width}
 use Rattle.word.proofs.Field.{kept_is}
 use Rattle.word.proofs.fields.kept_bits.Goals as goal

@@ -1,5 +1,4 @@
 -- `word::fields::read_bits` meets its contract: the low bits of the word shifted right are the definition's own text. Assumes nothing.
-use Rattle.std.proofs.Common.{rules}
 use Rattle.word.specs.Field.{bits_of}
 use Rattle.word.proofs.fields.read_bits.Goals as goal
 

@@ -1,6 +1,6 @@
 -- `word::fields::read_field` meets its contract: with the field's width and places put in, the bits read are the definition's own text.
 -- Assumes nothing.
-use Rattle.std.proofs.Common.{arith, rules}
+use Rattle.std.proofs.Common.{arith}
 use Rattle.word.specs.Field.{width, shift, field_of, bits_of}
 use Rattle.word.proofs.fields.read_field.Goals as goal
 

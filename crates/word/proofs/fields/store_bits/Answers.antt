@@ -1,7 +1,7 @@
 -- `word::fields::store_bits` meets its contract. What the field reads is a part of the word, so it can be taken away; by the law of the new
 -- word the sum fits. Assumes nothing.
 use mathlib.Core.Path.{subst⁻¹}
-use Rattle.std.proofs.Common.{ℕ, ◌+◌, ◌%◌, ◌^◌, ◌<◌, mod-lt, arith, pow_pos, rules}
+use Rattle.std.proofs.Common.{ℕ, ◌+◌, ◌%◌, ◌^◌, ◌<◌, mod-lt, arith, pow_pos}
 use Rattle.word.specs.Field.{bits_of, stored_in}
 use Rattle.word.proofs.Field.{new_word, in_parts, by_difference}
 use Rattle.word.proofs.fields.store_bits.Goals as goal

@@ -1,6 +1,6 @@
 -- `word::fields::store_field` meets its contract: with the field's width and places put in, the word stored is the definition's own text.
 -- Assumes nothing.
-use Rattle.std.proofs.Common.{arith, rules}
+use Rattle.std.proofs.Common.{arith}
 use Rattle.word.specs.Field.{width, shift, kept, stored, stored_in}
 use Rattle.word.proofs.fields.store_field.Goals as goal
 

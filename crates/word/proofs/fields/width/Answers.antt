@@ -1,5 +1,5 @@
 -- `word::fields::width` meets its contract: the flag is one where there is a field, and zero at the null field. Assumes nothing.
-use Rattle.std.proofs.Common.{◌≡◌, ℕ, ◌<◌, ◌≤◌, Bool, true, false, leb, ◌⊎◌, refl, inl, inr, ⊎_elim, arith, rules, leb-false, leb-true}
+use Rattle.std.proofs.Common.{◌≡◌, ℕ, ◌<◌, ◌≤◌, Bool, true, false, leb, ◌⊎◌, refl, inl, inr, ⊎_elim, arith, leb-false, leb-true}
 use mir.Val.{bool_byte}
 use Rattle.word.specs.Field.{width}
 use Rattle.word.proofs.fields.width.Goals as goal

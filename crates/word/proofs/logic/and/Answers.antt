@@ -1,7 +1,6 @@
 -- `word::logic::and` meets its contract: the low bits of the "and" of two numbers are the definition's bits, place by place (`and_low`).
 -- Assumes nothing.
 use Rattle.word.proofs.Bitwise.{and_low}
-use Rattle.std.proofs.Common.{rules}
 use Rattle.word.proofs.logic.and.Goals as goal
 
 pub returns : goal.returns

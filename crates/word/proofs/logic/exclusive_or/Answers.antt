@@ -1,7 +1,6 @@
 -- `word::logic::exclusive_or` meets its contract: the low bits of the "exclusive or" of two numbers are the definition's bits, place by
 -- place (`xor_low`). Assumes nothing.
 use Rattle.word.proofs.Bitwise.{xor_low}
-use Rattle.std.proofs.Common.{rules}
 use Rattle.word.proofs.logic.exclusive_or.Goals as goal
 
 pub returns : goal.returns

@@ -1,6 +1,6 @@
 -- `word::shifts::left_shift` meets its contract. Each branch is one case of the definition; the 64 bits that a shift keeps have the same
 -- low bits (`mod_mod_le`). Assumes nothing.
-use Rattle.std.proofs.Common.{le_of_lt, arith, rules, le-leb}
+use Rattle.std.proofs.Common.{le_of_lt, arith, le-leb}
 use borrow.Author.Tests.{lt-leb}
 use Rattle.word.specs.Word.{left_shift}
 use Rattle.word.proofs.Modulo.{mod_mod_le}

@@ -1,5 +1,5 @@
 -- `word::shifts::right_shift` meets its contract. Each branch is one case of the definition. Assumes nothing.
-use Rattle.std.proofs.Common.{arith, rules, le-leb}
+use Rattle.std.proofs.Common.{arith, le-leb}
 use borrow.Author.Tests.{lt-leb}
 use Rattle.word.specs.Word.{right_shift}
 use Rattle.word.proofs.shifts.right_shift.Goals as goal
