@@ -3,6 +3,9 @@
 
 ghost use Rattle.std.specs.Prelude.{◌<◌};
 
+use std::io;
+use std::io::Write;
+
 // The octal digit of an entry that has this weight, as text.
 fn digit(entry: u16, weight: u16) -> u8
     requires { 0 < weight }
@@ -11,7 +14,7 @@ fn digit(entry: u16, weight: u16) -> u8
 }
 
 // Writes the line of an entry.
-fn write_entry(entry: u16) {
+fn write_entry(rt: &impl Print, entry: u16) -> io::Result<()> {
     let line = [
         digit(entry, 0o100000),
         digit(entry, 0o10000),
@@ -21,13 +24,14 @@ fn write_entry(entry: u16) {
         digit(entry, 1),
         b'\n',
     ];
-    io::write_all(1, &line);
+    io::writer(rt).write_all(&line)
 }
 
-fn main() {
+fn main(rt: HostRuntime) -> io::Result<()> {
     let mut list = [0u16; 1000];
     let count = character::triples::fill(&mut list);
     for k in 0..count {
-        write_entry(list[k]);
+        write_entry(&rt, list[k])?;
     }
+    Ok(())
 }
