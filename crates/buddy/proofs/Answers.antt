@@ -1,5 +1,5 @@
 -- The answer of the search for a run, in numbers and as it is. Assumes nothing.
-use Rattle.std.proofs.Common.{◌≡◌, ℕ, List, ◌∷◌, refl, ap, arith}
+use Rattle.std.proofs.Common.{◌≡◌, ℕ, List, [], ◌∷◌, refl, ap, arith}
 use Rattle.buddy.specs.declared.Found.{Found}
 use Rattle.buddy.specs.declared.Found.TheVariants.{At, Nothing}
 use Rattle.buddy.specs.Lowest.{first_of, told_found, first_told}

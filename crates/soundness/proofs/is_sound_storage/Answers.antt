@@ -1,4 +1,5 @@
 -- `soundness::is_sound_storage` meets its contract: each return by the set-up's numbers. Assumes nothing.
+use mathlib.Core.Bool.{◌||◌}
 use mathlib.Core.Path.{ap₂}
 use borrow.Author.Rules.{rules}
 use borrow.Author.Tests.{not-true, not-false}

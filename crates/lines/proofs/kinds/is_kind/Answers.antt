@@ -1,4 +1,5 @@
 -- `lines::kinds::is_kind` meets its contract: by the number. Assumes nothing.
+use mathlib.Core.Bool.{◌||◌}
 use mathlib.Core.Path.{sym, ap, ap₂, ◌∙◌}
 use Rattle.lines.specs.Words.{Kind, is_kind}
 use Rattle.lines.specs.Walking.{kind_of}

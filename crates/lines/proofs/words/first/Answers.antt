@@ -1,4 +1,5 @@
 -- `lines::words::first` meets its contract: an empty word has no byte (`none_first`), and another's first is read. Assumes nothing.
+use mathlib.Core.List.{[]}
 use mathlib.Core.Path.{◌≡◌, refl}
 use mathlib.Core.List.{List, ◌∷◌}
 use Prim.Native.Nat.{ℕ}

@@ -1,4 +1,5 @@
 -- `table::check::well_formed` meets its contract: its three tests joined are the definition. Assumes nothing.
+use mathlib.Core.Bool.{◌||◌}
 use mathlib.Core.Path.{ap₂}
 use Rattle.table.specs.Table.{well_formed}
 use Rattle.table.proofs.check.well_formed.Goals as goal

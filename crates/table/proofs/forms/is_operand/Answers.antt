@@ -1,4 +1,5 @@
 -- `table::forms::is_operand` meets its contract: each arm's tests joined are the definition at its operand. Assumes nothing.
+use mathlib.Core.Bool.{◌||◌}
 use mathlib.Core.Path.{ap₂}
 use Rattle.table.proofs.Formed.{takes_at}
 use Rattle.table.proofs.forms.is_operand.Goals as goal
