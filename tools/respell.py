@@ -24,8 +24,12 @@ DECLARED = re.compile(
 NAMED = re.compile(r'(?:^|(?<=[\s(){};,@"«»:\[\]|`]))([^\s(){}.;,@"«»:\[\]|`]+)')
 PATH = re.compile(r"(?m)^ *use [^\s{]+")
 COMMENT = re.compile(r"(?m)(?:^|(?<=\s))--(?:\s.*)?$")
+WORDS = {"abbrev", "unfoldable", "pub", "data", "record", "module", "let", "in", "where", "elim", "as"}
 IMPORT = re.compile(r"\buse (\w+)\.(\w+)[^\s{;]*\.\{([^}]*)\}")
-CONSTRUCTOR_ONLY = re.compile(r"/proofs/.*/Proof\.antt$")
+# Several constructors or fields of one type, as `inTests atThen : ..`.
+SEVERAL = re.compile(r"(?m)^ +((?:[^\s(){}.;,:\"=→λ]+ )+[^\s(){}.;,:\"=→λ]+) :(?= )")
+# A function's proof: what it declares is named after the code.
+OF_CODE = re.compile(r"/proofs/.+/(Proof|Answers|Invariants)\.antt$")
 CLAUSE = re.compile(r"\b(?:requires|ensures|ghost)\b[^{;]*\{")
 USE = re.compile(r"ghost\s+use\b[^;]*;", re.S)
 BOUND = re.compile(r"\b(?:ensures|requires|let|let mut)\s+(\w+)|\b(\w+)\s*:(?!:)")
@@ -66,9 +70,13 @@ def table(texts):
         if path.endswith(".antt"):
             for m in NAMED.finditer(PATH.sub("use ", COMMENT.sub("", text))):
                 has[m[1]].add(path)
-            if not CONSTRUCTOR_ONLY.search(path):
+            if not OF_CODE.search(path):
                 for m in DECLARED.finditer(text):
                     declared[m[1]].add(path)
+                for m in SEVERAL.finditer(text):
+                    for name in m[1].split():
+                        if name not in WORDS:
+                            declared[name].add(path)
         else:
             for a, b in clauses(text):
                 for m in WORD.finditer(text[a:b]):

@@ -17,7 +17,7 @@ use Rattle.table.specs.declared.Row.{Row}
 use Rattle.table.specs.declared.Shape.{Shape}
 use Rattle.table.specs.Operands.{takes, is_ref, is_literal, is_absent, is_zero, test_shape, shapes}
 use Rattle.table.specs.Reference.{is_reference, starts_with_bug, name_fields, names_field, names_bug, digits_of, reference_of, named}
-use Rattle.table.specs.Reference.{names as digitNames}
+use Rattle.table.specs.Reference.{names as digit_names}
 use Rattle.table.specs.Row.{length_fits, rows, row_at, first_test, first_operation, go_to_of, done}
 use Rattle.table.specs.Table.{chained, row_or_none, names_rows, complete, is_line, is_test, is_operation, fit_pairs, shape_of, shaped}
 use Rattle.table.specs.Table.{well_formed_as, well_formed, lowest_from, largest_name}
@@ -75,8 +75,8 @@ row_or_none_lem : (n count : ℕ) → row_or_none count n ≡ true → (n ≡ 0 
 row_or_none_lem n count h some = ⊎_elim (λ z. absurd (some (eqb-true n 0 z))) (λ k. ltb-true _ _ k) (or_parts (eqb n 0) (ltb n count) h)
 
 -- the fields that a reference names have name numbers below 36
-digit_below : (d n : ℕ) → digitNames 1 d ≡ true → d - 1 ≡ n → n < 36
-unfolding digitNames
+digit_below : (d n : ℕ) → digit_names 1 d ≡ true → d - 1 ≡ n → n < 36
+unfolding digit_names
 digit_below d n t e =
     let most : d ≤ 36 = leb-true _ _ (and_parts (leb 1 d) (leb d 36) t).1 in
     let least : 1 ≤ d = leb-true _ _ (and_parts (leb 1 d) (leb d 36) t).0 in
@@ -86,7 +86,7 @@ named_below : (ds : List ℕ) → name_fields ds ≡ true → (n : ℕ) → name
 unfolding name_fields names names_field
 named_below [] h n k = clash k
 named_below (d ∷ ds) h n k =
-    let (this, others) = and_parts (digitNames 1 d) (name_fields ds) h in
+    let (this, others) = and_parts (digit_names 1 d) (name_fields ds) h in
     ⊎_elim (λ e. digit_below d n this (eqb-true (d - 1) n e)) (λ q. named_below ds others n q) (or_parts (eqb (d - 1) n) _ k)
 
 reference_below : (v n : ℕ) → is_reference v ≡ true → names (reference_of v).fields n ≡ true → n < 36

@@ -27,14 +27,14 @@ use Rattle.machine.specs.Locate.{World, world, operand}
 use Rattle.machine.specs.Test.{Made, testing, satisfied as settled, settling, settled_as}
 use Rattle.machine.specs.Effects.{Effects, quietly}
 use Rattle.machine.specs.Operations.{meaning, the_name}
-use Rattle.machine.specs.Step.{next_line as nextLineOf, operation_or_exit, going_to, tests_step, in_turn, given, operation_step, return}
+use Rattle.machine.specs.Step.{next_line as next_line_of, operation_or_exit, going_to, tests_step, in_turn, given, operation_step, return}
 use Rattle.machine.specs.Step.{exit_step, plan, Outcome, unchanged, carried_out, outcome, step_at, step, engine_of, ending, run_from}
 use Rattle.machine.specs.Step.{RunOutcome, engine_ran}
 use Rattle.machine.proofs.Steps.{by_width}
 use Rattle.machine.proofs.Checks.{clash, need_passed, bind_passed, then_passed, passed_same}
 use Rattle.defined.specs.Paths.{Point, line, test, operation, exit, InChain, first, further, after_do, to_tests, no_tests}
 use Rattle.defined.specs.Paths.{next_test, satisfied, otherwise, doing, next_operation, going, next_line, returning, Fields}
-use Rattle.defined.specs.Paths.{no_field, after, passing, Path, start, along, StandsAt, at_test, at_operation as atOperationRow}
+use Rattle.defined.specs.Paths.{no_field, after, passing, Path, start, along, StandsAt, at_test, at_operation as at_operation_row}
 use Rattle.defined.specs.Paths.{SomeUse}
 use Rattle.defined.proofs.Refers.{row_refers, first_refers, second_refers}
 use Rattle.defined.proofs.Safe.{Safe, Known, other_refusal, safe_passed, safe_when, safe_need, safe_bind, safe_cond}
@@ -184,27 +184,27 @@ module _ (b : ℕ) (l : Lent) (none : SomeUse l.table → ⊥) (e : Engine) (h :
     chain some = let (low, high, kind, _) = usable_parts 1 b l.table n u in first low high kind some
 
     with_tests : (first_test row ≡ 0 → ⊥) → (holds : Bool)
-        → Standing l.table ds (cond holds (operation_or_exit (first_operation row) n) (nextLineOf row.next))
+        → Standing l.table ds (cond holds (operation_or_exit (first_operation row) n) (next_line_of row.next))
     unfolding passing
     with_tests some true = at_operation_or_exit l.table ds _ n fields (along (along p (to_tests some)) (satisfied {t = first_test row})) chain covers
     with_tests some false = at_next_line l.table ds _ fields (λ there. along (along p (to_tests some)) (otherwise {t = first_test row} there)) covers
 
     no_tests_lem : first_test row ≡ 0 → (count : ℕ) (holds : Bool) → settled b l.table (world e) row.code count (first_test row) ≡ passed holds
-        → Standing l.table ds (cond holds (operation_or_exit (first_operation row) n) (nextLineOf row.next))
+        → Standing l.table ds (cond holds (operation_or_exit (first_operation row) n) (next_line_of row.next))
     unfolding passing shaped
     no_tests_lem z count holds k =
         let (_, _, _, shape) = usable_parts 1 b l.table n u in
         let code = then_line (rows l.table) row shape z in
         let k₁ : settled b l.table (world e) 0 count 0 ≡ passed holds = rw (code, z) at k in
-        subst (λ t. Standing l.table ds (cond t (operation_or_exit (first_operation row) n) (nextLineOf row.next)))
+        subst (λ t. Standing l.table ds (cond t (operation_or_exit (first_operation row) n) (next_line_of row.next)))
         (then_holds b l.table (world e) count holds k₁)
         (at_operation_or_exit l.table ds _ n fields (along p (no_tests z)) chain covers)
 
     tests_standing : (holds : Bool) → settled b l.table (world e) row.code (rows l.table) (first_test row) ≡ passed holds
-        → Standing l.table ds (cond holds (operation_or_exit (first_operation row) n) (nextLineOf row.next))
+        → Standing l.table ds (cond holds (operation_or_exit (first_operation row) n) (next_line_of row.next))
     tests_standing holds k =
         elim (eqb (first_test row) 0) as (λ t. eqb (first_test row) 0 ≡ t
-        → Standing l.table ds (cond holds (operation_or_exit (first_operation row) n) (nextLineOf row.next))) [
+        → Standing l.table ds (cond holds (operation_or_exit (first_operation row) n) (next_line_of row.next))) [
           | true ↦ λ z. no_tests_lem (eqb-true _ _ z) (rows l.table) holds k
           | false ↦ λ z. with_tests (eqb-false _ _ z) holds
         ] refl
@@ -244,11 +244,11 @@ module _ (b : ℕ) (l : Lent) (none : SomeUse l.table → ⊥) (e : Engine) (h :
 
   -- where an exit that is no DONE goes
   exit_standing : (fields : Fields) → Path l.table (exit n) fields → Covers fields ds → (go_to_of (row_at l.table n) ≡ done → ⊥)
-      → Standing l.table ds (cond (eqb (go_to_of (row_at l.table n)) 0) (nextLineOf (row_at l.table n).next) (tests_of (go_to_of (row_at l.table n))))
+      → Standing l.table ds (cond (eqb (go_to_of (row_at l.table n)) 0) (next_line_of (row_at l.table n).next) (tests_of (go_to_of (row_at l.table n))))
   unfolding passing tests_of
   exit_standing fields p covers other =
       let row = row_at l.table n in
-      elim (eqb (go_to_of row) 0) as (λ t. eqb (go_to_of row) 0 ≡ t → Standing l.table ds (cond t (nextLineOf row.next) (tests_of (go_to_of row)))) [
+      elim (eqb (go_to_of row) 0) as (λ t. eqb (go_to_of row) 0 ≡ t → Standing l.table ds (cond t (next_line_of row.next) (tests_of (go_to_of row)))) [
         | true ↦ λ z. at_next_line l.table ds _ fields (λ some. along p (next_line (eqb-true _ _ z) some)) covers
         | false ↦ λ z. at_line refl fields (along p (going other (eqb-false _ _ z))) covers
       ] refl
@@ -261,7 +261,7 @@ module _ (b : ℕ) (l : Lent) (none : SomeUse l.table → ⊥) (e : Engine) (h :
         λ x k.
             let (u, k₁) = need_passed _ _ _ k in
             elim (eqb (go_to_of row) done) as (λ t. eqb (go_to_of row) done ≡ t
-            → cond t (return e) (passed (going_to (cond (eqb (go_to_of row) 0) (nextLineOf row.next) (tests_of (go_to_of row))) e)) ≡ passed x
+            → cond t (return e) (passed (going_to (cond (eqb (go_to_of row) 0) (next_line_of row.next) (tests_of (go_to_of row))) e)) ≡ passed x
             → OnPath l.table x.state.core) [
               | true ↦ λ g m. (return_right fields p covers (eqb-true _ _ g)).1 x m
               | false ↦ λ g m. subst (λ (x : Effects). OnPath l.table x.state.core) (passed_same m)
@@ -345,7 +345,7 @@ module _ (b : ℕ) (l : Lent) (none : SomeUse l.table → ⊥) (e : Engine) (h :
 
     known : Known (given l e).engine.state.core.definitions (row_refers (given l e).row)
     unfolding given on_core moved_to
-    known m used = covers m (used_defined l.table none (operation r n) r fields atOperationRow p m used)
+    known m used = covers m (used_defined l.table none (operation r n) r fields at_operation_row p m used)
 
     meaning_on_path : Right (meaning (row_at l.table r).code b (given l e))
     unfolding given on_core moved_to

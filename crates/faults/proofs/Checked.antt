@@ -10,7 +10,7 @@ use Rattle.lines.specs.Words.{spelled, same, is_empty, all, mode_words, is_mode,
 use Rattle.lines.specs.Forms.{is_test, is_operation}
 use Rattle.lines.specs.Grammar.{Line, Token, word, paren, is_line}
 use Rattle.lines.specs.Reading.{place_of, line_of}
-use Rattle.lines.specs.Walking.{State, at_start, broken, at_mode, inTests, atThen, in_operations, at_end, entered, step, fed, finished}
+use Rattle.lines.specs.Walking.{State, at_start, broken, at_mode, in_tests, at_then, in_operations, at_end, entered, step, fed, finished}
 use Rattle.faults.specs.Checking.{so_far, proper, enough, checked_step, checked_fed, only_if}
 use Rattle.lines.proofs.Lists.{true_false, and_both, all_first, all_others}
 use Rattle.faults.proofs.Walking.{fed_broken, fed_line}
@@ -79,17 +79,17 @@ module _ (b : ℕ) where
   bad_end at_start e = refl
   bad_end broken e = refl
   bad_end (at_mode label) e = refl
-  bad_end (inTests label mode tests) e = bad_line (so_far (inTests label mode tests)) e
-  bad_end (atThen label mode tests) e = refl
+  bad_end (in_tests label mode tests) e = bad_line (so_far (in_tests label mode tests)) e
+  bad_end (at_then label mode tests) e = refl
   bad_end (in_operations label mode tests operations) e = bad_line (so_far (in_operations label mode tests operations)) e
   bad_end (at_end l) e = bad_line l e
 
   worse_entered : (label : List ℕ) (mode : ℕ) → good (at_mode label) ≡ false → good (entered label mode) ≡ false
   unfolding entered so_far all
   worse_entered label mode e =
-      by_test (λ t. good (cond t (in_operations label mode [] []) (inTests label mode [])) ≡ false) (eqb mode 0)
+      by_test (λ t. good (cond t (in_operations label mode [] []) (in_tests label mode [])) ≡ false) (eqb mode 0)
       (λ _. worse (at_mode label) (in_operations label mode [] []) (weaker _ _ (λ x. x) (λ _. refl) (λ _. refl) (λ _. refl) (λ _. refl)) e)
-      (λ _. worse (at_mode label) (inTests label mode []) (weaker _ _ (λ x. x) (λ _. refl) (λ _. refl) (λ _. refl) (λ _. refl)) e)
+      (λ _. worse (at_mode label) (in_tests label mode []) (weaker _ _ (λ x. x) (λ _. refl) (λ _. refl) (λ _. refl) (λ _. refl)) e)
 
   -- a bad state stays bad
   bad_fed : (ts : List Token) (st : State) → good st ≡ false → only_if (is_line b) (finished (fed st ts)) ≡ none
@@ -101,22 +101,22 @@ module _ (b : ℕ) where
       by_test (λ t. only_if (is_line b) (finished (fed (cond t (entered label (place_of w mode_words)) broken) ts)) ≡ none) (is_mode w)
       (λ _. bad_fed ts (entered label (place_of w mode_words)) (worse_entered label (place_of w mode_words) e)) (λ _. none_left ts)
   bad_fed (paren args ∷ ts) (at_mode label) e = none_left ts
-  bad_fed (word w ∷ ts) (inTests label mode tests) e =
+  bad_fed (word w ∷ ts) (in_tests label mode tests) e =
       by_test (λ t. only_if (is_line b)
-      (finished (fed (cond t (atThen label mode tests) (at_end (record { label = label; mode = mode; tests = tests; operations = []; go_to_of = w })))
+      (finished (fed (cond t (at_then label mode tests) (at_end (record { label = label; mode = mode; tests = tests; operations = []; go_to_of = w })))
       ts)) ≡ none) (same w (spelled "THEN"))
-      (λ _. bad_fed ts (atThen label mode tests) e)
+      (λ _. bad_fed ts (at_then label mode tests) e)
       (λ _. bad_fed ts (at_end (record { label = label; mode = mode; tests = tests; operations = []; go_to_of = w }))
-      (worse (inTests label mode tests) (at_end (record { label = label; mode = mode; tests = tests; operations = []; go_to_of = w }))
+      (worse (in_tests label mode tests) (at_end (record { label = label; mode = mode; tests = tests; operations = []; go_to_of = w }))
       (weaker _ _ (λ x. x) (λ x. x) (λ x. x) (λ x. x) (λ _. refl)) e))
-  bad_fed (paren args ∷ ts) (inTests label mode tests) e =
-      bad_fed ts (inTests label mode (tests ++ args ∷ []))
-      (worse (inTests label mode tests) (inTests label mode (tests ++ args ∷ []))
+  bad_fed (paren args ∷ ts) (in_tests label mode tests) e =
+      bad_fed ts (in_tests label mode (tests ++ args ∷ []))
+      (worse (in_tests label mode tests) (in_tests label mode (tests ++ args ∷ []))
       (weaker _ _ (λ x. x) (λ x. x) (all_left (is_test b) tests (args ∷ [])) (λ x. x) (λ x. x)) e)
-  bad_fed (word w ∷ ts) (atThen label mode tests) e = none_left ts
-  bad_fed (paren args ∷ ts) (atThen label mode tests) e =
+  bad_fed (word w ∷ ts) (at_then label mode tests) e = none_left ts
+  bad_fed (paren args ∷ ts) (at_then label mode tests) e =
       bad_fed ts (in_operations label mode tests (args ∷ []))
-      (worse (atThen label mode tests) (in_operations label mode tests (args ∷ [])) (weaker _ _ (λ x. x) (λ x. x) (λ x. x) (λ _. refl) (λ x. x)) e)
+      (worse (at_then label mode tests) (in_operations label mode tests (args ∷ [])) (weaker _ _ (λ x. x) (λ x. x) (λ x. x) (λ _. refl) (λ x. x)) e)
   bad_fed (word w ∷ ts) (in_operations label mode tests operations) e =
       bad_fed ts (at_end (record { label = label; mode = mode; tests = tests; operations = operations; go_to_of = w }))
       (worse (in_operations label mode tests operations) (at_end (record { label = label; mode = mode; tests = tests; operations = operations; go_to_of = w }))
@@ -136,8 +136,8 @@ module _ (b : ℕ) where
   good_end at_start e = refl
   good_end broken e = refl
   good_end (at_mode label) e = refl
-  good_end (inTests label mode tests) e = good_line (so_far (inTests label mode tests)) e
-  good_end (atThen label mode tests) e = refl
+  good_end (in_tests label mode tests) e = good_line (so_far (in_tests label mode tests)) e
+  good_end (at_then label mode tests) e = refl
   good_end (in_operations label mode tests operations) e = good_line (so_far (in_operations label mode tests operations)) e
   good_end (at_end l) e = good_line l e
 

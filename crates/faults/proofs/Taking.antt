@@ -19,7 +19,7 @@ use Rattle.lines.specs.Words.{spelled, same, is_empty, all, mode_words, is_mode,
 use Rattle.lines.specs.Forms.{is_test, is_operation}
 use Rattle.lines.specs.Grammar.{Line, Token, word, paren}
 use Rattle.lines.specs.Reading.{behind, is_blank, split, place_of, Found, token_at}
-use Rattle.lines.specs.Walking.{token_of, State, at_start, broken, at_mode, inTests, atThen, in_operations, at_end, entered, step}
+use Rattle.lines.specs.Walking.{token_of, State, at_start, broken, at_mode, in_tests, at_then, in_operations, at_end, entered, step}
 use Rattle.faults.specs.Checking.{so_far, proper, checked_step, parens_on, parens_next, parens_in, after_next, after_in, tests_at}
 use Rattle.faults.specs.Checking.{operations_at, line_at, state_at}
 use Rattle.faults.specs.Checking.{Counted, Operating, PlacedAt, label_scan, mode_scan, then_scan, more_tests}
@@ -67,7 +67,7 @@ module _ (b : ℕ) where
   entered_proper : (label : List ℕ) (mode : ℕ) → (is_empty label || is_label label) ≡ true → leb mode 4 ≡ true → proper b (so_far (entered label mode)) ≡ true
   unfolding entered so_far proper all
   entered_proper label mode e f =
-      by_test (λ t. proper b (so_far (cond t (in_operations label mode [] []) (inTests label mode []))) ≡ true) (eqb mode 0) (λ _. rw (e, f)) (λ _. rw (e, f))
+      by_test (λ t. proper b (so_far (cond t (in_operations label mode [] []) (in_tests label mode []))) ≡ true) (eqb mode 0) (λ _. rw (e, f)) (λ _. rw (e, f))
 
   -- a step whose state is proper, or whose test decides
   step_kept : (st : State) (t : Token) → proper b (so_far (step st t)) ≡ true → checked_step b st t ≡ step st t
@@ -96,8 +96,8 @@ module _ (b : ℕ) where
   all_more p (y ∷ xs) x e = let (h, t) = and_true (p y) (all p xs) e in rw h (all_more p xs x t)
 
   module _ (label : List ℕ) (mode : ℕ) (tests : List (List (List ℕ))) where
-    test_proper : (args : List (List ℕ)) → Proper b (so_far (inTests label mode tests))
-        → proper b (so_far (inTests label mode (tests ++ args ∷ []))) ≡ is_test b args
+    test_proper : (args : List (List ℕ)) → Proper b (so_far (in_tests label mode tests))
+        → proper b (so_far (in_tests label mode (tests ++ args ∷ []))) ≡ is_test b args
     unfolding proper so_far all
     test_proper args p = rw (p.label, p.mode, all_more (is_test b) tests args p.tests) (and_right (is_test b args))
 
@@ -135,7 +135,7 @@ proper_label : (b : ℕ) (label : List ℕ) → proper b (so_far (at_mode label)
 unfolding so_far
 proper_label b label e = (proper_parts b (so_far (at_mode label)) e).label
 
-then_broke : (label : List ℕ) (mode : ℕ) (tests : List (List (List ℕ))) (w : List ℕ) → step (atThen label mode tests) (word w) ≡ broken
+then_broke : (label : List ℕ) (mode : ℕ) (tests : List (List (List ℕ))) (w : List ℕ) → step (at_then label mode tests) (word w) ≡ broken
 unfolding step
 then_broke label mode tests w = refl
 
@@ -180,17 +180,17 @@ module _ (b : ℕ) (w : List ℕ) (filled : is_empty w ≡ false) where
       step_tested b (in_operations label mode tests operations) (word w) (is_done w || is_label w)
       (go_proper b label mode tests operations w filled (record { label = p.label; mode = p.mode; tests = p.tests; operations = p.operations }))
 
-  tests_word : (label : List ℕ) (mode : ℕ) (tests : List (List (List ℕ))) → proper b (so_far (inTests label mode tests)) ≡ true
-      → checked_step b (inTests label mode tests) (word w)
-      ≡ cond (same w (spelled "THEN")) (atThen label mode tests)
+  tests_word : (label : List ℕ) (mode : ℕ) (tests : List (List (List ℕ))) → proper b (so_far (in_tests label mode tests)) ≡ true
+      → checked_step b (in_tests label mode tests) (word w)
+      ≡ cond (same w (spelled "THEN")) (at_then label mode tests)
       (cond (is_done w || is_label w) (at_end (record { label = label; mode = mode; tests = tests; operations = []; go_to_of = w })) broken)
   unfolding checked_step step so_far
   tests_word label mode tests e =
-      let p = proper_parts b (so_far (inTests label mode tests)) e in
+      let p = proper_parts b (so_far (in_tests label mode tests)) e in
       let l : Line = record { label = label; mode = mode; tests = tests; operations = []; go_to_of = w } in
       let its-end = go_proper b label mode tests [] w filled (record { label = p.label; mode = p.mode; tests = p.tests; operations = p.operations }) in
-      by_test (λ t. cond (proper b (so_far (cond t (atThen label mode tests) (at_end l)))) (cond t (atThen label mode tests) (at_end l)) broken
-      ≡ cond t (atThen label mode tests) (cond (is_done w || is_label w) (at_end l) broken)) (same w (spelled "THEN"))
+      by_test (λ t. cond (proper b (so_far (cond t (at_then label mode tests) (at_end l)))) (cond t (at_then label mode tests) (at_end l)) broken
+      ≡ cond t (at_then label mode tests) (cond (is_done w || is_label w) (at_end l) broken)) (same w (spelled "THEN"))
       (λ _. rw e) (λ _. rw its-end)
 
 module _ (s : List ℕ) where
@@ -226,7 +226,7 @@ module _ (s : List ℕ) where
         ∙ sym (mode_word b w filled (slice c.from c.label s) (proper_label b (slice c.from c.label s) e))
     word_state (Tests c) e =
         state_cond (same w (spelled "THEN")) (Then (then_scan c end)) (go_walk s (then_scan c end) at end)
-        ∙ ap (cond (same w (spelled "THEN")) (atThen (slice c.from c.label s) c.mode (tests_at s c)))
+        ∙ ap (cond (same w (spelled "THEN")) (at_then (slice c.from c.label s) c.mode (tests_at s c)))
         (state_cond (is_done w || is_label w) (End (go_scan (then_scan c end) at end)) Broken)
         ∙ sym (tests_word b w filled (slice c.from c.label s) c.mode (tests_at s c) e)
     word_state (Then c) e = sym (step_broke b (state_at s (Then c)) (word w) (then_broke (slice c.from c.label s) c.mode (tests_at s c) w))
@@ -331,9 +331,9 @@ module _ (s : List ℕ) where
         let label = slice c.from c.label s in
         let more = (more_here c.tests c.test h.tests h.left).0 in
         state_cond (is_test b args) (Tests (more_tests c)) Broken
-        ∙ ap (λ (us : List (List (List ℕ))). cond (is_test b args) (inTests label c.mode us) broken) more
-        ∙ sym (step_tested b (inTests label c.mode ts) (paren args) (is_test b args)
-        (test_proper b label c.mode ts args (proper_parts b (so_far (inTests label c.mode ts)) e)))
+        ∙ ap (λ (us : List (List (List ℕ))). cond (is_test b args) (in_tests label c.mode us) broken) more
+        ∙ sym (step_tested b (in_tests label c.mode ts) (paren args) (is_test b args)
+        (test_proper b label c.mode ts args (proper_parts b (so_far (in_tests label c.mode ts)) e)))
     paren_state b (Then c) h e =
         let ts = tests_at s c in
         let label = slice c.from c.label s in
@@ -343,7 +343,7 @@ module _ (s : List ℕ) where
         ∙ ap (λ (us : List (List (List ℕ))). us ++ args ∷ []) none_yet in
         state_cond (is_operation b args) (Operations (more_operations c)) Broken
         ∙ ap (λ (us : List (List (List ℕ))). cond (is_operation b args) (in_operations label c.mode ts us) broken) more
-        ∙ sym (step_tested b (atThen label c.mode ts) (paren args) (is_operation b args)
+        ∙ sym (step_tested b (at_then label c.mode ts) (paren args) (is_operation b args)
         (operation_proper b label c.mode ts [] args (proper_parts b (so_far (in_operations label c.mode ts [])) e)))
     paren_state b (Operations c) h e =
         let os = operations_at s c in

@@ -1,6 +1,6 @@
 -- A line read token by token is the line that `line_of` gives. Assumes nothing.
 use Prim.Native.Nat.{ℕ}
-use mathlib.Core.Path.{◌≡◌, refl}
+use mathlib.Core.Path.{◌≡◌, refl, sym, subst}
 use mathlib.Core.Bool.{cond}
 use mathlib.Core.List.{List, [], ◌∷◌, ◌++◌, append-nil, append_assoc}
 use mathlib.Core.Option.{none}
@@ -9,7 +9,7 @@ use Rattle.word.proofs.Tests.{by_test}
 use Rattle.lines.specs.Words.{spelled, same, is_empty, mode_words, is_mode}
 use Rattle.lines.specs.Grammar.{Line, Token, word, paren}
 use Rattle.lines.specs.Reading.{parens, after_parens, ending, operating, tested, moded, place_of, labelled, line_of}
-use Rattle.lines.specs.Walking.{at_start, broken, at_mode, inTests, atThen, in_operations, at_end, entered, step, fed, finished}
+use Rattle.lines.specs.Walking.{at_start, broken, at_mode, in_tests, at_then, in_operations, at_end, entered, step, fed, finished}
 
 pub fed_broken : (ts : List Token) → finished (fed broken ts) ≡ none
 unfolding fed step finished
@@ -29,20 +29,21 @@ module _ (label : List ℕ) (mode : ℕ) (tests : List (List (List ℕ))) where
   fed_operations os (word w ∷ t ∷ ts) = fed_broken ts
   fed_operations os (paren args ∷ ts) = rw (fed_operations (os ++ args ∷ []) ts, append_assoc os (args ∷ []) (parens ts))
 
-  fed_then : (ts : List Token) → finished (fed (atThen label mode tests) ts) ≡ cond (is_empty (parens ts)) none (operating label mode tests ts)
+  fed_then : (ts : List Token) → finished (fed (at_then label mode tests) ts) ≡ cond (is_empty (parens ts)) none (operating label mode tests ts)
   unfolding fed step finished operating parens after_parens
   fed_then [] = refl
   fed_then (word w ∷ ts) = fed_broken ts
   fed_then (paren args ∷ ts) = fed_operations (args ∷ []) ts
 
 fed_tests : (label : List ℕ) (mode : ℕ) (tests : List (List (List ℕ))) (ts : List Token)
-    → finished (fed (inTests label mode tests) ts) ≡ tested label mode (tests ++ parens ts) (after_parens ts)
+    → finished (fed (in_tests label mode tests) ts) ≡ tested label mode (tests ++ parens ts) (after_parens ts)
 unfolding fed step finished tested ending parens after_parens
 fed_tests label mode tests [] = rw (append-nil tests)
 fed_tests label mode tests (word w ∷ ts) =
-    rw (append-nil tests)
+    subst (λ (xs : List (List (List ℕ))). finished (fed (in_tests label mode tests) (word w ∷ ts)) ≡ tested label mode xs (word w ∷ ts))
+    (sym (append-nil tests))
     (by_test (λ t. finished
-    (fed (cond t (atThen label mode tests) (at_end (record { label = label; mode = mode; tests = tests; operations = []; go_to_of = w }))) ts)
+    (fed (cond t (at_then label mode tests) (at_end (record { label = label; mode = mode; tests = tests; operations = []; go_to_of = w }))) ts)
     ≡ cond t (cond (is_empty (parens ts)) none (operating label mode tests ts)) (ending label mode tests [] (word w ∷ ts))) (same w (spelled "THEN"))
     (λ _. fed_then label mode tests ts) (λ _. fed_go_to ts))
   where
@@ -56,7 +57,7 @@ fed_tests label mode tests (paren args ∷ ts) =
 fed_entered : (label : List ℕ) (mode : ℕ) (ts : List Token) → finished (fed (entered label mode) ts) ≡ moded label mode ts
 unfolding entered moded operating
 fed_entered label mode ts =
-    by_test (λ t. finished (fed (cond t (in_operations label mode [] []) (inTests label mode [])) ts)
+    by_test (λ t. finished (fed (cond t (in_operations label mode [] []) (in_tests label mode [])) ts)
     ≡ cond t (operating label mode [] ts) (tested label mode (parens ts) (after_parens ts))) (eqb mode 0)
     (λ _. fed_operations label mode [] [] ts) (λ _. fed_tests label mode [] ts)
 

@@ -15,7 +15,7 @@ use Rattle.lines.specs.Words.{spelled, same, is_empty, all, mode_words, is_mode,
 use Rattle.lines.specs.Forms.{is_test, is_operation}
 use Rattle.lines.specs.Grammar.{Line, Token, word, paren, Piece, Typed}
 use Rattle.lines.specs.Reading.{front, behind, is_blank, split, place_of, Found, token_at}
-use Rattle.lines.specs.Walking.{State, at_start, broken, at_mode, inTests, atThen, in_operations, at_end, step, finished}
+use Rattle.lines.specs.Walking.{State, at_start, broken, at_mode, in_tests, at_then, in_operations, at_end, step, finished}
 
 abbrev pub no_line_of : Line
 no_line_of = record { label = []; mode = 0; tests = []; operations = []; go_to_of = [] }
@@ -25,8 +25,8 @@ unfoldable pub so_far : State → Line
 so_far at_start = no_line_of
 so_far broken = no_line_of
 so_far (at_mode label) = record { label = label; mode = 0; tests = []; operations = []; go_to_of = [] }
-so_far (inTests label mode tests) = record { label = label; mode = mode; tests = tests; operations = []; go_to_of = [] }
-so_far (atThen label mode tests) = record { label = label; mode = mode; tests = tests; operations = []; go_to_of = [] }
+so_far (in_tests label mode tests) = record { label = label; mode = mode; tests = tests; operations = []; go_to_of = [] }
+so_far (at_then label mode tests) = record { label = label; mode = mode; tests = tests; operations = []; go_to_of = [] }
 so_far (in_operations label mode tests operations) =
     record { label = label; mode = mode; tests = tests; operations = operations; go_to_of = [] }
 so_far (at_end l) = l
@@ -138,8 +138,8 @@ module _ (s : List ℕ) where
   state_at Start = at_start
   state_at Broken = broken
   state_at (Mode c) = at_mode (slice c.from c.label s)
-  state_at (Tests c) = inTests (slice c.from c.label s) c.mode (tests_at c)
-  state_at (Then c) = atThen (slice c.from c.label s) c.mode (tests_at c)
+  state_at (Tests c) = in_tests (slice c.from c.label s) c.mode (tests_at c)
+  state_at (Then c) = at_then (slice c.from c.label s) c.mode (tests_at c)
   state_at (Operations c) = in_operations (slice c.from c.label s) c.mode (tests_at c) (operations_at c)
   state_at (End c) = at_end (line_at c)
 

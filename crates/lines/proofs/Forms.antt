@@ -11,7 +11,7 @@ use Rattle.lines.specs.Words.{spelled, same, all, any, is_digit, is_letter, is_n
 use Rattle.lines.specs.Words.{is_decimal, is_octal, is_hollerith}
 use Rattle.lines.specs.Words.{is_field_name, is_definition, is_label, is_mode, is_done, mode_words, starts_with, Kind, itself, field}
 use Rattle.lines.specs.Words.{decimal, octal, hollerith}
-use Rattle.lines.specs.Words.{fieldOrDecimal, fieldOrOctal, name, definition, symbol, is_kind}
+use Rattle.lines.specs.Words.{field_or_decimal, field_or_octal, name, definition, symbol, is_kind}
 use Rattle.lines.specs.Forms.{Form, test_forms, operation_forms, are_kinds, fits, form_of}
 use Rattle.lines.proofs.Lists.{true_false, same_eq, all_first, all_others}
 
@@ -22,8 +22,8 @@ is_itself field = false
 is_itself decimal = false
 is_itself octal = false
 is_itself hollerith = false
-is_itself fieldOrDecimal = false
-is_itself fieldOrOctal = false
+is_itself field_or_decimal = false
+is_itself field_or_octal = false
 is_itself name = false
 is_itself definition = false
 is_itself symbol = false
@@ -34,8 +34,8 @@ word_of field = []
 word_of decimal = []
 word_of octal = []
 word_of hollerith = []
-word_of fieldOrDecimal = []
-word_of fieldOrOctal = []
+word_of field_or_decimal = []
+word_of field_or_octal = []
 word_of name = []
 word_of definition = []
 word_of symbol = []
@@ -62,8 +62,8 @@ module _ (b : ℕ) where
   itself_word decimal w is e = absurd (true_false is refl)
   itself_word octal w is e = absurd (true_false is refl)
   itself_word hollerith w is e = absurd (true_false is refl)
-  itself_word fieldOrDecimal w is e = absurd (true_false is refl)
-  itself_word fieldOrOctal w is e = absurd (true_false is refl)
+  itself_word field_or_decimal w is e = absurd (true_false is refl)
+  itself_word field_or_octal w is e = absurd (true_false is refl)
   itself_word name w is e = absurd (true_false is refl)
   itself_word definition w is e = absurd (true_false is refl)
   itself_word symbol w is e = absurd (true_false is refl)

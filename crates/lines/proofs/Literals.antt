@@ -82,11 +82,11 @@ module _ (base limit : ℕ) (w : List ℕ) where
   valued_more {v} {i} h l e s =
       let one : i + 1 ≡ suc i = omega arith in
       let least = digit_least (get_or w i 0) e in
-      let same-value : v * base + get_or w i 0 - 48 ≡ v * base + (get_or w i 0 - 48) = omega arith in
+      let same_value : v * base + get_or w i 0 - 48 ≡ v * base + (get_or w i 0 - 48) = omega arith in
       record {
         inside = omega arith;
         digits = rw one (sym (digits_more i l e) ∙ h.digits);
-        value = rw (one, same-value) (sym (value_more v i l) ∙ h.value);
+        value = rw (one, same_value) (sym (value_more v i l) ∙ h.value);
         small = s;
       }
 

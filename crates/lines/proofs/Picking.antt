@@ -11,7 +11,7 @@ use lib.Seq.{slice, drop-cons}
 use Rattle.word.proofs.Tests.{by_test, by_eqb, and_true}
 use Rattle.table.specs.declared.Pair.{Pair}
 use Rattle.table.specs.declared.Row.{Row}
-use Rattle.lines.specs.Words.{all, any, Kind, itself, field, decimal, octal, hollerith, fieldOrDecimal, fieldOrOctal}
+use Rattle.lines.specs.Words.{all, any, Kind, itself, field, decimal, octal, hollerith, field_or_decimal, field_or_octal}
 use Rattle.lines.specs.Words.{name, definition, symbol, is_kind, pair_of, absent_pair, gives_name, name_number, last_byte_of}
 use Rattle.lines.specs.Forms.{Form, test_forms, operation_forms, are_kinds, fits, no_form, form_of, name_in, operand_at, pairs_of}
 use Rattle.lines.specs.Forms.{row_in}
@@ -234,10 +234,10 @@ module _ (n : ℕ) where
   from·7 = cond (eqb n 7) name (cond (eqb n 8) definition last)
 
   abbrev from·6 : Kind
-  from·6 = cond (eqb n 6) fieldOrOctal from·7
+  from·6 = cond (eqb n 6) field_or_octal from·7
 
   abbrev from·5 : Kind
-  from·5 = cond (eqb n 5) fieldOrDecimal from·6
+  from·5 = cond (eqb n 5) field_or_decimal from·6
 
   abbrev from·4 : Kind
   from·4 = cond (eqb n 4) hollerith from·5
@@ -255,8 +255,8 @@ module _ (n : ℕ) where
       (passed 2 decimal from·3 (λ e. rw e)
       (passed 3 octal from·4 (λ e. rw e)
       (passed 4 hollerith from·5 (λ e. rw e)
-      (passed 5 fieldOrDecimal from·6 (λ e. rw e)
-      (passed 6 fieldOrOctal from·7 (λ e. rw e) (by_names (eqb n 7) (eqb n 8) (eqb n 9)))))))
+      (passed 5 field_or_decimal from·6 (λ e. rw e)
+      (passed 6 field_or_octal from·7 (λ e. rw e) (by_names (eqb n 7) (eqb n 8) (eqb n 9)))))))
 
 -- the name that arguments give, one kind after the other
 module _ (ns s : List ℕ) (four : length ns ≡ 4) where

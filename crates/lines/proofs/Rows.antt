@@ -18,7 +18,7 @@ use Rattle.table.specs.Table.{largest_name, fit_pairs, shape_of}
 use Rattle.table.specs.Table as check
 use Rattle.lines.specs.Words.{all, any, is_digit, is_name, name_number, literal, starts_with}
 use Rattle.lines.specs.Words.{is_field, is_field_name, is_definition}
-use Rattle.lines.specs.Words.{Kind, itself, field, decimal, octal, hollerith, fieldOrDecimal, fieldOrOctal, name, definition}
+use Rattle.lines.specs.Words.{Kind, itself, field, decimal, octal, hollerith, field_or_decimal, field_or_octal, name, definition}
 use Rattle.lines.specs.Words.{symbol, is_kind, absent_pair, literal_pair, field_pair, pair_of, gives_name, is_symbol, last_byte_of}
 use Rattle.lines.specs.Forms.{Form, test_forms, operation_forms, are_kinds, fits, form_of, name_in, symbols_in, operand_at}
 use Rattle.lines.specs.Forms.{pairs_of, row_in}
@@ -27,66 +27,66 @@ use Rattle.lines.proofs.Operands.{field_reference, decimal_small, octal_small, h
 
 -- what a kind becomes: a literal, a reference, one of the two, zero, a row
 pub data Sort : Type 0 where
-  aLiteral aReference anEither aZero aRow nothing : Sort
+  a_literal a_reference an_either a_zero a_row nothing : Sort
 
 unfoldable pub sort_of : Kind → Sort
-sort_of (itself v) = aZero
-sort_of field = aReference
-sort_of decimal = aLiteral
-sort_of octal = aLiteral
-sort_of hollerith = aLiteral
-sort_of fieldOrDecimal = anEither
-sort_of fieldOrOctal = anEither
+sort_of (itself v) = a_zero
+sort_of field = a_reference
+sort_of decimal = a_literal
+sort_of octal = a_literal
+sort_of hollerith = a_literal
+sort_of field_or_decimal = an_either
+sort_of field_or_octal = an_either
 sort_of name = nothing
 sort_of definition = nothing
-sort_of symbol = aRow
+sort_of symbol = a_row
 
 -- a pair of that sort, in a table of this many rows
 unfoldable pub Sorted : ℕ → ℕ → Sort → Pair → Type 0
-Sorted b rows aLiteral p = is_literal b p ≡ true
-Sorted b rows aReference p = is_ref p ≡ true
-Sorted b rows anEither p = (is_literal b p || is_ref p) ≡ true
-Sorted b rows aZero p = is_zero p ≡ true
-Sorted b rows aRow p = takes b rows Line p ≡ true
+Sorted b rows a_literal p = is_literal b p ≡ true
+Sorted b rows a_reference p = is_ref p ≡ true
+Sorted b rows an_either p = (is_literal b p || is_ref p) ≡ true
+Sorted b rows a_zero p = is_zero p ≡ true
+Sorted b rows a_row p = takes b rows Line p ≡ true
 Sorted b rows nothing p = Unit
 
 unfoldable pub allowed : Operand → Sort → Bool
 allowed Absent s = false
-allowed Literal aLiteral = true
-allowed Literal aReference = false
-allowed Literal anEither = false
-allowed Literal aZero = false
-allowed Literal aRow = false
+allowed Literal a_literal = true
+allowed Literal a_reference = false
+allowed Literal an_either = false
+allowed Literal a_zero = false
+allowed Literal a_row = false
 allowed Literal nothing = false
-allowed Reference aLiteral = false
-allowed Reference aReference = true
-allowed Reference anEither = false
-allowed Reference aZero = false
-allowed Reference aRow = false
+allowed Reference a_literal = false
+allowed Reference a_reference = true
+allowed Reference an_either = false
+allowed Reference a_zero = false
+allowed Reference a_row = false
 allowed Reference nothing = false
-allowed Either aLiteral = true
-allowed Either aReference = true
-allowed Either anEither = true
-allowed Either aZero = false
-allowed Either aRow = false
+allowed Either a_literal = true
+allowed Either a_reference = true
+allowed Either an_either = true
+allowed Either a_zero = false
+allowed Either a_row = false
 allowed Either nothing = false
-allowed ReferenceOrAbsent aLiteral = false
-allowed ReferenceOrAbsent aReference = true
-allowed ReferenceOrAbsent anEither = false
-allowed ReferenceOrAbsent aZero = false
-allowed ReferenceOrAbsent aRow = false
+allowed ReferenceOrAbsent a_literal = false
+allowed ReferenceOrAbsent a_reference = true
+allowed ReferenceOrAbsent an_either = false
+allowed ReferenceOrAbsent a_zero = false
+allowed ReferenceOrAbsent a_row = false
 allowed ReferenceOrAbsent nothing = false
-allowed ReferenceOrZero aLiteral = false
-allowed ReferenceOrZero aReference = true
-allowed ReferenceOrZero anEither = false
-allowed ReferenceOrZero aZero = true
-allowed ReferenceOrZero aRow = false
+allowed ReferenceOrZero a_literal = false
+allowed ReferenceOrZero a_reference = true
+allowed ReferenceOrZero an_either = false
+allowed ReferenceOrZero a_zero = true
+allowed ReferenceOrZero a_row = false
 allowed ReferenceOrZero nothing = false
-allowed Line aLiteral = false
-allowed Line aReference = false
-allowed Line anEither = false
-allowed Line aZero = false
-allowed Line aRow = true
+allowed Line a_literal = false
+allowed Line a_reference = false
+allowed Line an_either = false
+allowed Line a_zero = false
+allowed Line a_row = true
 allowed Line nothing = false
 
 or_left : (s t : Bool) → s ≡ true → (s || t) ≡ true
@@ -101,41 +101,41 @@ module _ (b rows : ℕ) where
   allowed_takes : (op : Operand) (s : Sort) (p : Pair) → allowed op s ≡ true → Sorted b rows s p → takes b rows op p ≡ true
   unfolding allowed Sorted
   allowed_takes Absent s p a h = absurd (true_false a refl)
-  allowed_takes Literal aLiteral p a h = h
-  allowed_takes Literal aReference p a h = absurd (true_false a refl)
-  allowed_takes Literal anEither p a h = absurd (true_false a refl)
-  allowed_takes Literal aZero p a h = absurd (true_false a refl)
-  allowed_takes Literal aRow p a h = absurd (true_false a refl)
+  allowed_takes Literal a_literal p a h = h
+  allowed_takes Literal a_reference p a h = absurd (true_false a refl)
+  allowed_takes Literal an_either p a h = absurd (true_false a refl)
+  allowed_takes Literal a_zero p a h = absurd (true_false a refl)
+  allowed_takes Literal a_row p a h = absurd (true_false a refl)
   allowed_takes Literal nothing p a h = absurd (true_false a refl)
-  allowed_takes Reference aLiteral p a h = absurd (true_false a refl)
-  allowed_takes Reference aReference p a h = h
-  allowed_takes Reference anEither p a h = absurd (true_false a refl)
-  allowed_takes Reference aZero p a h = absurd (true_false a refl)
-  allowed_takes Reference aRow p a h = absurd (true_false a refl)
+  allowed_takes Reference a_literal p a h = absurd (true_false a refl)
+  allowed_takes Reference a_reference p a h = h
+  allowed_takes Reference an_either p a h = absurd (true_false a refl)
+  allowed_takes Reference a_zero p a h = absurd (true_false a refl)
+  allowed_takes Reference a_row p a h = absurd (true_false a refl)
   allowed_takes Reference nothing p a h = absurd (true_false a refl)
-  allowed_takes Either aLiteral p a h = or_left (is_literal b p) (is_ref p) h
-  allowed_takes Either aReference p a h = or_right (is_literal b p) h
-  allowed_takes Either anEither p a h = h
-  allowed_takes Either aZero p a h = absurd (true_false a refl)
-  allowed_takes Either aRow p a h = absurd (true_false a refl)
+  allowed_takes Either a_literal p a h = or_left (is_literal b p) (is_ref p) h
+  allowed_takes Either a_reference p a h = or_right (is_literal b p) h
+  allowed_takes Either an_either p a h = h
+  allowed_takes Either a_zero p a h = absurd (true_false a refl)
+  allowed_takes Either a_row p a h = absurd (true_false a refl)
   allowed_takes Either nothing p a h = absurd (true_false a refl)
-  allowed_takes ReferenceOrAbsent aLiteral p a h = absurd (true_false a refl)
-  allowed_takes ReferenceOrAbsent aReference p a h = or_left (is_ref p) (is_absent p) h
-  allowed_takes ReferenceOrAbsent anEither p a h = absurd (true_false a refl)
-  allowed_takes ReferenceOrAbsent aZero p a h = absurd (true_false a refl)
-  allowed_takes ReferenceOrAbsent aRow p a h = absurd (true_false a refl)
+  allowed_takes ReferenceOrAbsent a_literal p a h = absurd (true_false a refl)
+  allowed_takes ReferenceOrAbsent a_reference p a h = or_left (is_ref p) (is_absent p) h
+  allowed_takes ReferenceOrAbsent an_either p a h = absurd (true_false a refl)
+  allowed_takes ReferenceOrAbsent a_zero p a h = absurd (true_false a refl)
+  allowed_takes ReferenceOrAbsent a_row p a h = absurd (true_false a refl)
   allowed_takes ReferenceOrAbsent nothing p a h = absurd (true_false a refl)
-  allowed_takes ReferenceOrZero aLiteral p a h = absurd (true_false a refl)
-  allowed_takes ReferenceOrZero aReference p a h = or_left (is_ref p) (is_zero p) h
-  allowed_takes ReferenceOrZero anEither p a h = absurd (true_false a refl)
-  allowed_takes ReferenceOrZero aZero p a h = or_right (is_ref p) h
-  allowed_takes ReferenceOrZero aRow p a h = absurd (true_false a refl)
+  allowed_takes ReferenceOrZero a_literal p a h = absurd (true_false a refl)
+  allowed_takes ReferenceOrZero a_reference p a h = or_left (is_ref p) (is_zero p) h
+  allowed_takes ReferenceOrZero an_either p a h = absurd (true_false a refl)
+  allowed_takes ReferenceOrZero a_zero p a h = or_right (is_ref p) h
+  allowed_takes ReferenceOrZero a_row p a h = absurd (true_false a refl)
   allowed_takes ReferenceOrZero nothing p a h = absurd (true_false a refl)
-  allowed_takes Line aLiteral p a h = absurd (true_false a refl)
-  allowed_takes Line aReference p a h = absurd (true_false a refl)
-  allowed_takes Line anEither p a h = absurd (true_false a refl)
-  allowed_takes Line aZero p a h = absurd (true_false a refl)
-  allowed_takes Line aRow p a h = h
+  allowed_takes Line a_literal p a h = absurd (true_false a refl)
+  allowed_takes Line a_reference p a h = absurd (true_false a refl)
+  allowed_takes Line an_either p a h = absurd (true_false a refl)
+  allowed_takes Line a_zero p a h = absurd (true_false a refl)
+  allowed_takes Line a_row p a h = h
   allowed_takes Line nothing p a h = absurd (true_false a refl)
 
   either_sorted : (v : ℕ) (w : List ℕ) (t : Bool) → is_field w ≡ t → (t ≡ false → ltb v (2 ^ b) ≡ true)
@@ -152,8 +152,8 @@ module _ (b rows : ℕ) where
   kind_sorted at decimal w e h = decimal_small b w e
   kind_sorted at octal w e h = octal_small b w e
   kind_sorted at hollerith w e h = lt-ltb _ _ (hollerith_small b w e)
-  kind_sorted at fieldOrDecimal w e h = either_sorted (literal 10 w) w (is_field w) refl (λ other. decimal_small b w (rw other at e))
-  kind_sorted at fieldOrOctal w e h = either_sorted (literal 8 w) w (is_field w) refl (λ other. octal_small b w (rw other at e))
+  kind_sorted at field_or_decimal w e h = either_sorted (literal 10 w) w (is_field w) refl (λ other. decimal_small b w (rw other at e))
+  kind_sorted at field_or_octal w e h = either_sorted (literal 8 w) w (is_field w) refl (λ other. octal_small b w (rw other at e))
   kind_sorted at name w e h = tt
   kind_sorted at definition w e h = tt
   kind_sorted at symbol w e h = h refl
@@ -237,8 +237,8 @@ kind_name b field w g e = absurd (true_false g refl)
 kind_name b decimal w g e = absurd (true_false g refl)
 kind_name b octal w g e = absurd (true_false g refl)
 kind_name b hollerith w g e = absurd (true_false g refl)
-kind_name b fieldOrDecimal w g e = absurd (true_false g refl)
-kind_name b fieldOrOctal w g e = absurd (true_false g refl)
+kind_name b field_or_decimal w g e = absurd (true_false g refl)
+kind_name b field_or_octal w g e = absurd (true_false g refl)
 kind_name b name w g e = last_name w (and_true (eqb (length w) 1) (all is_name w) e).1
 kind_name b definition w g e =
     last_name w (and_true (starts_with (eqb 68) w) (all is_name w) (and_true (eqb (length w) 2) (starts_with (eqb 68) w && all is_name w) e).1).1

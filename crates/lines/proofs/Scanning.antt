@@ -182,12 +182,12 @@ module _ (text : List ℕ) (at : ℕ) where
     unfolding token_at token_of
     word_here end other is e =
         let one : at + 1 ≡ suc at = omega arith in
-        let its-end : end ≡ suc at + length (front is_name (drop (suc at) text)) = rw one at e in
+        let its_end : end ≡ suc at + length (front is_name (drop (suc at) text)) = rw one at e in
         let held = end_inside is_name text (suc at) inside in
         let first : slice at end text ≡ get_or text at 0 ∷ front is_name (drop (suc at) text) =
         slice-cons at end text 0 (omega arith) (omega arith)
-        ∙ ap (λ (l : List ℕ). get_or text at 0 ∷ l) (rw its-end (slice_front is_name text (suc at) inside)) in
-        let rest : drop end text ≡ behind is_name (drop (suc at) text) = rw its-end (drop_behind is_name text (suc at)) in
+        ∙ ap (λ (l : List ℕ). get_or text at 0 ∷ l) (rw its_end (slice_front is_name text (suc at) inside)) in
+        let rest : drop end text ≡ behind is_name (drop (suc at) text) = rw its_end (drop_behind is_name text (suc at)) in
         rw (first, rest, drop-cons text at 0 inside, ne_eqb (get_or text at 0) 40 other, is)
 
     pub open_here : (close : ℕ) → get_or text at 0 ≡ 40 → close ≡ at + 1 + length (front is_inside (drop (at + 1) text)) → close < length text
@@ -195,10 +195,10 @@ module _ (text : List ℕ) (at : ℕ) where
     unfolding token_at token_of closed
     open_here close is e more =
         let one : at + 1 ≡ suc at = omega arith in
-        let its-end : close ≡ suc at + length (front is_inside (drop (suc at) text)) = rw one at e in
-        let first : slice (suc at) close text ≡ front is_inside (drop (suc at) text) = rw its-end (slice_front is_inside text (suc at) inside) in
+        let its_end : close ≡ suc at + length (front is_inside (drop (suc at) text)) = rw one at e in
+        let first : slice (suc at) close text ≡ front is_inside (drop (suc at) text) = rw its_end (slice_front is_inside text (suc at) inside) in
         let rest : behind is_inside (drop (suc at) text) ≡ get_or text close 0 ∷ drop (suc close) text =
-        sym (rw its-end (drop_behind is_inside text (suc at))) ∙ drop-cons text close 0 more in
+        sym (rw its_end (drop_behind is_inside text (suc at))) ∙ drop-cons text close 0 more in
         let stop : eqb (get_or text close 0) 41 ≡ true = stopped (get_or text close 0) (drop (suc close) text)
         (rw rest at (behind_stops is_inside (drop (suc at) text))) in
         rw (first, drop-cons text at 0 inside, eq-eqb (get_or text at 0) 40 is, rest, stop)
@@ -208,8 +208,8 @@ module _ (text : List ℕ) (at : ℕ) where
     unfolding token_at token_of closed
     never_closed close is e less =
         let one : at + 1 ≡ suc at = omega arith in
-        let its-end : close ≡ suc at + length (front is_inside (drop (suc at) text)) = rw one at e in
-        let rest : behind is_inside (drop (suc at) text) ≡ [] = sym (rw its-end (drop_behind is_inside text (suc at))) ∙ drop_of_length-le text less in
+        let its_end : close ≡ suc at + length (front is_inside (drop (suc at) text)) = rw one at e in
+        let rest : behind is_inside (drop (suc at) text) ≡ [] = sym (rw its_end (drop_behind is_inside text (suc at))) ∙ drop_of_length-le text less in
         rw (drop-cons text at 0 inside, eq-eqb (get_or text at 0) 40 is, rest)
 
 -- a token ends within the text

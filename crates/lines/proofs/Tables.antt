@@ -364,5 +364,5 @@ module _ (b : ℕ) (wide : 10 ≤ b) (ls : List grammar.Line) (short : row_count
       let left : rows table - 1 ≡ length rws = omega arith in
       let formed : formed_from b count 1 rws ≡ true =
       rows_formed b count (row_of 1 ls) 1 ls (all_weaken (keeps_labels b ls) (kept_line_of b count (row_of 1 ls)) kept_line ls e) (omega arith) in
-      let none-low : lowest_from b table 1 (length rws) ≡ 0 = none_lowest b table 1 rws refl (rw number formed) in
-      rw (length_fits_lem table long more, left, none-low)
+      let none_low : lowest_from b table 1 (length rws) ≡ 0 = none_lowest b table 1 rws refl (rw number formed) in
+      rw (length_fits_lem table long more, left, none_low)

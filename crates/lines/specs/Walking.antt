@@ -10,7 +10,7 @@ use Rattle.lines.specs.declared.Spot.TheVariants.{Word, Paren, Nothing}
 use Rattle.character.specs.Character.{number}
 use Rattle.lines.specs.Words.{spelled, same, is_empty, all, literal, mode_words, is_mode, Kind, itself, field, decimal, octal}
 use Rattle.lines.specs.Words.{hollerith}
-use Rattle.lines.specs.Words.{fieldOrDecimal, fieldOrOctal, name, definition, symbol}
+use Rattle.lines.specs.Words.{field_or_decimal, field_or_octal, name, definition, symbol}
 use Rattle.lines.specs.Forms.{Form, test_forms, operation_forms, fits, expanded, form_of, symbols_in}
 use Rattle.lines.specs.Grammar.{Line, Token, word, paren}
 use Rattle.lines.specs.Reading.{split, Found, place_of}
@@ -20,13 +20,13 @@ use Rattle.lines.specs.Reading.{split, Found, place_of}
 pub data State : Type 0 where
   at_start broken : State
   at_mode : List ℕ → State
-  inTests atThen : List ℕ → ℕ → List (List (List ℕ)) → State
+  in_tests at_then : List ℕ → ℕ → List (List (List ℕ)) → State
   in_operations : List ℕ → ℕ → List (List (List ℕ)) → List (List (List ℕ)) → State
   at_end : Line → State
 
 -- after the mode word
 unfoldable pub entered : List ℕ → ℕ → State
-entered label mode = cond (eqb mode 0) (in_operations label mode [] []) (inTests label mode [])
+entered label mode = cond (eqb mode 0) (in_operations label mode [] []) (in_tests label mode [])
 
 unfoldable pub step : State → Token → State
 step at_start (word w) = cond (is_mode w) (entered [] (place_of w mode_words)) (at_mode w)
@@ -34,12 +34,12 @@ step at_start (paren args) = broken
 step broken t = broken
 step (at_mode label) (word w) = cond (is_mode w) (entered label (place_of w mode_words)) broken
 step (at_mode label) (paren args) = broken
-step (inTests label mode tests) (word w) =
-    cond (same w (spelled "THEN")) (atThen label mode tests)
+step (in_tests label mode tests) (word w) =
+    cond (same w (spelled "THEN")) (at_then label mode tests)
     (at_end (record { label = label; mode = mode; tests = tests; operations = []; go_to_of = w }))
-step (inTests label mode tests) (paren args) = inTests label mode (tests ++ args ∷ [])
-step (atThen label mode tests) (word w) = broken
-step (atThen label mode tests) (paren args) = in_operations label mode tests (args ∷ [])
+step (in_tests label mode tests) (paren args) = in_tests label mode (tests ++ args ∷ [])
+step (at_then label mode tests) (word w) = broken
+step (at_then label mode tests) (paren args) = in_operations label mode tests (args ∷ [])
 step (in_operations label mode tests operations) (word w) =
     at_end (record { label = label; mode = mode; tests = tests; operations = operations; go_to_of = w })
 step (in_operations label mode tests operations) (paren args) = in_operations label mode tests (operations ++ args ∷ [])
@@ -54,8 +54,8 @@ unfoldable pub finished : State → Option Line
 finished at_start = none
 finished broken = none
 finished (at_mode label) = none
-finished (inTests label mode tests) = some (record { label = label; mode = mode; tests = tests; operations = []; go_to_of = [] })
-finished (atThen label mode tests) = none
+finished (in_tests label mode tests) = some (record { label = label; mode = mode; tests = tests; operations = []; go_to_of = [] })
+finished (at_then label mode tests) = none
 finished (in_operations label mode tests operations) =
     some (record { label = label; mode = mode; tests = tests; operations = operations; go_to_of = [] })
 finished (at_end l) = some l
@@ -95,8 +95,8 @@ kind_number field = 1
 kind_number decimal = 2
 kind_number octal = 3
 kind_number hollerith = 4
-kind_number fieldOrDecimal = 5
-kind_number fieldOrOctal = 6
+kind_number field_or_decimal = 5
+kind_number field_or_octal = 6
 kind_number name = 7
 kind_number definition = 8
 kind_number symbol = 9
@@ -124,8 +124,8 @@ kind_of n =
     (cond (eqb n 2) decimal
     (cond (eqb n 3) octal
     (cond (eqb n 4) hollerith
-    (cond (eqb n 5) fieldOrDecimal
-    (cond (eqb n 6) fieldOrOctal
+    (cond (eqb n 5) field_or_decimal
+    (cond (eqb n 6) field_or_octal
     (cond (eqb n 7) name (cond (eqb n 8) definition (cond (eqb n 9) symbol (itself (bytes_of n))))))))))
 
 unfoldable pub padded : ℕ → List ℕ → List ℕ
