@@ -2,15 +2,8 @@
 -- Assumes nothing.
 use Rattle.machine.specs.Test.{settling}
 use Rattle.plans.proofs.Testing.{either_mode}
-use Rattle.plans.proofs.tests.settling.Statement.{statement}
-use Rattle.plans.proofs.tests.settling.Tie as tie
+use Rattle.plans.proofs.tests.settling.Goals as goal
 
-returns : tie.Need-returns
+pub returns : goal.returns
 unfolding settling
 returns c = either_mode c.args.mode 2 3
-
-pub settling-spec : {M : Type 1} → statement M
-settling-spec =
-    tie.close
-    (tie.spec
-    returns)

@@ -2,15 +2,8 @@
 -- Assumes nothing.
 use Rattle.machine.specs.Test.{settled_as}
 use Rattle.plans.proofs.Testing.{either_mode}
-use Rattle.plans.proofs.tests.settled_as.Statement.{statement}
-use Rattle.plans.proofs.tests.settled_as.Tie as tie
+use Rattle.plans.proofs.tests.settled_as.Goals as goal
 
-returns : tie.Need-returns
+pub returns : goal.returns
 unfolding settled_as
 returns c = either_mode c.args.mode 2 4
-
-pub settled-as-spec : {M : Type 1} → statement M
-settled-as-spec =
-    tie.close
-    (tie.spec
-    returns)
