@@ -1,5 +1,5 @@
 -- What an action asks for and what carrying it out leaves, by its case. Assumes nothing.
-use Rattle.core.specs.Prelude.{◌≡◌, ℕ, ◌+◌, ◌<◌, ◌≤◌, true, List, [], ◌∷◌, ◌++◌, length, take, drop, set, replicate}
+use Rattle.std.specs.Prelude.{◌≡◌, ℕ, ◌+◌, ◌<◌, ◌≤◌, true, List, [], ◌∷◌, ◌++◌, length, take, drop, set, replicate}
 use mathlib.Core.Path.{refl, subst}
 use types.Run.{miss}
 use Rattle.character.specs.Character.{printed}

@@ -1,5 +1,5 @@
 -- A run that can be delivered: where it lies, and what its words are afterwards. Assumes nothing.
-use Rattle.core.specs.Prelude.{◌≡◌, ℕ, ◌+◌, ◌-◌, ◌<◌, ◌≤◌, ◌⊎◌, List, [], ◌∷◌, length, take, drop, replicate}
+use Rattle.std.specs.Prelude.{◌≡◌, ℕ, ◌+◌, ◌-◌, ◌<◌, ◌≤◌, ◌⊎◌, List, [], ◌∷◌, length, take, drop, replicate}
 use native.Mathlib.Omega.{arith}
 use mathlib.Core.List.{Memᴰ}
 use mathlib.Core.Logic.{inl, inr}

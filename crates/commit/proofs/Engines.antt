@@ -1,5 +1,5 @@
 -- An action's effects on an engine, its output and its report are what carrying it out leaves and reports. Assumes nothing.
-use Rattle.core.specs.Prelude.{◌≡◌, ℕ, Bool, true, false, cond, List, replicate}
+use Rattle.std.specs.Prelude.{◌≡◌, ℕ, Bool, true, false, cond, List, replicate}
 use native.Mathlib.Omega.{arith}
 use mathlib.Core.Path.{refl, ap, ap₂, ◌∙◌}
 use borrow.Author.Tests.{eq-eqb}

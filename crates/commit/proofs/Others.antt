@@ -1,5 +1,5 @@
 -- What holds of each action that the last arm of a match takes, by its place among the actions. Assumes nothing.
-use Rattle.core.specs.Prelude.{◌≡◌, ℕ, false, List, [], ◌∷◌}
+use Rattle.std.specs.Prelude.{◌≡◌, ℕ, false, List, [], ◌∷◌}
 use mathlib.Core.Path.{refl}
 use denote.Enum.Declared.{tag_of}
 use types.Run.{OneOf, miss}

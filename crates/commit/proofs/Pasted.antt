@@ -1,5 +1,5 @@
 -- Words put in one after the other: all of them, those away from them, and one more of those copied. Assumes nothing.
-use Rattle.core.specs.Prelude.{◌≡◌, ℕ, ◌+◌, ◌<◌, ◌≤◌, ◌⊎◌, List, length, get_or, take, drop, set}
+use Rattle.std.specs.Prelude.{◌≡◌, ℕ, ◌+◌, ◌<◌, ◌≤◌, ◌⊎◌, List, length, get_or, take, drop, set}
 use native.Mathlib.Omega.{arith}
 use mathlib.Core.List.{append_assoc}
 use mathlib.Core.Logic.{inl, inr}

@@ -1,5 +1,5 @@
 -- What carrying an action out leaves in each part of the engine and in the output. Assumes nothing.
-use Rattle.core.specs.Prelude.{ℕ, suc, ◌+◌, ◌-◌, Bool, true, false, cond, List, length, take, drop, replicate, ◌==◌, slice_index_or, slice_set}
+use Rattle.std.specs.Prelude.{ℕ, suc, ◌+◌, ◌-◌, Bool, true, false, cond, List, length, take, drop, replicate, ◌==◌, slice_index_or, slice_set}
 use Rattle.character.specs.Character.{printed}
 use Rattle.block.specs.declared.SetUp.{SetUp}
 use Rattle.block.specs.Blocks.{level}

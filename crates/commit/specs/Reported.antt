@@ -1,5 +1,5 @@
 -- What an action reports: the report of its effects. Assumes nothing.
-use Rattle.core.specs.Prelude.{ℕ, ◌<◌}
+use Rattle.std.specs.Prelude.{ℕ, ◌<◌}
 use Rattle.machine.specs.declared.Location.{Location}
 use Rattle.machine.specs.declared.Location.TheVariants.{Bug, Field}
 use Rattle.machine.specs.declared.Store.{Store}

@@ -1,5 +1,5 @@
 -- An engine of width b by the parts that a run keeps in locals, and the engine after an action. Assumes nothing.
-use Rattle.core.specs.Prelude.{ℕ, List}
+use Rattle.std.specs.Prelude.{ℕ, List}
 use Rattle.block.specs.declared.SetUp.{SetUp}
 use Rattle.machine.specs.declared.Place.{Place}
 use Rattle.machine.specs.declared.Core.{Core}

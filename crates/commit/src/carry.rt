@@ -1,5 +1,5 @@
 // An action carried out in place on lent slices.
-ghost use Rattle.core.specs.Prelude.{◌≡◌, ℕ, ◌+◌, ◌%◌, ◌≤◌, true, ◌⊎◌, length, ◌≢◌};
+ghost use Rattle.std.specs.Prelude.{◌≡◌, ℕ, ◌+◌, ◌%◌, ◌≤◌, true, ◌⊎◌, length, ◌≢◌};
 ghost use Rattle.block.specs.Blocks.{size, level};
 ghost use Rattle.block.specs.SetUp.{top, words};
 ghost use Rattle.block.specs.Map.{keeps, delivered_map};

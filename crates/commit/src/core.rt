@@ -1,5 +1,5 @@
 // What a commit makes of set-up numbers and counts.
-ghost use Rattle.core.specs.Prelude.{◌≡◌};
+ghost use Rattle.std.specs.Prelude.{◌≡◌};
 ghost use Rattle.operations.specs.Deeds.{meant};
 ghost use Rattle.commit.specs.Carried.{onward};
 ghost use Rattle.commit.specs.Feasible.{Counted};

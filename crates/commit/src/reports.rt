@@ -1,5 +1,5 @@
 // What an action reports.
-ghost use Rattle.core.specs.Prelude.{◌≡◌};
+ghost use Rattle.std.specs.Prelude.{◌≡◌};
 ghost use Rattle.machine.specs.Storage.{no_store_of};
 ghost use Rattle.machine.specs.Effects.{store_to};
 ghost use Rattle.operands.specs.Locating.{located};

@@ -1,5 +1,5 @@
 // Words of the storage: zeroed, and copied.
-ghost use Rattle.core.specs.Prelude.{◌≡◌, ◌+◌, ◌≤◌, ◌⊎◌, length, take, drop, replicate};
+ghost use Rattle.std.specs.Prelude.{◌≡◌, ◌+◌, ◌≤◌, ◌⊎◌, length, take, drop, replicate};
 ghost use Rattle.machine.specs.Storage.{placed};
 
 // n words from a place on are zero.

@@ -1,6 +1,6 @@
 -- An action that was planned for a sound engine can be carried out, and none of its stores goes to a field at address zero.
 -- Assumes nothing.
-use Rattle.core.specs.Prelude.{◌≡◌, ℕ, ◌+◌, ◌-◌, ◌<◌, ◌≤◌, true, cond, not, eqb, ltb, ◌⊎◌, length, get_or}
+use Rattle.std.specs.Prelude.{◌≡◌, ℕ, ◌+◌, ◌-◌, ◌<◌, ◌≤◌, true, cond, not, eqb, ltb, ◌⊎◌, length, get_or}
 use native.Mathlib.Omega.{arith}
 use mathlib.Core.List.{Memᴰ}
 use mathlib.Core.Path.{refl, sym, subst}

@@ -2,7 +2,7 @@
 -- which are demand 2: a refused step and a finished engine change nothing, what is delivered is the lowest aligned run, and demand 3
 -- holds after every list of calls, extensions among them, of the steps inside runs too. Assumes nothing.
 use native.Mathlib.Omega.{arith}
-use Rattle.core.specs.Prelude.{◌≡◌, ℕ, ◌/◌, ◌^◌, ◌<◌, true, cond, List, [], ◌∷◌}
+use Rattle.std.specs.Prelude.{◌≡◌, ℕ, ◌/◌, ◌^◌, ◌<◌, true, cond, List, [], ◌∷◌}
 use mathlib.Core.Path.{refl, sym, ap, subst, ◌∙◌}
 use Rattle.word.specs.Word.{is_width}
 use Rattle.word.proofs.Tests.{by_test}

@@ -1,7 +1,7 @@
 -- Lists of calls of the engine's own step and run and of extension's own extend, as their contracts have them, from a fresh engine
 -- over one storage that only the calls write.
 -- Document 01: demand 3; document 02, tickets 9 and 11. Assumes nothing.
-use Rattle.core.specs.Prelude.{◌≡◌, ℕ, List, [], ◌∷◌}
+use Rattle.std.specs.Prelude.{◌≡◌, ℕ, List, [], ◌∷◌}
 use Rattle.machine.specs.declared.Fresh.{Fresh}
 use Rattle.machine.specs.declared.FreshAnswer.TheVariants.{Done}
 use Rattle.machine.specs.State.{fresh_of}

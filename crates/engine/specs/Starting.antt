@@ -1,5 +1,5 @@
 -- What is judged once before a walk: what its first step answers where it stops there, or that it may be planned. Assumes nothing.
-use Rattle.core.specs.Prelude.{◌≡◌, ℕ, Bool, true, false, cond}
+use Rattle.std.specs.Prelude.{◌≡◌, ℕ, Bool, true, false, cond}
 use Rattle.word.specs.Told.{Told, gives, refuses}
 use Rattle.word.specs.Word.{is_width}
 use Rattle.table.specs.declared.TableCheck.TheVariants.{Lowest}

@@ -1,6 +1,6 @@
 -- A walk: steps up to a number of them, or fewer up to a finish or refusal, with the report of the last. A step is a walk of one,
 -- and a run is a walk without its report. Assumes nothing.
-use Rattle.core.specs.Prelude.{ℕ, zero, suc, true, false, List}
+use Rattle.std.specs.Prelude.{ℕ, zero, suc, true, false, List}
 use Rattle.machine.specs.declared.State.{State}
 use Rattle.machine.specs.declared.Answer.{Answer}
 use Rattle.machine.specs.declared.Report.{Report}

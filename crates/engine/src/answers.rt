@@ -1,5 +1,5 @@
 // The numbers of answers: document 01's, 22 of ticket 1, and 31 of ticket 9.
-ghost use Rattle.core.specs.Prelude.{◌≡◌};
+ghost use Rattle.std.specs.Prelude.{◌≡◌};
 ghost use Rattle.machine.specs.Answer.{refusal_number};
 
 use machine::Refusal;

@@ -1,7 +1,7 @@
 // The L6 engine: a fresh state, one step, and a run. Any table, storage, input, output buffer and state may be lent.
 #![tactic(auto)]
 
-ghost use Rattle.core.specs.Prelude.{◌≡◌, true, false, if◌then◌else◌};
+ghost use Rattle.std.specs.Prelude.{◌≡◌, true, false, if◌then◌else◌};
 ghost use Rattle.word.specs.Word.{is_width};
 ghost use Rattle.table.specs.declared.TableCheck.TheVariants.{Lowest};
 ghost use Rattle.table.specs.Table.{checked};

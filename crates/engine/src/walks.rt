@@ -1,5 +1,5 @@
 // Steps one after the other: each is planned over slices of local arrays and carried out in place.
-ghost use Rattle.core.specs.Prelude.{◌≡◌, ◌-◌, ◌≤◌, true, length, if◌then◌else◌};
+ghost use Rattle.std.specs.Prelude.{◌≡◌, ◌-◌, ◌≤◌, true, length, if◌then◌else◌};
 ghost use Rattle.machine.specs.declared.Answer.TheVariants.{Running, Finished};
 ghost use Rattle.machine.specs.State.{is_finished};
 ghost use Rattle.machine.specs.Storage.{no_report};

@@ -16,29 +16,29 @@ bounds-map-start c =
 pub size_of-requires : goal.size_of-requires
 size_of-requires c =
     let block : let a = c.args in let start = a.address - a.setup.s1 in
-        Ready a.j (top a.setup.d) start a.map.now (delivered_map a.j a.address a.setup a.map.now) (get_or a.map.now start 0 / 2) =
-        delivers c.args.setup c.args.map.now c.requires.0 c.requires.1 c.args.j c.args.address c.requires.2 c.requires.4 c.requires.5 in
+    Ready a.j (top a.setup.d) start a.map.now (delivered_map a.j a.address a.setup a.map.now) (get_or a.map.now start 0 / 2) =
+    delivers c.args.setup c.args.map.now c.requires.0 c.requires.1 c.args.j c.args.address c.requires.2 c.requires.4 c.requires.5 in
     omega (arith, block.small, top_le c.args.setup.d)
 
 pub overflow_add-end : goal.overflow_add-end
 overflow_add-end c =
     let block : let a = c.args in let start = a.address - a.setup.s1 in
-        Ready a.j (top a.setup.d) start a.map.now (delivered_map a.j a.address a.setup a.map.now) (get_or a.map.now start 0 / 2) =
-        delivers c.args.setup c.args.map.now c.requires.0 c.requires.1 c.args.j c.args.address c.requires.2 c.requires.4 c.requires.5 in
+    Ready a.j (top a.setup.d) start a.map.now (delivered_map a.j a.address a.setup a.map.now) (get_or a.map.now start 0 / 2) =
+    delivers c.args.setup c.args.map.now c.requires.0 c.requires.1 c.args.j c.args.address c.requires.2 c.requires.4 c.requires.5 in
     record { fits = omega (arith, c.size_of.ensures, block.fits) }
 
 pub slice_bounds-split-end : goal.slice_bounds-split-end
 slice_bounds-split-end c =
     let block : let a = c.args in let start = a.address - a.setup.s1 in
-        Ready a.j (top a.setup.d) start a.map.now (delivered_map a.j a.address a.setup a.map.now) (get_or a.map.now start 0 / 2) =
-        delivers c.args.setup c.args.map.now c.requires.0 c.requires.1 c.args.j c.args.address c.requires.2 c.requires.4 c.requires.5 in
+    Ready a.j (top a.setup.d) start a.map.now (delivered_map a.j a.address a.setup a.map.now) (get_or a.map.now start 0 / 2) =
+    delivers c.args.setup c.args.map.now c.requires.0 c.requires.1 c.args.j c.args.address c.requires.2 c.requires.4 c.requires.5 in
     omega (arith, c.size_of.ensures, block.fits)
 
 pub split-requires : goal.split-requires
 split-requires c =
     let block : let a = c.args in let start = a.address - a.setup.s1 in
-        Ready a.j (top a.setup.d) start a.map.now (delivered_map a.j a.address a.setup a.map.now) (get_or a.map.now start 0 / 2) =
-        delivers c.args.setup c.args.map.now c.requires.0 c.requires.1 c.args.j c.args.address c.requires.2 c.requires.4 c.requires.5 in
+    Ready a.j (top a.setup.d) start a.map.now (delivered_map a.j a.address a.setup a.map.now) (get_or a.map.now start 0 / 2) =
+    delivers c.args.setup c.args.map.now c.requires.0 c.requires.1 c.args.j c.args.address c.requires.2 c.requires.4 c.requires.5 in
     let n = c.size_of in
     let b = block in (
       b.wanted,
@@ -49,7 +49,7 @@ split-requires c =
 pub returns : goal.returns
 returns c =
     let block : let a = c.args in let start = a.address - a.setup.s1 in
-        Ready a.j (top a.setup.d) start a.map.now (delivered_map a.j a.address a.setup a.map.now) (get_or a.map.now start 0 / 2) =
-        delivers c.args.setup c.args.map.now c.requires.0 c.requires.1 c.args.j c.args.address c.requires.2 c.requires.4 c.requires.5 in
+    Ready a.j (top a.setup.d) start a.map.now (delivered_map a.j a.address a.setup a.map.now) (get_or a.map.now start 0 / 2) =
+    delivers c.args.setup c.args.map.now c.requires.0 c.requires.1 c.args.j c.args.address c.requires.2 c.requires.4 c.requires.5 in
     let split = c.split in
     block.puts c.size_of.result split.new.tags c.size_of.ensures split.ensures

@@ -30,10 +30,10 @@ returns-then-end-bytes_past c =
 pub all_blocks-blocks-requires : goal.all_blocks-blocks-requires
 all_blocks-blocks-requires c =
     let within : let w = c.words_of-words.result in let n = c.size_of-n.result in
-        (w / n * n ≤ length c.args.map.now) × (w / n * n ≤ 65536) =
-        let w = c.words_of-words.result in
-        let n = c.size_of-n.result in
-        (omega arith, omega (arith, div-add-mod' w n, c.words_of-words.ensures, words_le c.args.setup)) in
+    (w / n * n ≤ length c.args.map.now) × (w / n * n ≤ 65536) =
+    let w = c.words_of-words.result in
+    let n = c.size_of-n.result in
+    (omega arith, omega (arith, div-add-mod' w n, c.words_of-words.ensures, words_le c.args.setup)) in
     let w = c.words_of-words.result in
     let same = ap (λ (x : ℕ). w / c.size_of-n.result * x) c.size_of-n.ensures in (
       omega (arith, c.top_of-k.ensures, top_le c.args.setup.d),
@@ -45,19 +45,19 @@ all_blocks-blocks-requires c =
 pub slice_bounds-marks_of-end : goal.slice_bounds-marks_of-end
 slice_bounds-marks_of-end c =
     let within : let w = c.words_of-words.result in let n = c.size_of-n.result in
-        (w / n * n ≤ length c.args.map.now) × (w / n * n ≤ 65536) =
-        let w = c.words_of-words.result in
-        let n = c.size_of-n.result in
-        (omega arith, omega (arith, div-add-mod' w n, c.words_of-words.ensures, words_le c.args.setup)) in
+    (w / n * n ≤ length c.args.map.now) × (w / n * n ≤ 65536) =
+    let w = c.words_of-words.result in
+    let n = c.size_of-n.result in
+    (omega arith, omega (arith, div-add-mod' w n, c.words_of-words.ensures, words_le c.args.setup)) in
     sym (length-take-le _ _ within.0)
 
 pub overflow_add-result : goal.overflow_add-result
 overflow_add-result c =
     let within : let w = c.words_of-words.result in let n = c.size_of-n.result in
-        (w / n * n ≤ length c.args.map.now) × (w / n * n ≤ 65536) =
-        let w = c.words_of-words.result in
-        let n = c.size_of-n.result in
-        (omega arith, omega (arith, div-add-mod' w n, c.words_of-words.ensures, words_le c.args.setup)) in
+    (w / n * n ≤ length c.args.map.now) × (w / n * n ≤ 65536) =
+    let w = c.words_of-words.result in
+    let n = c.size_of-n.result in
+    (omega arith, omega (arith, div-add-mod' w n, c.words_of-words.ensures, words_le c.args.setup)) in
     let (there, few) = within in
     let long = length-take-le _ c.args.map.now there in
     omega (arith, c.marks_of.ensures.1)
@@ -65,10 +65,10 @@ overflow_add-result c =
 pub zero_from-requires : goal.zero_from-requires
 zero_from-requires c =
     let within : let w = c.words_of-words.result in let n = c.size_of-n.result in
-        (w / n * n ≤ length c.args.map.now) × (w / n * n ≤ 65536) =
-        let w = c.words_of-words.result in
-        let n = c.size_of-n.result in
-        (omega arith, omega (arith, div-add-mod' w n, c.words_of-words.ensures, words_le c.args.setup)) in
+    (w / n * n ≤ length c.args.map.now) × (w / n * n ≤ 65536) =
+    let w = c.words_of-words.result in
+    let n = c.size_of-n.result in
+    (omega arith, omega (arith, div-add-mod' w n, c.words_of-words.ensures, words_le c.args.setup)) in
     within.0
 
 pub returns : goal.returns

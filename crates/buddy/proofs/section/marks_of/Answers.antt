@@ -13,31 +13,31 @@ loop-i-init c = (omega arith, unfold marks in refl, omega arith)
 pub part_marks-requires : goal.part_marks-requires
 part_marks-requires c =
     let full : let l = c.before in let bytes = l.args.bytes.now in
-        (length (take (l.loop-i.i + 128 - l.loop-i.i) (drop l.loop-i.i bytes)) ≡ 128)
-        × (marks (take (l.loop-i.i + 128 - l.loop-i.i) (drop l.loop-i.i bytes)) ≤ 128) =
-        let bytes = c.args.bytes.now in
-        let long = part_length c.loop-i.i 128 bytes (omega arith) in
-        (long, omega (arith, marks_most (take (c.loop-i.i + 128 - c.loop-i.i) (drop c.loop-i.i bytes)))) in
+    (length (take (l.loop-i.i + 128 - l.loop-i.i) (drop l.loop-i.i bytes)) ≡ 128)
+    × (marks (take (l.loop-i.i + 128 - l.loop-i.i) (drop l.loop-i.i bytes)) ≤ 128) =
+    let bytes = c.args.bytes.now in
+    let long = part_length c.loop-i.i 128 bytes (omega arith) in
+    (long, omega (arith, marks_most (take (c.loop-i.i + 128 - c.loop-i.i) (drop c.loop-i.i bytes)))) in
     omega (arith, full.0)
 
 pub overflow_add-count : goal.overflow_add-count
 overflow_add-count c =
     let full : let l = c.before in let bytes = l.args.bytes.now in
-        (length (take (l.loop-i.i + 128 - l.loop-i.i) (drop l.loop-i.i bytes)) ≡ 128)
-        × (marks (take (l.loop-i.i + 128 - l.loop-i.i) (drop l.loop-i.i bytes)) ≤ 128) =
-        let bytes = c.args.bytes.now in
-        let long = part_length c.loop-i.i 128 bytes (omega arith) in
-        (long, omega (arith, marks_most (take (c.loop-i.i + 128 - c.loop-i.i) (drop c.loop-i.i bytes)))) in
+    (length (take (l.loop-i.i + 128 - l.loop-i.i) (drop l.loop-i.i bytes)) ≡ 128)
+    × (marks (take (l.loop-i.i + 128 - l.loop-i.i) (drop l.loop-i.i bytes)) ≤ 128) =
+    let bytes = c.args.bytes.now in
+    let long = part_length c.loop-i.i 128 bytes (omega arith) in
+    (long, omega (arith, marks_most (take (c.loop-i.i + 128 - c.loop-i.i) (drop c.loop-i.i bytes)))) in
     omega (arith, c.part_marks.ensures, full.1)
 
 pub loop-i-preserved : goal.loop-i-preserved
 loop-i-preserved c =
     let full : let l = c.before in let bytes = l.args.bytes.now in
-        (length (take (l.loop-i.i + 128 - l.loop-i.i) (drop l.loop-i.i bytes)) ≡ 128)
-        × (marks (take (l.loop-i.i + 128 - l.loop-i.i) (drop l.loop-i.i bytes)) ≤ 128) =
-        let bytes = c.args.bytes.now in
-        let long = part_length c.loop-i.i 128 bytes (omega arith) in
-        (long, omega (arith, marks_most (take (c.loop-i.i + 128 - c.loop-i.i) (drop c.loop-i.i bytes)))) in
+    (length (take (l.loop-i.i + 128 - l.loop-i.i) (drop l.loop-i.i bytes)) ≡ 128)
+    × (marks (take (l.loop-i.i + 128 - l.loop-i.i) (drop l.loop-i.i bytes)) ≤ 128) =
+    let bytes = c.args.bytes.now in
+    let long = part_length c.loop-i.i 128 bytes (omega arith) in
+    (long, omega (arith, marks_most (take (c.loop-i.i + 128 - c.loop-i.i) (drop c.loop-i.i bytes)))) in
     let bytes = c.args.bytes.now in (
       omega arith,
       omega (arith, c.part_marks.ensures, marks_part bytes c.loop-i.i (c.loop-i.i + 128) (omega arith)),

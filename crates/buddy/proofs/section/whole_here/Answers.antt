@@ -15,15 +15,15 @@ returns-then-not-is_tag c =
 pub returns-then-k-i : goal.returns-then-k-i
 returns-then-k-i c =
     let here : WholeTrees c.args.k c.args.map.now c.args.end c.args.i 1 =
-        whole_one c.args.k c.args.map.now c.args.end c.args.i (omega arith)
-        (known_true c.is_tag.ensures c.if-not-is_tag.false-raw) in
+    whole_one c.args.k c.args.map.now c.args.end c.args.i (omega arith)
+    (known_true c.is_tag.ensures c.if-not-is_tag.false-raw) in
     (omega arith, here)
 
 pub returns-then-end-i-lt-PART_BYTES : goal.returns-then-end-i-lt-PART_BYTES
 returns-then-end-i-lt-PART_BYTES c =
     let here : WholeTrees c.args.k c.args.map.now c.args.end c.args.i 1 =
-        whole_one c.args.k c.args.map.now c.args.end c.args.i (omega arith)
-        (known_true c.is_tag.ensures c.if-not-is_tag.false-raw) in
+    whole_one c.args.k c.args.map.now c.args.end c.args.i (omega arith)
+    (known_true c.is_tag.ensures c.if-not-is_tag.false-raw) in
     (omega arith, here)
 
 pub whole_part-requires : goal.whole_part-requires
@@ -33,8 +33,8 @@ whole_part-requires c =
 pub returns-then-not-whole_part : goal.returns-then-not-whole_part
 returns-then-not-whole_part c =
     let here : WholeTrees c.args.k c.args.map.now c.args.end c.args.i 1 =
-        whole_one c.args.k c.args.map.now c.args.end c.args.i (omega arith)
-        (known_true c.is_tag.ensures c.if-not-is_tag.false-raw) in
+    whole_one c.args.k c.args.map.now c.args.end c.args.i (omega arith)
+    (known_true c.is_tag.ensures c.if-not-is_tag.false-raw) in
     (omega arith, here)
 
 pub nonzero_div-result : goal.nonzero_div-result

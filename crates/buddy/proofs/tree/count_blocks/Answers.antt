@@ -21,32 +21,32 @@ returns-then-not-starts_block c =
 pub overflow_sub-bytes : goal.overflow_sub-bytes
 overflow_sub-bytes c =
     let tag : Tagged c.args.k c.loop-i.i c.args.bytes.now =
-        tagged _ _ _ (omega arith) (known_true c.starts_block.ensures c.if-not-starts_block.false-raw) in
+    tagged _ _ _ (omega arith) (known_true c.starts_block.ensures c.if-not-starts_block.false-raw) in
     let t = tag in omega arith
 
 pub size_of-i-requires : goal.size_of-i-requires
 size_of-i-requires c =
     let tag : Tagged c.args.k c.loop-i.i c.args.bytes.now =
-        tagged _ _ _ (omega arith) (known_true c.starts_block.ensures c.if-not-starts_block.false-raw) in
+    tagged _ _ _ (omega arith) (known_true c.starts_block.ensures c.if-not-starts_block.false-raw) in
     tag.level
 
 pub overflow_add-i : goal.overflow_add-i
 overflow_add-i c =
     let tag : Tagged c.args.k c.loop-i.i c.args.bytes.now =
-        tagged _ _ _ (omega arith) (known_true c.starts_block.ensures c.if-not-starts_block.false-raw) in
+    tagged _ _ _ (omega arith) (known_true c.starts_block.ensures c.if-not-starts_block.false-raw) in
     let t = tag in record { fits = omega (arith, c.size_of-i.ensures) }
 
 pub loop-i-smaller : goal.loop-i-smaller
 loop-i-smaller c =
     let tag : Tagged c.args.k c.loop-i.i c.args.bytes.now =
-        tagged _ _ _ (omega arith) (known_true c.starts_block.ensures c.if-not-starts_block.false-raw) in
+    tagged _ _ _ (omega arith) (known_true c.starts_block.ensures c.if-not-starts_block.false-raw) in
     let t = tag in omega (arith, c.size_of-i.ensures)
 
 pub loop-i-preserved : goal.loop-i-preserved
 unfolding tag_level
 loop-i-preserved c =
     let tag : Tagged c.args.k c.loop-i.i c.args.bytes.now =
-        tagged _ _ _ (omega arith) (known_true c.starts_block.ensures c.if-not-starts_block.false-raw) in
+    tagged _ _ _ (omega arith) (known_true c.starts_block.ensures c.if-not-starts_block.false-raw) in
     let t = tag in (
       omega (arith, c.size_of-i.ensures, size_small c.args.k (omega arith)),
       omega (arith, c.size_of-i.ensures),

@@ -16,41 +16,41 @@ pair_start-start-requires c =
 pub overflow_add-result : goal.overflow_add-result
 overflow_add-result c =
     let pair : let start = c.pair_start-start.result in let n = c.size_of-n.result in
-        let a = c.args in
-        (start ≤ a.at) × (a.at ≤ start + n) × (start + n + n ≤ size a.k) × (size a.k ≤ 128) =
-        let h = rise_pair c.requires.2.1 (omega arith) c.size_of-n.result c.size_of-n.ensures c.pair_start-start.result
-        c.pair_start-start.ensures in
-        (h.0, h.1, h.2, size_small c.args.k (omega arith)) in
+    let a = c.args in
+    (start ≤ a.at) × (a.at ≤ start + n) × (start + n + n ≤ size a.k) × (size a.k ≤ 128) =
+    let h = rise_pair c.requires.2.1 (omega arith) c.size_of-n.result c.size_of-n.ensures c.pair_start-start.result
+    c.pair_start-start.ensures in
+    (h.0, h.1, h.2, size_small c.args.k (omega arith)) in
     let h = pair in record { fits = omega arith }
 
 pub overflow_add-result-2 : goal.overflow_add-result-2
 overflow_add-result-2 c =
     let pair : let start = c.pair_start-start.result in let n = c.size_of-n.result in
-        let a = c.args in
-        (start ≤ a.at) × (a.at ≤ start + n) × (start + n + n ≤ size a.k) × (size a.k ≤ 128) =
-        let h = rise_pair c.requires.2.1 (omega arith) c.size_of-n.result c.size_of-n.ensures c.pair_start-start.result
-        c.pair_start-start.ensures in
-        (h.0, h.1, h.2, size_small c.args.k (omega arith)) in
+    let a = c.args in
+    (start ≤ a.at) × (a.at ≤ start + n) × (start + n + n ≤ size a.k) × (size a.k ≤ 128) =
+    let h = rise_pair c.requires.2.1 (omega arith) c.size_of-n.result c.size_of-n.ensures c.pair_start-start.result
+    c.pair_start-start.ensures in
+    (h.0, h.1, h.2, size_small c.args.k (omega arith)) in
     let h = pair in record { fits = omega arith }
 
 pub overflow_sub-result : goal.overflow_sub-result
 overflow_sub-result c =
     let pair : let start = c.pair_start-start.result in let n = c.size_of-n.result in
-        let a = c.args in
-        (start ≤ a.at) × (a.at ≤ start + n) × (start + n + n ≤ size a.k) × (size a.k ≤ 128) =
-        let h = rise_pair c.requires.2.1 (omega arith) c.size_of-n.result c.size_of-n.ensures c.pair_start-start.result
-        c.pair_start-start.ensures in
-        (h.0, h.1, h.2, size_small c.args.k (omega arith)) in
+    let a = c.args in
+    (start ≤ a.at) × (a.at ≤ start + n) × (start + n + n ≤ size a.k) × (size a.k ≤ 128) =
+    let h = rise_pair c.requires.2.1 (omega arith) c.size_of-n.result c.size_of-n.ensures c.pair_start-start.result
+    c.pair_start-start.ensures in
+    (h.0, h.1, h.2, size_small c.args.k (omega arith)) in
     let h = pair in omega arith
 
 pub bounds-tags-start : goal.bounds-tags-start
 bounds-tags-start c =
     let pair : let start = c.pair_start-start.result in let n = c.size_of-n.result in
-        let a = c.args in
-        (start ≤ a.at) × (a.at ≤ start + n) × (start + n + n ≤ size a.k) × (size a.k ≤ 128) =
-        let h = rise_pair c.requires.2.1 (omega arith) c.size_of-n.result c.size_of-n.ensures c.pair_start-start.result
-        c.pair_start-start.ensures in
-        (h.0, h.1, h.2, size_small c.args.k (omega arith)) in
+    let a = c.args in
+    (start ≤ a.at) × (a.at ≤ start + n) × (start + n + n ≤ size a.k) × (size a.k ≤ 128) =
+    let h = rise_pair c.requires.2.1 (omega arith) c.size_of-n.result c.size_of-n.ensures c.pair_start-start.result
+    c.pair_start-start.ensures in
+    (h.0, h.1, h.2, size_small c.args.k (omega arith)) in
     let h = pair in omega (arith, c.size_of-n.ensures, size_pos c.args.j)
 
 pub returns : goal.returns

@@ -1,5 +1,5 @@
 -- `commit::words::copy_words` meets its contract. The loop's invariant: the first i words are copied. Assumes nothing.
-use Rattle.core.specs.Prelude.{◌-◌, take, drop}
+use Rattle.std.specs.Prelude.{◌-◌, take, drop}
 use Rattle.word.proofs.Filling.{Fills, fills_none}
 use Rattle.commit.proofs.Pasted.{all_placed, one_copied, length_copied}
 use borrow.Author.Rules.{rules}

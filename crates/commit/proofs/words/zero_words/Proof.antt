@@ -1,5 +1,5 @@
 -- `commit::words::zero_words` meets its contract. The loop's invariant: the first i words are zero. Assumes nothing.
-use Rattle.core.specs.Prelude.{◌-◌, replicate}
+use Rattle.std.specs.Prelude.{◌-◌, replicate}
 use mathlib.Core.Path.{sym}
 use lib.ListN.{length-replicate, get_or-replicate}
 use Rattle.word.proofs.Filling.{Fills, fills_none, fills_next}

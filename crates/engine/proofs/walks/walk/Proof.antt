@@ -1,7 +1,7 @@
 -- `engine::walks::walk` meets its contract. It stops as it was judged, or goes on: the loop's invariant is that what is left of the walk
 -- leads where the whole walk does, from a sound engine that is not finished, and that the definitions are those packed. The measure is the
 -- number of steps left. Assumes nothing.
-use Rattle.core.specs.Prelude.{◌≡◌, ◌-◌, ◌<◌, length}
+use Rattle.std.specs.Prelude.{◌≡◌, ◌-◌, ◌<◌, length}
 use native.Mathlib.Omega.{arith}
 use mathlib.Core.Logic.{⊎_elim}
 use mathlib.Core.Path.{refl, sym, ap, subst, ◌∙◌}
