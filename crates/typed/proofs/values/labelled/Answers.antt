@@ -1,0 +1,16 @@
+-- `typed::values::labelled` meets its contract: in a text without a refusal the row known is the label's (`ready_row`), as a label is not
+-- empty. Assumes nothing.
+use borrow.Author.Tests.{not-true}
+use mathlib.Core.Path.{ap, ◌∙◌}
+use Rattle.lines.specs.Words.{literal_pair}
+use Rattle.lines.proofs.Lines.{label_parts}
+use Rattle.faults.proofs.Telling.{ready_row}
+use Rattle.typed.proofs.values.labelled.Goals as goal
+
+pub known_row-value-requires : goal.known_row-value-requires
+known_row-value-requires c = c.requires.0.known.room
+
+pub returns : goal.returns
+returns c =
+    ap literal_pair (c.known_row-value.ensures
+    ∙ ready_row c.requires.0 c.args.w.now (not-true _ (label_parts c.args.w.now c.requires.1).filled))
