@@ -8,6 +8,7 @@ mod references;
 
 use block::SetUp;
 use buddy::{section, sizes};
+use std::io;
 
 // Any numbers for a set-up, its largest size seldom zero.
 fn drawn_setup(a: u64, x: u64, y: u64) -> SetUp {
@@ -61,12 +62,13 @@ fn figure(which: u64) -> u64 {
     }
 }
 
-fn main() {
+fn main(rt: HostRuntime) -> io::Result<()> {
     let names = b"size_of\nlevel_of\ntop_of\nwords_of\n\
         blocks, d 8, s1 8, s2 23\nblocks, d 128, s1 128, s2 1151\nblocks, d 1, s1 1, s2 40\nblocks, d 16, s1 32, s2 95\nlocate and contents\n\
         get 3, its size\nget 5, its size\nget 9\nget 8, 8, 1\n\
         get 8, 8, 1, free the first, get 8\nget 8, 8, 1, free the second, get 8\n";
     for which in 0..15 {
-        cases::lines::write_line(names, which, figure(which));
+        cases::lines::write_line(&rt, names, which, figure(which))?;
     }
+    Ok(())
 }

@@ -5,6 +5,7 @@
 ghost use Rattle.std.specs.Prelude.{◌≤◌, ◌<◌, length};
 
 use columns::Kept;
+use std::io;
 
 // What a call answers as a number: how many it wrote, or the refusal; 31 is a width that is none.
 fn number(kept: Kept) -> u64 {
@@ -147,10 +148,11 @@ fn checksum(which: u64) -> u64 {
     sum
 }
 
-fn main() {
+fn main(rt: HostRuntime) -> io::Result<()> {
     let names =
         b"save, width 36\nsave, width 48\nsave, any width\nload, width 36\nload, width 48\nload, any width\n";
     for which in 0..6 {
-        cases::lines::write_line(names, which, checksum(which) / 2);
+        cases::lines::write_line(&rt, names, which, checksum(which) / 2)?;
     }
+    Ok(())
 }

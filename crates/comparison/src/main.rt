@@ -12,6 +12,7 @@ use machine::Answer;
 use states::counts::COUNTS;
 use states::numbers::NUMBERS;
 use states::{STATE, checksums, counts, numbers};
+use std::io;
 
 // What a step answers, as a number; the checksum with it; and which count its first store belongs to.
 #[derive(Clone, Copy)]
@@ -213,39 +214,34 @@ fn step_all(
 }
 
 // Writes an answer and a count of steps.
-fn write_answer(answer: u64, count: u64) {
+fn write_answer(rt: &impl Print, answer: u64, count: u64) -> io::Result<()> {
     match answer {
-        0 => io::write_all(1, b" running "),
-        100 => io::write_all(1, b" finished "),
-        _ => {
-            io::write_all(1, b" ");
-            io::print_decimal(1, answer);
-            io::write_all(1, b" ")
-        }
-    };
-    io::print_decimal(1, count);
+        0 => print!(rt; " running {count}"),
+        100 => print!(rt; " finished {count}"),
+        _ => print!(rt; " {answer} {count}"),
+    }
 }
 
 // Writes a checksum.
-fn write_sum(sum: u64) {
-    io::write_all(1, b" ");
-    io::print_hex(1, sum, 16);
+fn write_sum(rt: &impl Print, sum: u64) -> io::Result<()> {
+    print!(rt; " {sum:016x}")
 }
 
 // Writes the line of a case, but for its label.
-fn write_case(which: u64, stepped: Ended, ran: Ended) {
-    io::print_decimal(1, which);
-    write_answer(stepped.answer, stepped.count);
-    write_sum(stepped.steps);
-    write_sum(stepped.left);
-    io::write_all(1, b", run");
-    write_answer(ran.answer, ran.count);
-    write_sum(ran.left);
-    io::write_all(1, b": ");
+fn write_case(rt: &impl Print, which: u64, stepped: Ended, ran: Ended) -> io::Result<()> {
+    print!(rt; "{which}")?;
+    write_answer(rt, stepped.answer, stepped.count)?;
+    write_sum(rt, stepped.steps)?;
+    write_sum(rt, stepped.left)?;
+    print!(rt; ", run")?;
+    write_answer(rt, ran.answer, ran.count)?;
+    write_sum(rt, ran.left)?;
+    print!(rt; ": ")
 }
 
 // A case by steps and by a run, each from its start.
 fn play(
+    rt: &impl Print,
     width: u64,
     which: u64,
     table: &[u64],
@@ -256,7 +252,7 @@ fn play(
     before: u64,
     limit: u64,
     counts: &mut [u64; COUNTS],
-) {
+) -> io::Result<()> {
     let mut state = [0u8; STATE];
     start(
         width, &mut state, table, storage, input, output, damages, before,
@@ -266,11 +262,16 @@ fn play(
         width, &mut state, table, storage, input, output, damages, before,
     );
     let ran = run(&mut state, table, storage, input, output, limit);
-    write_case(which, stepped, ran);
+    write_case(rt, which, stepped, ran)
 }
 
 // The case of these numbers, its width beside.
-fn play_numbers(which: u64, numbers: &[u64; NUMBERS], counts: &mut [u64; COUNTS]) {
+fn play_numbers(
+    rt: &impl Print,
+    which: u64,
+    numbers: &[u64; NUMBERS],
+    counts: &mut [u64; COUNTS],
+) -> io::Result<()> {
     let all = &numbers[..];
     let case = numbers::case_of(all);
     let input = 8 + case.table;
@@ -284,6 +285,7 @@ fn play_numbers(which: u64, numbers: &[u64; NUMBERS], counts: &mut [u64; COUNTS]
     let storage_length = case.storage;
     let output_length = case.output;
     play(
+        rt,
         case.width,
         which,
         &all[8..input],
@@ -294,34 +296,35 @@ fn play_numbers(which: u64, numbers: &[u64; NUMBERS], counts: &mut [u64; COUNTS]
         case.before,
         case.limit,
         counts,
-    );
+    )
 }
 
 // The case that starts at a place of the input, and where the next one starts.
 fn play_at(
+    rt: &impl Print,
     file: &[u8],
     from: usize,
     which: u64,
     narrow: &mut [u64; COUNTS],
     wide: &mut [u64; COUNTS],
-) -> usize {
+) -> io::Result<usize> {
     let mut numbers = [0u64; NUMBERS];
     let length = numbers::number_at(file, from);
     let count = numbers::within(length.value, NUMBERS);
     let after = numbers::read_numbers(file, length.next, count, &mut numbers);
     if numbers[7] == 48 {
-        play_numbers(which, &numbers, wide);
+        play_numbers(rt, which, &numbers, wide)?;
     } else {
-        play_numbers(which, &numbers, narrow);
+        play_numbers(rt, which, &numbers, narrow)?;
     }
     let label = numbers::number_at(file, after);
-    let end = numbers::write_text(file, label.next, label.value);
-    io::write_all(1, b"\n");
-    end
+    let end = numbers::write_text(rt, file, label.next, label.value)?;
+    println!(rt)?;
+    Ok(end)
 }
 
 // All cases of the input, and what they reached.
-fn play_all(file: &[u8]) {
+fn play_all(rt: &impl Print, file: &[u8]) -> io::Result<()> {
     let mut narrow = [0u64; COUNTS];
     let mut wide = [0u64; COUNTS];
     let first = numbers::number_at(file, 0);
@@ -329,15 +332,16 @@ fn play_all(file: &[u8]) {
     let mut at = first.next;
     let mut which = 0;
     while which < cases {
-        at = play_at(file, at, which, &mut narrow, &mut wide);
+        at = play_at(rt, file, at, which, &mut narrow, &mut wide)?;
         which += 1;
     }
-    let rest = counts::write(&narrow, file, at);
-    counts::write(&wide, file, rest);
+    let rest = counts::write(rt, &narrow, file, at)?;
+    counts::write(rt, &wide, file, rest)?;
+    Ok(())
 }
 
-fn main() {
+fn main(rt: HostRuntime) -> io::Result<()> {
     let mut file = [0u8; 524288];
-    let length = io::read_full(0, &mut file);
-    play_all(&file[..length]);
+    let length = files::read_full(&mut rt.reader(), &mut file);
+    play_all(&rt, &file[..length])
 }

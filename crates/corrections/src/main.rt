@@ -6,7 +6,7 @@ ghost use Rattle.std.specs.Prelude.{◌<◌, ◌≤◌, length};
 
 use cases::next;
 use recordings::Written;
-use std::num;
+use std::{io, num};
 
 // A list's rows besides row 0, and its chain: it goes on by a number of rows, round and round, from the first row to the last.
 #[derive(Clone, Copy)]
@@ -267,27 +267,29 @@ fn edge(which: u64) -> u64 {
 }
 
 // Writes the lines of the edges.
-fn write_edges(names: &[u8]) {
+fn write_edges(rt: &impl Print, names: &[u8]) -> io::Result<()> {
     for which in 0..15 {
-        cases::lines::write_line(names, which, edge(which));
+        cases::lines::write_line(rt, names, which, edge(which))?;
     }
+    Ok(())
 }
 
 // Writes the lines of all cases.
-fn write_figures(names: &[u8]) {
+fn write_figures(rt: &impl Print, names: &[u8]) -> io::Result<()> {
     let figures = try_all();
     for i in 0..6 {
-        cases::lines::write_line(names, 15 + i as u64, figures[i]);
+        cases::lines::write_line(rt, names, 15 + i as u64, figures[i])?;
     }
+    Ok(())
 }
 
-fn main() {
+fn main(rt: HostRuntime) -> io::Result<()> {
     let names =
         b"no numbers\nthree numbers\nrow 0 alone\nrow 0 names a row that is missing\nrow 0 with a recording\n\
         one record\ntwo of one day\nan earlier day later in the chain\nthe chain from the last row\n\
         a stop again after another\na row that is its own next\na loop past the first row\n\
         a next index outside, the chain empty\nroom for one stop of two\na loop, and no room\n\
         all answers\nno stop\nstops\nrefusals 26\nrefusals 27\nrefusals 28\n";
-    write_edges(names);
-    write_figures(names);
+    write_edges(&rt, names)?;
+    write_figures(&rt, names)
 }

@@ -4,10 +4,11 @@
 
 ghost use Rattle.std.specs.Prelude.{◌≤◌};
 
+use cases::lines;
 use defined::FieldsCheck;
 use states::numbers;
 use states::numbers::NUMBERS;
-use std::num;
+use std::{io, num};
 
 // The checksum, and how many tables got yes, no, 1, an ill-formed row, 30.
 const FIGURES: usize = 6;
@@ -37,31 +38,31 @@ fn kind(found: FieldsCheck) -> usize {
 }
 
 // Writes a word and a number.
-fn write_number(word: &[u8], n: u64) {
-    io::write_all(1, word);
-    io::print_decimal(1, n);
+fn write_number(rt: &impl Print, word: &[u8], n: u64) -> io::Result<()> {
+    lines::write_bytes(rt, word)?;
+    print!(rt; "{n}")
 }
 
 // Writes a word.
-fn write_word(word: &[u8]) {
-    io::write_all(1, word);
+fn write_word(rt: &impl Print, word: &[u8]) -> io::Result<()> {
+    lines::write_bytes(rt, word)
 }
 
 // Writes a row and a field.
-fn write_use(row: u64, field: u64) {
-    write_number(b"no, row ", row);
-    write_number(b", field ", field);
+fn write_use(rt: &impl Print, row: u64, field: u64) -> io::Result<()> {
+    write_number(rt, b"no, row ", row)?;
+    write_number(rt, b", field ", field)
 }
 
 // Writes an answer.
-fn write_found(found: FieldsCheck) {
+fn write_found(rt: &impl Print, found: FieldsCheck) -> io::Result<()> {
     match found {
-        FieldsCheck::Yes => write_word(b"yes"),
-        FieldsCheck::No { row, field } => write_use(row, field),
-        FieldsCheck::NoWidth => write_word(b"refusal 31"),
-        FieldsCheck::BadLength => write_word(b"refusal 1"),
-        FieldsCheck::IllFormed(row) => write_number(b"ill-formed, row ", row),
-        FieldsCheck::WrongKind(row) => write_number(b"refusal 30, row ", row),
+        FieldsCheck::Yes => write_word(rt, b"yes"),
+        FieldsCheck::No { row, field } => write_use(rt, row, field),
+        FieldsCheck::NoWidth => write_word(rt, b"refusal 31"),
+        FieldsCheck::BadLength => write_word(rt, b"refusal 1"),
+        FieldsCheck::IllFormed(row) => write_number(rt, b"ill-formed, row ", row),
+        FieldsCheck::WrongKind(row) => write_number(rt, b"refusal 30, row ", row),
     }
 }
 
@@ -75,13 +76,13 @@ fn count(found: FieldsCheck, figures: &mut [u64; FIGURES]) {
 }
 
 // The line of a table that has a label.
-fn write_line(found: FieldsCheck, label: u64) {
+fn write_line(rt: &impl Print, found: FieldsCheck, label: u64) -> io::Result<()> {
     if label == 0 {
-        return;
+        return Ok(());
     }
-    io::write_all(1, b": ");
-    write_found(found);
-    io::write_all(1, b"\n");
+    print!(rt; ": ")?;
+    write_found(rt, found)?;
+    println!(rt)
 }
 
 // What is said of the first numbers of a table.
@@ -93,45 +94,52 @@ fn checked(table: &[u64; NUMBERS], n: usize) -> FieldsCheck
 }
 
 // The table that starts at a place of the input, and where the next one starts.
-fn try_at(file: &[u8], from: usize, figures: &mut [u64; FIGURES]) -> usize {
+fn try_at(
+    rt: &impl Print,
+    file: &[u8],
+    from: usize,
+    figures: &mut [u64; FIGURES],
+) -> io::Result<usize> {
     let mut table = [0u64; NUMBERS];
     let length = numbers::number_at(file, from);
     let n = numbers::within(length.value, NUMBERS);
     let after = numbers::read_numbers(file, length.next, n, &mut table);
     let found = checked(&table, n);
     let label = numbers::number_at(file, after);
-    let end = numbers::write_text(file, label.next, label.value);
-    write_line(found, label.value);
+    let end = numbers::write_text(rt, file, label.next, label.value)?;
+    write_line(rt, found, label.value)?;
     count(found, figures);
-    end
+    Ok(end)
 }
 
 // All tables of the input.
-fn try_all(file: &[u8]) -> [u64; FIGURES] {
+fn try_all(rt: &impl Print, file: &[u8]) -> io::Result<[u64; FIGURES]> {
     let mut figures = [0u64; FIGURES];
     let first = numbers::number_at(file, 0);
     let tables = first.value;
     let mut at = first.next;
     let mut which = 0;
     while which < tables {
-        at = try_at(file, at, &mut figures);
+        at = try_at(rt, file, at, &mut figures)?;
         which += 1;
     }
-    figures
+    Ok(figures)
 }
 
 // Writes the lines of all tables.
-fn write_figures(figures: [u64; FIGURES]) {
+fn write_figures(rt: &impl Print, figures: [u64; FIGURES]) -> io::Result<()> {
     let names = b"all answers\nyes\nno\nrefusal 1\nill-formed\nrefusal 30\n";
     let mut i = 0;
     while i < FIGURES {
-        cases::lines::write_line(names, i as u64, figures[i] % cases::REFUSED);
+        lines::write_line(rt, names, i as u64, figures[i] % cases::REFUSED)?;
         i += 1;
     }
+    Ok(())
 }
 
-fn main() {
+fn main(rt: HostRuntime) -> io::Result<()> {
     let mut file = [0u8; 524288];
-    let length = io::read_full(0, &mut file);
-    write_figures(try_all(&file[..length]));
+    let length = files::read_full(&mut rt.reader(), &mut file);
+    let figures = try_all(&rt, &file[..length])?;
+    write_figures(&rt, figures)
 }

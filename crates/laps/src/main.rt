@@ -9,10 +9,11 @@ ghost use Rattle.std.specs.Prelude.{◌≤◌};
 use cases::{fold_words, left_after};
 use engine::answers::refusal_number;
 use files::read_file;
-use libc::STDOUT_FILENO;
 use machine::{Answer, State};
 use states::checksums;
+use std::io;
 use std::num;
+use std::rt::Env;
 use tour::numbers::read_table;
 
 // What is asked for: so many calls of step, or of run up to a limit, on words of a width.
@@ -131,74 +132,68 @@ fn step_all(
 }
 
 // Writes how the steps end.
-fn write(ended: Ended) {
-    io::print_decimal(STDOUT_FILENO, ended.answer);
-    io::write_all(STDOUT_FILENO, b" ");
-    io::print_decimal(STDOUT_FILENO, ended.count);
-    io::write_all(STDOUT_FILENO, b" ");
-    io::print_decimal(STDOUT_FILENO, ended.sum);
-    io::write_all(STDOUT_FILENO, b"\n");
+fn write(rt: &impl Print, ended: Ended) -> io::Result<()> {
+    println!(rt; "{} {} {}", ended.answer, ended.count, ended.sum)
 }
 
 // Steps through a table, with new storage and output.
-fn play(asked: Asked, table: &[u64], input: &[u8]) {
+fn play(rt: &impl Print, asked: Asked, table: &[u64], input: &[u8]) -> io::Result<()> {
     let mut storage = [0u64; 4096];
     let mut output = [0u8; 4096];
     if asked.stepping {
-        write(step_all(table, &mut storage, input, &mut output, asked));
+        write(rt, step_all(table, &mut storage, input, &mut output, asked))
     } else {
-        write(run_all(table, &mut storage, input, &mut output, asked));
+        write(rt, run_all(table, &mut storage, input, &mut output, asked))
     }
 }
 
 // The same, given both files' bytes.
-fn play_files(asked: Asked, tab: &[u8], stops: &[u8]) {
+fn play_files(rt: &impl Print, asked: Asked, tab: &[u8], stops: &[u8]) -> io::Result<()> {
     let mut table = [0u64; 8000];
     let count = read_table(tab, &mut table);
     let given = at_most_4096(stops.len());
-    play(asked, &table[..count], &stops[..given]);
+    play(rt, asked, &table[..count], &stops[..given])
 }
 
 // The number that an argument gives, or another one where it is missing.
-fn argument(i: usize, missing: u64) -> u64 {
+fn argument(rt: &impl Env, i: usize, missing: u64) -> u64 {
     let mut digits = [0u8; 20];
-    let length = os::arg(i, &mut digits);
-    if length == 0 {
-        return missing;
+    match rt.arg(i, &mut digits) {
+        Ok(0) | Err(_) => missing,
+        Ok(length) => number_of(&digits[..length]),
     }
-    number_of(&digits[..length])
 }
 
 // Whether the mode is step: its first letter is s.
-fn is_step() -> bool {
+fn is_step(rt: &impl Env) -> bool {
     let mut mode = [0u8; 8];
-    os::arg(1, &mut mode);
+    let _ = rt.arg(1, &mut mode);
     mode[0] == 115
 }
 
 // What the arguments ask for.
-fn arguments() -> Asked {
-    let stepping = is_step();
+fn arguments(rt: &impl Env) -> Asked {
+    let stepping = is_step(rt);
     if stepping {
         return Asked {
             stepping: stepping,
             limit: 1,
-            calls: argument(2, 0),
-            width: (argument(3, 36) % 256) as u8,
+            calls: argument(rt, 2, 0),
+            width: (argument(rt, 3, 36) % 256) as u8,
         };
     }
     Asked {
         stepping: stepping,
-        limit: argument(2, 0),
-        calls: argument(3, 1),
-        width: (argument(4, 36) % 256) as u8,
+        limit: argument(rt, 2, 0),
+        calls: argument(rt, 3, 1),
+        width: (argument(rt, 4, 36) % 256) as u8,
     }
 }
 
-fn main() {
-    let mut tab = io::large_buffer();
-    let mut stops = io::large_buffer();
-    let table = read_file(b"tour.tab", &mut tab);
-    let given = read_file(b"stops.in", &mut stops);
-    play_files(arguments(), &tab[..table], &stops[..given]);
+fn main(rt: HostRuntime) -> io::Result<()> {
+    let mut tab = [0u8; 65536];
+    let mut stops = [0u8; 65536];
+    let table = read_file(&rt, b"tour.tab", &mut tab);
+    let given = read_file(&rt, b"stops.in", &mut stops);
+    play_files(&rt, arguments(&rt), &tab[..table], &stops[..given])
 }

@@ -6,6 +6,7 @@ mod characters;
 mod tables;
 mod words;
 
+use std::io;
 use word::{arithmetic, fields};
 
 // What function number `which` gives on a case.
@@ -68,7 +69,7 @@ fn figure(which: u64) -> u64 {
     }
 }
 
-fn main() {
+fn main(rt: HostRuntime) -> io::Result<()> {
     let names =
         b"power\nlow_bits\nadd\nsubtract\nmultiply\ndivide\nor\nand\nexclusive_or\ncomplement\n\
         count_ones\ncount_zeros\nleftmost_one\nrightmost_one\nleftmost_zero\nrightmost_zero\n\
@@ -80,6 +81,7 @@ fn main() {
         607 to decimal, octal\n1000607 to decimal, octal\nzeros to blanks, octal\neight printed of o60007, octal\n\
         o606060060007 to binary\no000000060007 to binary\n";
     for which in 0..46 {
-        cases::lines::write_line(names, which, figure(which));
+        cases::lines::write_line(&rt, names, which, figure(which))?;
     }
+    Ok(())
 }

@@ -6,7 +6,7 @@ ghost use Rattle.std.specs.Prelude.{◌<◌, ◌≤◌};
 
 use cases::next;
 use hours::Opening;
-use std::num;
+use std::{io, num};
 
 // The opening minute of a drawn entry.
 fn opening(drawn: u64) -> u64
@@ -206,13 +206,14 @@ fn figure(which: u64) -> u64 {
     }
 }
 
-fn main() {
+fn main(rt: HostRuntime) -> io::Result<()> {
     let names = b"day 0, a Saturday, minute 0\nday 0, minute 1439\nday 0, minute 1440\n\
         day 2, a Monday, minute 59\nday 2, minute 60\nday 2, minute 119\nday 2, minute 120\n\
         day 7, closed, minute 0\nday 14, minute 0\n\
         day 2^64 - 1, minute 1438\nday 2^64 - 1, minute 1439\nday 2^64 - 8, a Sunday, minute 1\n\
         all answers\nrows\nclosed\nrefusals\n";
     for which in 0..16 {
-        cases::lines::write_line(names, which, figure(which));
+        cases::lines::write_line(&rt, names, which, figure(which))?;
     }
+    Ok(())
 }

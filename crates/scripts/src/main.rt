@@ -6,7 +6,7 @@ ghost use Rattle.std.specs.Prelude.{◌≤◌, length};
 
 use lines::Read;
 use states::numbers;
-use std::num;
+use std::{io, num};
 
 // The numbers of the table of which a part is lent, and what stands in it before.
 const ROOM: usize = 8010;
@@ -39,30 +39,30 @@ fn kind(found: Read) -> usize {
 }
 
 // Writes a word and a number.
-fn write_number(word: &[u8], n: u64) {
-    io::write_all(1, word);
-    io::print_decimal(1, n);
+fn write_number(rt: &impl Print, word: &[u8], n: u64) -> io::Result<()> {
+    cases::lines::write_bytes(rt, word)?;
+    print!(rt; "{n}")
 }
 
 // Writes an answer.
-fn write_found(found: Read) {
+fn write_found(rt: &impl Print, found: Read) -> io::Result<()> {
     match found {
-        Read::Rows(rows) => write_number(b"rows ", rows),
-        Read::NoWidth => write_number(b"", 31),
-        Read::BadLine(line) => write_number(b"23, line ", line),
-        Read::BadLabel(line) => write_number(b"24, line ", line),
-        Read::TooLong(line) => write_number(b"25, line ", line),
+        Read::Rows(rows) => write_number(rt, b"rows ", rows),
+        Read::NoWidth => write_number(rt, b"", 31),
+        Read::BadLine(line) => write_number(rt, b"23, line ", line),
+        Read::BadLabel(line) => write_number(rt, b"24, line ", line),
+        Read::TooLong(line) => write_number(rt, b"25, line ", line),
     }
 }
 
 // The line of a text that has a label.
-fn write_line(found: Read, label: u64) {
+fn write_line(rt: &impl Print, found: Read, label: u64) -> io::Result<()> {
     if label == 0 {
-        return;
+        return Ok(());
     }
-    io::write_all(1, b": ");
-    write_found(found);
-    io::write_all(1, b"\n");
+    print!(rt; ": ")?;
+    write_found(rt, found)?;
+    println!(rt)
 }
 
 // Counts an answer, and takes it and the table into the checksum.
@@ -101,7 +101,12 @@ fn read_into(file: &[u8], from: usize, end: usize, room: usize, table: &mut [u64
 }
 
 // The text that starts at a place of the input, and where the next one starts.
-fn try_at(file: &[u8], from: usize, figures: &mut [u64; FIGURES]) -> usize {
+fn try_at(
+    rt: &impl Print,
+    file: &[u8],
+    from: usize,
+    figures: &mut [u64; FIGURES],
+) -> io::Result<usize> {
     let mut table = [BEFORE; ROOM];
     let lent = numbers::number_at(file, from);
     let length = numbers::number_at(file, lent.next);
@@ -109,38 +114,40 @@ fn try_at(file: &[u8], from: usize, figures: &mut [u64; FIGURES]) -> usize {
     let room = numbers::within(lent.value, ROOM);
     let found = read_into(file, length.next, end, room, &mut table);
     let label = numbers::number_at(file, end);
-    let after = numbers::write_text(file, label.next, label.value);
-    write_line(found, label.value);
+    let after = numbers::write_text(rt, file, label.next, label.value)?;
+    write_line(rt, found, label.value)?;
     count(found, &table, figures);
-    after
+    Ok(after)
 }
 
 // All texts of the input.
-fn try_all(file: &[u8]) -> [u64; FIGURES] {
+fn try_all(rt: &impl Print, file: &[u8]) -> io::Result<[u64; FIGURES]> {
     let mut figures = [0u64; FIGURES];
     let first = numbers::number_at(file, 0);
     let texts = first.value;
     let mut at = first.next;
     let mut which = 0;
     while which < texts {
-        at = try_at(file, at, &mut figures);
+        at = try_at(rt, file, at, &mut figures)?;
         which += 1;
     }
-    figures
+    Ok(figures)
 }
 
 // Writes the lines of all texts.
-fn write_figures(figures: [u64; FIGURES]) {
+fn write_figures(rt: &impl Print, figures: [u64; FIGURES]) -> io::Result<()> {
     let names = b"all answers\ntables\n23\n24\n25\n";
     let mut i = 0;
     while i < FIGURES {
-        cases::lines::write_line(names, i as u64, figures[i] % cases::REFUSED);
+        cases::lines::write_line(rt, names, i as u64, figures[i] % cases::REFUSED)?;
         i += 1;
     }
+    Ok(())
 }
 
-fn main() {
+fn main(rt: HostRuntime) -> io::Result<()> {
     let mut file = [0u8; 524288];
-    let length = io::read_full(0, &mut file);
-    write_figures(try_all(&file[..length]));
+    let length = files::read_full(&mut rt.reader(), &mut file);
+    let figures = try_all(&rt, &file[..length])?;
+    write_figures(&rt, figures)
 }

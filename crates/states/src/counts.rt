@@ -8,7 +8,7 @@ ghost use Rattle.std.specs.Prelude.{◌<◌, ◌≤◌};
 use crate::STATE;
 use crate::numbers::{number, number_at, write_text};
 use machine::Store;
-use std::num;
+use std::{io, num};
 
 // How many counts there are for a width: 36 operations, then from 36 on tests, from 50 modes, from 59 refusals, from 81 set-ups,
 // from 89 stores, from 93 refusal 17 without and with free blocks, and 95 refusal 31.
@@ -144,16 +144,20 @@ pub fn ended(counts: &mut [u64; COUNTS], answer: u64, state: &[u8; STATE]) {
 }
 
 // Writes the counts; what each is of stands in the input from a place on, each with its length before it. Tells where that ends.
-pub fn write(counts: &[u64; COUNTS], file: &[u8], from: usize) -> usize {
+pub fn write(
+    rt: &impl Print,
+    counts: &[u64; COUNTS],
+    file: &[u8],
+    from: usize,
+) -> io::Result<usize> {
     let mut at = from;
     let mut i = 0;
     while i < 96 {
         let length = number_at(file, at);
-        at = write_text(file, length.next, length.value);
-        io::write_all(1, b": ");
-        io::print_decimal(1, counts[i]);
-        io::write_all(1, b"\n");
+        at = write_text(rt, file, length.next, length.value)?;
+        let count = counts[i];
+        println!(rt; ": {count}")?;
         i += 1;
     }
-    at
+    Ok(at)
 }

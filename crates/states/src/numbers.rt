@@ -1,6 +1,9 @@
 // The input taken apart: numbers in groups of seven bits, and the parts of a case.
 ghost use Rattle.std.specs.Prelude.{◌≤◌};
 
+use cases::lines;
+use std::io;
+
 // The most numbers of a case.
 pub const NUMBERS: usize = 16384;
 
@@ -60,16 +63,16 @@ pub fn read_numbers(file: &[u8], from: usize, count: usize, numbers: &mut [u64; 
 }
 
 // Writes so many bytes of the input from a place on, and tells where they end; writes nothing if there are not so many.
-pub fn write_text(file: &[u8], from: usize, length: u64) -> usize {
+pub fn write_text(rt: &impl Print, file: &[u8], from: usize, length: u64) -> io::Result<usize> {
     if file.len() < from {
-        return from;
+        return Ok(from);
     }
     if ((file.len() - from) as u64) < length {
-        return from;
+        return Ok(from);
     }
     let end = from + length as usize;
-    io::write_all(1, &file[from..end]);
-    end
+    lines::write_bytes(rt, &file[from..end])?;
+    Ok(end)
 }
 
 // Number i, or 0 if there is none.

@@ -4,16 +4,17 @@
 
 use diagnosis::{LINE, diagnose};
 use files::read_file;
-use libc::STDOUT_FILENO;
+use std::io;
+use std::io::Write;
 use tour::width::width_of;
 
 // The buffer holds more than what tourcheck takes of the file: 64,000 bytes.
-fn main() {
-    let mut tab = io::large_buffer();
+fn main(rt: HostRuntime) -> io::Result<()> {
+    let mut tab = [0u8; 65536];
     let mut text = [0u8; LINE];
     let mut word = [0u8; 8];
-    let given = files::first_word(&mut word);
-    let table = read_file(b"tour.tab", &mut tab);
+    let given = files::first_word(&rt, &mut word);
+    let table = read_file(&rt, b"tour.tab", &mut tab);
     let start = diagnose(width_of(&word[..given]), &tab[..table], &mut text);
-    io::write_all(STDOUT_FILENO, &text[start..]);
+    io::writer(&rt).write_all(&text[start..])
 }

@@ -3,7 +3,9 @@
 #![tactic(auto)]
 
 use files::read_file;
-use libc::STDOUT_FILENO;
+use std::io::Write;
+use std::rt::Files;
+use std::{fs, io};
 use tour::numbers::BYTES;
 use tour::width::width_of;
 use tourtext::{LINE, translate};
@@ -12,25 +14,19 @@ use tourtext::{LINE, translate};
 const LONGEST: usize = 65536;
 
 // Writes tour.tab anew.
-fn write_tab(bytes: &[u8]) {
-    let file = os::open_overwrite(b"tour.tab");
-    if file < 0 {
-        return;
-    }
-    io::write_all(file, bytes);
-    libc::close(file);
+fn write_tab(rt: &impl Files, bytes: &[u8]) -> io::Result<()> {
+    fs::write(rt, "tour.tab", bytes)
 }
 
-fn main() {
-    let mut typed = io::large_buffer();
+fn main(rt: HostRuntime) -> io::Result<()> {
+    let mut typed = [0u8; LONGEST];
     let mut tab = [0u8; BYTES];
     let mut printed = [0u8; LINE];
     let mut word = [0u8; 8];
-    let asked = files::first_word(&mut word);
-    let given = read_file(b"tour.l6", &mut typed);
+    let asked = files::first_word(&rt, &mut word);
+    let given = read_file(&rt, b"tour.l6", &mut typed);
     if given == LONGEST {
-        io::write_all(STDOUT_FILENO, b"tour.l6 has more than 65535 bytes\n");
-        return;
+        return println!(rt; "tour.l6 has more than 65535 bytes");
     }
     let done = translate(
         width_of(&word[..asked]),
@@ -41,7 +37,7 @@ fn main() {
     let bytes = done.bytes;
     let start = done.start;
     if 0 < bytes {
-        write_tab(&tab[..bytes]);
+        write_tab(&rt, &tab[..bytes])?;
     }
-    io::write_all(STDOUT_FILENO, &printed[start..]);
+    io::writer(&rt).write_all(&printed[start..])
 }

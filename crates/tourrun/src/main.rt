@@ -2,16 +2,17 @@
 #![tactic(auto)]
 
 use files::read_file;
-use libc::STDOUT_FILENO;
+use std::io;
+use std::io::Write;
 use tour::{TEXT, play};
 
 // Both buffers hold more than what tourrun takes of a file: 64,000 and 4,096 bytes.
-fn main() {
-    let mut tab = io::large_buffer();
-    let mut stops = io::large_buffer();
+fn main(rt: HostRuntime) -> io::Result<()> {
+    let mut tab = [0u8; 65536];
+    let mut stops = [0u8; 65536];
     let mut text = [0u8; TEXT];
-    let table = read_file(b"tour.tab", &mut tab);
-    let given = read_file(b"stops.in", &mut stops);
+    let table = read_file(&rt, b"tour.tab", &mut tab);
+    let given = read_file(&rt, b"stops.in", &mut stops);
     let start = play(&tab[..table], &stops[..given], &mut text);
-    io::write_all(STDOUT_FILENO, &text[start..]);
+    io::writer(&rt).write_all(&text[start..])
 }

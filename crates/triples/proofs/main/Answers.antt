@@ -1,8 +1,5 @@
 -- `triples::main` meets its contract: as many entries are read as are filled, which is 1,000. Assumes nothing.
-use mathlib.Core.Path.{◌≡◌}
-use Prim.Native.Nat.{◌-◌, ◌≤◌}
 use native.Mathlib.Omega.{arith}
-use borrow.Author.Rules.{rules}
 use Rattle.character.specs.Triples.{answered}
 use Rattle.triples.proofs.main.Goals as goal
 

@@ -1,8 +1,5 @@
 use mathlib.Core.Path.{◌≡◌}
 use Prim.Native.Nat.{◌-◌, ◌≤◌}
-use native.Mathlib.Omega.{arith}
-use borrow.Author.Rules.{rules}
-use Rattle.character.specs.Triples.{answered}
 use Rattle.triples.proofs.main.Given as goal
 
 abbrev pub invariant-loop-k : goal.invariant-loop-k
