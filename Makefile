@@ -98,5 +98,6 @@ everything: test tours player compare expected map
 # The library for vendors in one file, with its version: header, archive, Rust module, example hosts, docs/EMBEDDING.md.
 dist: libplayer
 	version=l6-$$(sed -n 's/^#define L6_VERSION //p' include/l6.h) && rm -rf target/$$version && mkdir -p target/$$version \
-	&& cp include/l6.h host/l6.rs host/player.c host/player.rs docs/EMBEDDING.md CHANGELOG.md target/staticlib/libplayer.a target/$$version \
+	&& cp include/l6.h host/l6.rs host/player.c host/player.rs docs/EMBEDDING.md CHANGELOG.md target/$$version \
+	&& cp target/staticlib/libplayer.a target/$$version \
 	&& tar -C target -czf target/$$version.tar.gz $$version && echo target/$$version.tar.gz

@@ -1,5 +1,6 @@
-# Prints the typed lines of a table whose numbers it reads, ten a row from row 0, any number of them on a line. A row that a go-to or a DO
-# names gets a label, L1, L2 .. in the order of the rows. Literals stand in the base that the mnemonic alone has, and copying is always E.
+# Prints the typed lines of a table whose numbers it reads, ten a row from row 0, any number of them on a line. A row that a go-to
+# or a DO names gets a label, L1, L2 .. in the order of the rows. Literals stand in the base that the mnemonic alone has, and
+# copying is always E.
 BEGIN {
     CONVFMT = "%.0f"   # some awks write large whole numbers as fractions otherwise
     split("IFALL IFANY IFNONE IFNALL", modes, " ")

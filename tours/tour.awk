@@ -4,8 +4,8 @@
 #   part=numbers  NAME.numbers, for a tour.tab that no typed lines give: a row of ten numbers a line, from row 0
 #   part=prints   NAME.prints: the two lines that tourrun must print; codes and '* N' are those codes N times
 #
-# A list of corrections has two parts, each after a line with its name: part=corrections for corrections.tab, part=stands for what the
-# library must make of it.
+# A list of corrections has two parts, each after a line with its name: part=corrections for corrections.tab, part=stands for what
+# the library must make of it.
 #   corrections  a row a line, from row 0: its number, the next row, the stop, the issue day, the recording
 #   stands       a stop and its recording a line
 BEGIN { CONVFMT = "%.0f" }   # some awks write large whole numbers as fractions otherwise

@@ -2,7 +2,7 @@
 #![tactic(auto)]
 
 pub mod carry;
-pub mod core;
+pub mod leading;
 pub mod reports;
 pub mod words;
 

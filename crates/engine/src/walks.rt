@@ -16,7 +16,7 @@ use crate::{Start, Walked};
 use block::SetUp;
 use commit::Records;
 use commit::carry::carry_out;
-use commit::core::go_on;
+use commit::leading::go_on;
 use commit::reports::report_of;
 use machine::{
     Answer, BugWords, CallStack, ContentsStack, Core, DefinitionStack, Entries, MapBytes, Place,

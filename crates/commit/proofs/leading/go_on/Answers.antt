@@ -1,4 +1,4 @@
--- `commit::core::go_on` meets its contract: by the action. Assumes nothing.
+-- `commit::leading::go_on` meets its contract: by the action. Assumes nothing.
 use native.Mathlib.Omega.{arith}
 use native.Mathlib.Numerals.{add-one}
 use mathlib.Core.Path.{sym, ap}
@@ -7,7 +7,7 @@ use Rattle.commit.specs.Carried.{setup_after, counts_after, is_recorded}
 use Rattle.commit.proofs.Others.{stays}
 use Rattle.commit.proofs.Turning.{input_fits, print_fits, save_room, restore_room, save_definition_room}
 use Rattle.commit.proofs.Turning.{restore_definition_room, call_room, return_room}
-use Rattle.commit.proofs.core.go_on.Goals as goal
+use Rattle.commit.proofs.leading.go_on.Goals as goal
 
 pub overflow_add-after : goal.overflow_add-after
 unfolding meant
