@@ -1,0 +1,8 @@
+use Rattle.std.proofs.Common.{◌-◌, ◌<◌, div-mul-le_self, arith, rules}
+use Rattle.allocations.proofs.maps.near.Given as goal
+
+abbrev pub invariant-loop-n : goal.invariant-loop-n
+invariant-loop-n l = 0 < l.n
+
+abbrev pub decreases-loop-n : goal.decreases-loop-n
+decreases-loop-n l = 128 - l.n
