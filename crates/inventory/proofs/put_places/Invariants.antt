@@ -1,0 +1,12 @@
+use lib.ListN.{get_or}
+use Rattle.machine.specs.State.{tests_of}
+use Rattle.inventory.specs.Inventory.{place_text}
+use Rattle.inventory.proofs.Texts.{Lines}
+use Rattle.inventory.proofs.put_places.Given as goal
+
+abbrev pub invariant-loop-left : goal.invariant-loop-left
+invariant-loop-left l =
+    Lines (λ i. place_text (get_or l.entries i (tests_of 0))) l.n l.at l.initial.text l.left l.place l.text
+
+abbrev pub decreases-loop-left : goal.decreases-loop-left
+decreases-loop-left l = l.left
