@@ -1,12 +1,20 @@
 // Files, input and arguments as the programs read them.
 #![tactic(auto)]
 
+ghost use Rattle.std.specs.Prelude.{◌≡◌, length};
 ghost use Rattle.files.specs.Counts.{IsPrefixLen};
 
 use std::env::FillError;
 use std::io::Read;
 use std::rt::{Env, Files};
 use std::{fs, str};
+
+// So many zeros. Only their number is promised, which lending them as a slice needs.
+pub fn zeros<const N: usize>() -> [u8; N]
+    ensures { length result ≡ N }
+{
+    [0; N]
+}
 
 // Reads until the buffer is full, the input ends or a read fails, and says how many bytes it put at the start of the buffer.
 pub fn read_full(from: &mut impl Read, bytes: &mut [u8]) -> usize
