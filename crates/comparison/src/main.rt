@@ -341,7 +341,7 @@ fn play_all(rt: &impl Print, file: &[u8]) -> io::Result<()> {
 }
 
 fn main(rt: HostRuntime) -> io::Result<()> {
-    let mut file = [0u8; 524288];
+    let mut file = files::zeros::<524288>();
     let length = files::read_full(&mut rt.reader(), &mut file);
     play_all(&rt, &file[..length])
 }

@@ -191,8 +191,8 @@ fn arguments(rt: &impl Env) -> Asked {
 }
 
 fn main(rt: HostRuntime) -> io::Result<()> {
-    let mut tab = [0u8; 65536];
-    let mut stops = [0u8; 65536];
+    let mut tab = files::zeros::<65536>();
+    let mut stops = files::zeros::<65536>();
     let table = read_file(&rt, b"tour.tab", &mut tab);
     let given = read_file(&rt, b"stops.in", &mut stops);
     play_files(&rt, arguments(&rt), &tab[..table], &stops[..given])

@@ -146,7 +146,7 @@ fn write_figures(rt: &impl Print, figures: [u64; FIGURES]) -> io::Result<()> {
 }
 
 fn main(rt: HostRuntime) -> io::Result<()> {
-    let mut file = [0u8; 524288];
+    let mut file = files::zeros::<524288>();
     let length = files::read_full(&mut rt.reader(), &mut file);
     let figures = try_all(&rt, &file[..length])?;
     write_figures(&rt, figures)

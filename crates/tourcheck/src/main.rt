@@ -10,7 +10,7 @@ use tour::width::width_of;
 
 // The buffer holds more than what tourcheck takes of the file: 64,000 bytes.
 fn main(rt: HostRuntime) -> io::Result<()> {
-    let mut tab = [0u8; 65536];
+    let mut tab = files::zeros::<65536>();
     let mut text = [0u8; LINE];
     let mut word = [0u8; 8];
     let given = files::first_word(&rt, &mut word);

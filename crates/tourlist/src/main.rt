@@ -9,8 +9,8 @@ use std::io::Write;
 
 // Both buffers hold more than what tourrun takes of a file: 64,000 and 4,096 bytes.
 fn main(rt: HostRuntime) -> io::Result<()> {
-    let mut tab = [0u8; 65536];
-    let mut stops = [0u8; 65536];
+    let mut tab = files::zeros::<65536>();
+    let mut stops = files::zeros::<65536>();
     let mut text = [0u8; LISTING];
     let table = read_file(&rt, b"tour.tab", &mut tab);
     let given = read_file(&rt, b"stops.in", &mut stops);

@@ -19,7 +19,7 @@ fn write_tab(rt: &impl Files, bytes: &[u8]) -> io::Result<()> {
 }
 
 fn main(rt: HostRuntime) -> io::Result<()> {
-    let mut typed = [0u8; LONGEST];
+    let mut typed = files::zeros::<LONGEST>();
     let mut tab = [0u8; BYTES];
     let mut printed = [0u8; LINE];
     let mut word = [0u8; 8];
