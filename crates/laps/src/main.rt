@@ -11,9 +11,8 @@ use engine::answers::refusal_number;
 use files::read_file;
 use machine::{Answer, State};
 use states::checksums;
-use std::io;
-use std::num;
 use std::rt::Env;
+use std::{io, num};
 use tour::numbers::read_table;
 
 // What is asked for: so many calls of step, or of run up to a limit, on words of a width.
