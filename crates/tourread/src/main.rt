@@ -36,8 +36,11 @@ fn main(rt: HostRuntime) -> io::Result<()> {
     );
     let bytes = done.bytes;
     let start = done.start;
-    if 0 < bytes {
-        write_tab(&rt, &tab[..bytes])?;
-    }
-    io::writer(&rt).write_all(&printed[start..])
+    let kept = if 0 < bytes {
+        write_tab(&rt, &tab[..bytes])
+    } else {
+        Ok(())
+    };
+    io::writer(&rt).write_all(&printed[start..])?;
+    kept
 }
