@@ -1,10 +1,10 @@
 -- What the map says at an address of the set-up words: the size of a live block there, and the map when the tree around it is changed.
 -- Assumes nothing.
+use Rattle.std.specs.Prelude.{Some}
 use Rattle.std.proofs.Common.{◌≡◌, ℕ, zero, suc, ◌+◌, ◌-◌, ◌*◌, ◌/◌, ◌%◌, ◌<◌, ◌≤◌, true, cond, ltb, List, ◌++◌, length, get_or, take, drop, replicate, sym, refl, ap, ◌∙◌, subst, ap₂, mul-le-mul_right, mod-lt, div-lt_iff_lt-mul, div-add-mod', arith, get_or-drop, get_or-take, get_or-append-add, le-ltb, lt-ltb}
 use Rattle.word.proofs.Tests.{by_leb}
 use Rattle.buddy.specs.Upward.{Rises, Rising}
 use Rattle.block.specs.declared.SetUp.{SetUp}
-use Rattle.buddy.specs.declared.Found.TheVariants.{At}
 use Rattle.block.specs.Blocks.{size, Tree, changed, freed, size_at}
 use Rattle.block.specs.SetUp.{top, words}
 use Rattle.block.specs.Map.{live_tag_of, written, canonical, all_written, trees, map_of, keeps, live, freed_map, delivered_map}
@@ -91,12 +91,12 @@ module _ (u : SetUp) (m : List ℕ) where
           (low, high, live_size (get_or m (a - u.s1) 0) (λ e. some (live_tag a low high ∙ e)))
 
       -- the lowest run, and the map when it is delivered
-      pub delivers : (j a : ℕ) → u.s1 ≤ a → j ≤ top u.d → first_of (runs (size j) u (live u m)) ≡ At a
+      pub delivers : (j a : ℕ) → u.s1 ≤ a → j ≤ top u.d → first_of (runs (size j) u (live u m)) ≡ Some a
           → Ready j (top u.d) (a - u.s1) m (delivered_map j a u m) (get_or m (a - u.s1) 0 / 2)
       unfolding delivered_map map_of
       delivers j a h low run =
           let far : u.s1 + (a - u.s1) ≡ a = omega arith in
-          let found = first_run u m j whole kept low ∙ run ∙ ap At (sym far) in
+          let found = first_run u m j whole kept low ∙ run ∙ ap Some (sym far) in
           let s = spot_trees j (top u.d) u.s1 (a - u.s1) (trees u m) (replicate (length m - words u) 0) low found in
           ready (subst (λ (b : ℕ). Spot j (top u.d) (a - u.s1) b m (delivered_map j b u m)) far (spot_same (keeps_parts u m kept).1 refl s))
 

@@ -1,17 +1,16 @@
 -- The answer of the search for a run, in numbers and as it is. Assumes nothing.
+use Rattle.std.specs.Prelude.{Option, Some, None}
 use Rattle.std.proofs.Common.{◌≡◌, ℕ, List, [], ◌∷◌, refl, ap, arith}
-use Rattle.buddy.specs.declared.Found.{Found}
-use Rattle.buddy.specs.declared.Found.TheVariants.{At, Nothing}
 use Rattle.buddy.specs.Lowest.{first_of, told_found, first_told}
 
-pub first_told_lem : (rs : List ℕ) {answer : Found} → answer ≡ first_of rs → told_found answer ≡ first_told rs
+pub first_told_lem : (rs : List ℕ) {answer : Option ℕ} → answer ≡ first_of rs → told_found answer ≡ first_told rs
 unfolding first_of told_found first_told
 first_told_lem [] e = ap told_found e
 first_told_lem (r ∷ rs) e = ap told_found e
 
-pub told_first : (rs : List ℕ) {answer : Found} → told_found answer ≡ first_told rs → answer ≡ first_of rs
+pub told_first : (rs : List ℕ) {answer : Option ℕ} → told_found answer ≡ first_told rs → answer ≡ first_of rs
 unfolding first_of told_found first_told
-told_first [] {answer = At a} e = let never : ◌≡◌ {A = ℕ} 0 1 = cc in absurd (omega arith)
-told_first [] {answer = Nothing} e = refl
-told_first (r ∷ rs) {answer = At a} e = let same : a ≡ r = cc in ap At same
-told_first (r ∷ rs) {answer = Nothing} e = let never : ◌≡◌ {A = ℕ} 0 1 = cc in absurd (omega arith)
+told_first [] {answer = Some a} e = let never : ◌≡◌ {A = ℕ} 0 1 = cc in absurd (omega arith)
+told_first [] {answer = None} e = refl
+told_first (r ∷ rs) {answer = Some a} e = let same : a ≡ r = cc in ap Some same
+told_first (r ∷ rs) {answer = None} e = let never : ◌≡◌ {A = ℕ} 0 1 = cc in absurd (omega arith)

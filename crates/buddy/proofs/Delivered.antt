@@ -1,8 +1,7 @@
 -- What delivering the lowest run writes: the free block that it starts is split, and the bytes around it stay. Assumes nothing.
+use Rattle.std.specs.Prelude.{Option, Some, None}
 use Rattle.std.proofs.Common.{◌≡◌, ℕ, zero, suc, ◌+◌, ◌-◌, ◌/◌, ◌<◌, ◌≤◌, cond, ◌⊎◌, List, [], ◌∷◌, ◌++◌, length, get_or, take, drop, replicate, sym, refl, ap, ◌∙◌, subst, ap₂, inl, inr, ⊎_elim, append_assoc, append-nil, arith, length-append, take_at, drop_at, le-ltb, lt-ltb}
 use lib.Seq.{get_or_at}
-use Rattle.buddy.specs.declared.Found.{Found}
-use Rattle.buddy.specs.declared.Found.TheVariants.{At, Nothing}
 use Rattle.block.specs.Blocks.{size, Tree, Free, Live, Halves, changed, delivered}
 use Rattle.block.specs.Map.{free_tag, written, all_written}
 use Rattle.buddy.specs.Lowest.{or_else, lowest_in}
@@ -14,23 +13,23 @@ use Rattle.buddy.proofs.Placed.{all_cons, changed_first, changed_later}
 use Rattle.buddy.proofs.Lowest.{lowest_of, not_found, lowest_large, lowest_none}
 
 -- an address is one
-same_address : (a b : ℕ) → At a ≡ At b → a ≡ b
+same_address : (a b : ℕ) → Some a ≡ Some b → a ≡ b
 same_address a b e = cc
 
 -- what is found was found first, or second and not first
-found_where : (x y : Found) (a : ℕ) → or_else x y ≡ At a → (x ≡ At a) ⊎ ((x ≡ Nothing) × (y ≡ At a))
+found_where : (x y : Option ℕ) (a : ℕ) → or_else x y ≡ Some a → (x ≡ Some a) ⊎ ((x ≡ None) × (y ≡ Some a))
 unfolding or_else
-found_where (At b) y a e = inl e
-found_where Nothing y a e = inr (refl, e)
+found_where (Some b) y a e = inl e
+found_where None y a e = inr (refl, e)
 
 -- the start of a free block lies in its tree
-lowest_bound : (j k at a : ℕ) (t : Tree) → lowest_in j k at t ≡ At a → (at ≤ a) × (a < at + size k)
+lowest_bound : (j k at a : ℕ) (t : Tree) → lowest_in j k at t ≡ Some a → (at ≤ a) × (a < at + size k)
 unfolding lowest_in
 lowest_bound j k at a Free = λ e. let same = same_address at a e in (omega arith, omega (arith, size_pos k))
 lowest_bound j k at a Live = λ e. absurd (not_found a e)
 lowest_bound j zero at a (Halves x y) = λ e. absurd (not_found a e)
 lowest_bound j (suc k) at a (Halves x y) =
-    by_leb (λ b. cond b Nothing (or_else (lowest_in j k at x) (lowest_in j k (at + size k) y)) ≡ At a → (at ≤ a) × (a < at + size (suc k))) (suc k) j
+    by_leb (λ b. cond b None (or_else (lowest_in j k at x) (lowest_in j k (at + size k) y)) ≡ Some a → (at ≤ a) × (a < at + size (suc k))) (suc k) j
     (λ l e. absurd (not_found a e))
     (λ l e. ⊎_elim
     (λ low. let bound = lowest_bound j k at a x low in (bound.0, omega (arith, size_suc k, bound.1)))
@@ -38,7 +37,7 @@ lowest_bound j (suc k) at a (Halves x y) =
     (found_where (lowest_in j k at x) (lowest_in j k (at + size k) y) a e))
 
 -- and in the words of one tree after the other
-lowest_of_bound : (j k at a : ℕ) (ts : List Tree) → lowest_of j k at ts ≡ At a → at ≤ a
+lowest_of_bound : (j k at a : ℕ) (ts : List Tree) → lowest_of j k at ts ≡ Some a → at ≤ a
 unfolding lowest_of
 lowest_of_bound j k at a [] e = absurd (not_found a e)
 lowest_of_bound j k at a (t ∷ ts) e =
@@ -99,7 +98,7 @@ module _ {j o a : ℕ} where
   }
 
 -- in a tree
-spot_tree : (j k at o : ℕ) (t : Tree) → j ≤ k → lowest_in j k at t ≡ At (at + o)
+spot_tree : (j k at o : ℕ) (t : Tree) → j ≤ k → lowest_in j k at t ≡ Some (at + o)
     → Spot j k o (at + o) (written k t) (written k (delivered j (at + o) k at t))
 spot_tree j k at o Free below e =
     let here : at ≡ at + o = same_address at (at + o) (unfold lowest_in in e) in
@@ -129,14 +128,14 @@ spot_tree j (suc k) at o (Halves x y) below e =
     let bound = lowest_bound j k (at + size k) (at + o) y high.1 in
     let far : (at + size k) + (o - size k) ≡ at + o = omega (arith, bound.0) in
     let s = subst (λ (b : ℕ). Spot j k (o - size k) b (written k y) (written k (delivered j b k (at + size k) y))) far
-    (spot_tree j k (at + size k) (o - size k) y (omega arith) (high.1 ∙ ap At (sym far))) in
+    (spot_tree j k (at + size k) (o - size k) y (omega arith) (high.1 ∙ ap Some (sym far))) in
     spot_same (sym (written_halves k x y))
     (sym (ap (written (suc k)) (delivered_second j (at + o) k at x y bound.0) ∙ written_halves k x _))
     (spot_high (written k x) (omega arith) (omega (arith, bound.0, length_written k x)) s))
     (found_where (lowest_in j k at x) (lowest_in j k (at + size k) y) (at + o) (sym (lowest_large j k at x y (omega arith)) ∙ e)))
 
 -- and in one tree after the other
-pub spot_trees : (j k at o : ℕ) (ts : List Tree) (rest : List ℕ) → j ≤ k → lowest_of j k at ts ≡ At (at + o)
+pub spot_trees : (j k at o : ℕ) (ts : List Tree) (rest : List ℕ) → j ≤ k → lowest_of j k at ts ≡ Some (at + o)
     → Spot j k o (at + o) (all_written k ts ++ rest) (all_written k (changed (delivered j (at + o) k) (at + o) k at ts) ++ rest)
 unfolding lowest_of
 spot_trees j k at o [] rest below e = absurd (not_found (at + o) e)
@@ -152,7 +151,7 @@ spot_trees j k at o (t ∷ ts) rest below e =
     let bound = lowest_of_bound j k (at + size k) (at + o) ts high.1 in
     let far : (at + size k) + (o - size k) ≡ at + o = omega arith in
     let s = subst (λ (b : ℕ). Spot j k (o - size k) b (all_written k ts ++ rest) (all_written k (changed (delivered j b k) b k (at + size k) ts) ++ rest)) far
-    (spot_trees j k (at + size k) (o - size k) ts rest below (high.1 ∙ ap At (sym far))) in
+    (spot_trees j k (at + size k) (o - size k) ts rest below (high.1 ∙ ap Some (sym far))) in
     spot_same (sym (all_cons k t ts rest))
     (sym (ap (λ (new : List Tree). all_written k new ++ rest) (changed_later f (at + o) k at t ts bound) ∙ all_cons k t _ rest))
     (spot_high (written k t) (omega arith) (omega (arith, length_written k t)) s))

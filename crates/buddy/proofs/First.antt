@@ -1,8 +1,8 @@
 -- The lowest aligned run outside the live blocks is the start of the first free block that is large enough. Assumes nothing.
+use Rattle.std.specs.Prelude.{Some, None}
 use Rattle.std.proofs.Common.{◌≡◌, ℕ, zero, suc, ◌+◌, ◌*◌, ◌%◌, ◌<◌, ◌≤◌, Bool, true, false, cond, not, ◌&&◌, ◌||◌, leb, List, [], ◌∷◌, ◌++◌, length, sym, refl, ap, ◌∙◌, ap₂, inl, inr, le_refl, mul_assoc, arith}
 use native.Mathlib.Nat.{eq_of_mul-eq-mul_right, div-eq_of_eq-mul_left}
 use borrow.Author.Tests.{lt-leb}
-use Rattle.buddy.specs.declared.Found.TheVariants.{At, Nothing}
 use Rattle.block.specs.Blocks.{size, Block, Tree, Free, Live, Halves, live_in, gathered, outside, runs_from}
 use Rattle.block.specs.Map.{is_free, canonical, all_canonical, trees, live, keeps}
 use Rattle.block.specs.declared.SetUp.{SetUp}
@@ -119,11 +119,11 @@ unfolding is_free
 halves_used l r = refl
 
 -- one place that is not outside has no run, and the first of places outside no block is one
-no_run : (n a : ℕ) (live : List Block) → outside a n live ≡ false → first_of (runs_from n a live 1) ≡ Nothing
+no_run : (n a : ℕ) (live : List Block) → outside a n live ≡ false → first_of (runs_from n a live 1) ≡ None
 unfolding first_of runs_from
 no_run n a live e = rw e
 
-here_run : (n a count : ℕ) → first_of (runs_from n a [] (suc count)) ≡ At a
+here_run : (n a count : ℕ) → first_of (runs_from n a [] (suc count)) ≡ Some a
 unfolding first_of runs_from outside
 here_run n a count = refl
 
@@ -138,7 +138,7 @@ lowest_runs zero j count at (Halves x y) l e whole = absurd (unfold canonical in
 lowest_runs (suc k) j count at (Halves x y) l e whole =
     let lows = live_in k at x in
     let highs = live_in k (at + size k) y in
-    by_leb (λ b. cond b Nothing (or_else (lowest_in j k at x) (lowest_in j k (at + size k) y)) ≡ first_of (runs_from (size j) at (lows ++ highs) count)) (suc k) j
+    by_leb (λ b. cond b None (or_else (lowest_in j k at x) (lowest_in j k (at + size k) y)) ≡ first_of (runs_from (size j) at (lows ++ highs) count)) (suc k) j
     (λ large.
     let same : j ≡ suc k = omega arith in
     let times : count * size j ≡ 1 * size j = e ∙ ap size (sym same) ∙ omega arith in

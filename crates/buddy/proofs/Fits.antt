@@ -1,10 +1,9 @@
 -- An aligned run outside the live blocks exists exactly where a free block is large enough. Assumes nothing.
+use Rattle.std.specs.Prelude.{Option, Some, None}
 use Rattle.std.proofs.Common.{◌≡◌, ℕ, zero, suc, ◌+◌, ◌%◌, ◌<◌, ◌≤◌, true, cond, List, [], ◌∷◌, sym, refl, ◌∙◌, arith}
 use mathlib.Core.Bool.{false≢true}
 use native.Mathlib.Nat.{le-suc, add-mod_right}
 use Rattle.block.specs.declared.SetUp.{SetUp}
-use Rattle.buddy.specs.declared.Found.{Found}
-use Rattle.buddy.specs.declared.Found.TheVariants.{At, Nothing}
 use Rattle.block.specs.Blocks.{size, Block, Tree, Free, Live, Halves, free_in, gathered}
 use Rattle.block.specs.SetUp.{top, fitting, runs}
 use Rattle.block.specs.Map.{trees, keeps, live, free}
@@ -18,17 +17,17 @@ use Rattle.buddy.proofs.First.{first_run}
 use Rattle.buddy.proofs.Lowest.{lowest_of}
 
 -- nothing is found where nothing is in either
-or_else_nothing : (x y : Found) → or_else x y ≡ Nothing → (x ≡ Nothing) × (y ≡ Nothing)
+or_else_nothing : (x y : Option ℕ) → or_else x y ≡ None → (x ≡ None) × (y ≡ None)
 unfolding or_else
-or_else_nothing (At a) y e = (e, cc)
-or_else_nothing Nothing y e = (refl, e)
+or_else_nothing (Some a) y e = (e, cc)
+or_else_nothing None y e = (refl, e)
 
-nothing_or_else : (x y : Found) → x ≡ Nothing → y ≡ Nothing → or_else x y ≡ Nothing
+nothing_or_else : (x y : Option ℕ) → x ≡ None → y ≡ None → or_else x y ≡ None
 unfolding or_else
 nothing_or_else x y e f = rw (e, f)
 
 -- a list has no first element if it has none
-first_of_nothing : (xs : List ℕ) → first_of xs ≡ Nothing → xs ≡ []
+first_of_nothing : (xs : List ℕ) → first_of xs ≡ None → xs ≡ []
 unfolding first_of
 first_of_nothing [] e = refl
 first_of_nothing (x ∷ xs) e = cc
@@ -48,7 +47,7 @@ module _ (j : ℕ) where
       (order_each (tree_order k at t aligned).1)
 
   -- where no free block of a tree is found each is too small
-  none_found : (k at : ℕ) (t : Tree) → at % size k ≡ 0 → lowest_in j k at t ≡ Nothing → Small (free_in k at t)
+  none_found : (k at : ℕ) (t : Tree) → at % size k ≡ 0 → lowest_in j k at t ≡ None → Small (free_in k at t)
   unfolding lowest_in free_in
   none_found k at Free aligned e = absurd (false≢true cc)
   none_found k at Live aligned e = each_nil
@@ -56,7 +55,7 @@ module _ (j : ℕ) where
   none_found (suc k) at (Halves l r) aligned e =
       let near = aligned_smaller (le-suc k) at aligned in
       let far = add-mod_right at (size k) ∙ near in
-      by_leb (λ t. cond t Nothing (or_else (lowest_in j k at l) (lowest_in j k (at + size k) r)) ≡ Nothing → Small (free_in (suc k) at (Halves l r))) (suc k) j
+      by_leb (λ t. cond t None (or_else (lowest_in j k at l) (lowest_in j k (at + size k) r)) ≡ None → Small (free_in (suc k) at (Halves l r))) (suc k) j
       (λ s same. each_append (halves_small k at l near s) (halves_small k (at + size k) r far s))
       (λ s same.
       let (low, high) = or_else_nothing _ _ same in
@@ -64,25 +63,25 @@ module _ (j : ℕ) where
       e
 
   -- and where each is too small none is found
-  small_none : (k at : ℕ) (t : Tree) → j ≤ k → Small (free_in k at t) → lowest_in j k at t ≡ Nothing
+  small_none : (k at : ℕ) (t : Tree) → j ≤ k → Small (free_in k at t) → lowest_in j k at t ≡ None
   unfolding lowest_in free_in
   small_none k at Free l (each_cons p h) = absurd (omega (arith, size_mono l))
   small_none k at Live l h = refl
   small_none zero at (Halves a b) l h = refl
   small_none (suc k) at (Halves a b) l h =
       let (low, high) = each_parts (free_in k at a) h in
-      by_leb (λ t. cond t Nothing (or_else (lowest_in j k at a) (lowest_in j k (at + size k) b)) ≡ Nothing) (suc k) j (λ s. refl)
+      by_leb (λ t. cond t None (or_else (lowest_in j k at a) (lowest_in j k (at + size k) b)) ≡ None) (suc k) j (λ s. refl)
       (λ s. nothing_or_else _ _ (small_none k at a (omega arith) low) (small_none k (at + size k) b (omega arith) high))
 
   -- the same of one tree after the other
-  none_found_in : (k at : ℕ) (ts : List Tree) → at % size k ≡ 0 → lowest_of j k at ts ≡ Nothing → Small (gathered (free_in k) k at ts)
+  none_found_in : (k at : ℕ) (ts : List Tree) → at % size k ≡ 0 → lowest_of j k at ts ≡ None → Small (gathered (free_in k) k at ts)
   unfolding lowest_of gathered
   none_found_in k at [] aligned e = each_nil
   none_found_in k at (t ∷ ts) aligned e =
       let (low, high) = or_else_nothing _ _ e in
       each_append (none_found k at t aligned low) (none_found_in k (at + size k) ts (add-mod_right at (size k) ∙ aligned) high)
 
-  small_none_in : (k at : ℕ) (ts : List Tree) → j ≤ k → Small (gathered (free_in k) k at ts) → lowest_of j k at ts ≡ Nothing
+  small_none_in : (k at : ℕ) (ts : List Tree) → j ≤ k → Small (gathered (free_in k) k at ts) → lowest_of j k at ts ≡ None
   unfolding lowest_of gathered
   small_none_in k at [] l h = refl
   small_none_in k at (t ∷ ts) l h =

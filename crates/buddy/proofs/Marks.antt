@@ -1,6 +1,10 @@
 -- Bytes that are not zero, counted: of lists put together, and of a list that is another with bytes made zero, which are the same exactly if
 -- they have as many. Assumes nothing.
-use Rattle.std.proofs.Common.{◌≡◌, ℕ, zero, suc, ◌+◌, ◌-◌, ◌<◌, ◌≤◌, ◌&&◌, eqb, List, [], ◌∷◌, ◌++◌, length, get_or, take, drop, replicate, sym, refl, ap, ◌∙◌, add-one, arith, take-suc, take-add, eq-eqb, ne_eqb}
+use Rattle.std.proofs.Common.{◌≡◌, ℕ, zero, suc, ◌+◌, ◌-◌, ◌*◌, ◌/◌, ◌<◌, ◌≤◌, ◌&&◌, eqb, List, [], ◌∷◌, ◌++◌, length, get_or, take, drop, replicate, sym, refl, ap, ◌∙◌, add-one, arith, take-suc, take-add, length-drop, length-take-le, eq-eqb, ne_eqb}
+use Rattle.std.specs.Simd.{first_chunks}
+use Rattle.std.proofs.lemmas.List.{drop-drop}
+use lib.Seq.{take-length}
+use Rattle.buddy.proofs.Halves.{upper}
 use Rattle.word.proofs.Tests.{by_eqb}
 use Rattle.block.specs.Map.{same}
 use Rattle.buddy.specs.Marks.{mark, marks}
@@ -41,6 +45,43 @@ pub marks_most : (l : List ℕ) → marks l ≤ length l
 unfolding marks
 marks_most [] = omega arith
 marks_most (x ∷ xs) = omega (arith, mark_most x, marks_most xs)
+
+-- the parts of 128 bytes of a list, in order
+pub chunk_at : (k i : ℕ) (xs : List ℕ) → i < k → get_or (first_chunks 128 k xs) i [] ≡ take 128 (drop (i * 128) xs)
+chunk_at zero i xs h = absurd (omega arith)
+chunk_at (suc k) zero xs h = refl
+chunk_at (suc k) (suc i) xs h =
+    let e : 128 + i * 128 ≡ suc i * 128 = omega arith in
+    chunk_at k i (drop 128 xs) (omega arith) ∙ rw (drop-drop, e) refl
+
+module _ (xs : List ℕ) where
+  abbrev rest : ℕ
+  rest = marks (drop (length xs / 128 * 128) xs)
+
+  -- those past all parts, those of the first parts, one part more, and all
+  pub chunks_none : rest ≡ rest + marks (take (0 * 128) xs)
+  unfolding marks
+  chunks_none = omega arith
+
+  pub chunks_next : {parts : List (List ℕ)} → parts ≡ first_chunks 128 (length xs / 128) xs → (i : ℕ) → i < length xs / 128
+      → marks (take ((i + 1) * 128) xs) ≡ marks (take (i * 128) xs) + marks (get_or parts i [])
+  chunks_next e i h =
+      let few : (i + 1) * 128 - i * 128 ≡ 128 = omega arith in
+      marks_part xs (i * 128) ((i + 1) * 128) (omega arith) ∙ rw (few, e, chunk_at (length xs / 128) i xs h) refl
+
+  pub chunks_few : (i : ℕ) → i ≤ length xs / 128 → rest + marks (take (i * 128) xs) ≤ length xs
+  chunks_few i h =
+      omega (
+        arith,
+        marks_most (drop (length xs / 128 * 128) xs),
+        length-drop (length xs / 128 * 128) xs,
+        marks_most (take (i * 128) xs),
+        length-take-le (i * 128) xs (omega arith),
+      )
+
+  pub chunks_all : rest + marks (take (length xs / 128 * 128) xs) ≡ marks xs
+  chunks_all =
+      omega (arith, marks_part xs (length xs / 128 * 128) (length xs) (omega arith), ap marks (upper (length xs / 128 * 128) xs), ap marks (take-length xs))
 
 -- each byte of a list is the other's, or zero
 pub data Thinned : List ℕ → List ℕ → Type 0 where

@@ -9,17 +9,6 @@ use super::sizes::{size_of, top_of};
 use super::tree::free_tag;
 use block::SetUp;
 
-// Every byte is zero.
-fn zero_all(map: &mut [u8])
-    ensures { map.new ≡ replicate (length map.old) 0 }
-{
-    let mut i = 0;
-    while i < map.len() {
-        map[i] = 0;
-        i += 1;
-    }
-}
-
 // So many free blocks of the k-th size, in zeros.
 pub(crate) fn free_trees(k: u8, count: usize, map: &mut [u8])
     requires { (k ≤ 7) × (count * size k ≤ length map.old) × (map.old ≡ replicate (length map.old) 0) }
@@ -29,11 +18,9 @@ pub(crate) fn free_trees(k: u8, count: usize, map: &mut [u8])
     let n = size_of(k);
     let tag = free_tag(k);
     let mut i = 0;
-    let mut done = 0;
-    while done < count {
+    for done in 0..count {
         map[i] = tag;
         i += n;
-        done += 1;
     }
 }
 
@@ -44,6 +31,6 @@ pub fn set_up(setup: SetUp, map: &mut [u8])
 {
     let k = top_of(setup.d);
     let count = words_of(setup) / size_of(k);
-    zero_all(&mut *map);
+    map.fill(0);
     free_trees(k, count, map);
 }

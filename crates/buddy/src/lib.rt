@@ -7,10 +7,3 @@ pub mod section;
 pub mod setup;
 pub mod sizes;
 mod tree;
-
-// An address, or none.
-#[derive(Clone, Copy)]
-pub enum Found {
-    At(usize),
-    Nothing,
-}

@@ -1,6 +1,5 @@
 // The whole block map: its trees one after the other, zero past the set-up words.
 ghost use Rattle.std.specs.Prelude.{◌≡◌, ◌+◌, ◌-◌, ◌*◌, ◌/◌, ◌%◌, ◌<◌, ◌≤◌, true, length, ◌≢◌, slice_index};
-ghost use Rattle.buddy.specs.declared.Found.TheVariants.{At};
 ghost use Rattle.block.specs.Blocks.{size, size_at};
 ghost use Rattle.block.specs.SetUp.{top, words, runs};
 ghost use Rattle.block.specs.Map.{keeps, live, freed_map, delivered_map};
@@ -8,7 +7,6 @@ ghost use Rattle.buddy.specs.Marks.{mark as mark_of, marks, all_counted, PassedO
 ghost use Rattle.buddy.specs.Lowest.{first_of, told_found, first_told, Passed};
 ghost use Rattle.buddy.specs.Tag.{tag_size, start_size};
 
-use super::Found;
 use super::sizes::{size_of, top_of};
 use super::tree::{count_blocks, free_tag, free_up, is_tag, split, zero_from};
 use block::SetUp;
@@ -50,10 +48,8 @@ fn part_marks(part: &[u8]) -> u8
     ensures { result ≡ marks part.now }
 {
     let mut count: u8 = 0;
-    let mut i = 0;
-    while i < part.len() {
-        count += mark(part[i]);
-        i += 1;
+    for x in part {
+        count += mark(*x);
     }
     count
 }
@@ -62,14 +58,12 @@ fn part_marks(part: &[u8]) -> u8
 fn marks_of(bytes: &[u8]) -> usize
     ensures { (result ≡ marks bytes.now) × (result ≤ length bytes.now) }
 {
-    let mut count: usize = 0;
-    let mut i = 0;
-    while PART_BYTES <= bytes.len() - i {
-        let end = i + PART_BYTES;
-        count += part_marks(&bytes[i..end]) as usize;
-        i = end;
+    let (parts, rest) = bytes.as_chunks::<PART_BYTES>();
+    let mut count = part_marks(rest) as usize;
+    for part in parts {
+        count += part_marks(part) as usize;
     }
-    count + part_marks(&bytes[i..]) as usize
+    count
 }
 
 // How far trees were passed, and a number with the blocks of those passed.
@@ -97,10 +91,8 @@ fn whole_part(k: u8, part: &[u8]) -> bool
 {
     let n: u8 = 1 << k;
     let mut all: u8 = 0;
-    let mut i: u8 = 0;
-    while i < PART {
+    for i in 0_u8..PART {
         all = all | off_tag(k, n, i, part[i as usize]);
-        i += 1;
     }
     all < 2
 }
@@ -134,21 +126,16 @@ fn whole_trees(k: u8, before: usize, from: usize, end: usize, map: &[u8]) -> Who
     let n = size_of(k);
     let mut count = before;
     let mut i = from;
+    // no range: how far a turn goes is found out in it
     while i < end {
         let more = whole_here(k, i, end, map);
         if more == 0 {
-            return Whole {
-                at: i,
-                count: count,
-            };
+            return Whole { at: i, count };
         }
         count += more;
         i += more * n;
     }
-    Whole {
-        at: i,
-        count: count,
-    }
+    Whole { at: i, count }
 }
 
 // One more than the number of blocks in so many trees of the k-th size, 0 if one is broken.
@@ -240,6 +227,7 @@ fn skip(map: &[u8], from: usize, end: usize, least: u8, n: usize) -> usize
     ensures { Passed map.now end least n from result × (result < end → least ≤ slice_index map.now result) }
 {
     let mut i = from;
+    // no range: where it stops, past the end too, is the answer
     while i < end {
         if least <= map[i] {
             return i;
@@ -251,7 +239,7 @@ fn skip(map: &[u8], from: usize, end: usize, least: u8, n: usize) -> usize
 
 // The lowest aligned run of the j-th size outside the live blocks, from block to block: where a smaller block stands there is none
 // in as many words as are wanted, a free block of that size or a larger starts one, and a live block has none in its words.
-pub fn lowest_run(setup: SetUp, map: &[u8], j: u8) -> Found
+pub fn lowest_run(setup: SetUp, map: &[u8], j: u8) -> Option<usize>
     requires { (words setup % size (top setup.d) ≡ 0) × (keeps setup map.now ≡ true) × (j ≤ top setup.d) }
     ensures { told_found result ≡ first_told (runs (size j) setup (live setup map.now)) }
 {
@@ -259,14 +247,15 @@ pub fn lowest_run(setup: SetUp, map: &[u8], j: u8) -> Found
     let least = free_tag(j);
     let end = words_of(setup);
     let mut i = skip(map, 0, end, least, n);
+    // no range: how far a turn goes is found out in it
     while i < end {
         let tag = map[i];
         if tag % 2 == 1 {
-            return Found::At(setup.s1 as usize + i);
+            return Some(setup.s1 as usize + i);
         }
         i = skip(map, i + size_of(tag / 2 - 1), end, least, n);
     }
-    Found::Nothing
+    None
 }
 
 // Frees the live block that starts at an address: in its tree, from its own byte upward.
@@ -288,7 +277,7 @@ pub fn free_block(setup: SetUp, map: &mut [u8], address: usize)
 pub fn deliver(setup: SetUp, map: &mut [u8], j: u8, address: usize)
     requires { (words setup % size (top setup.d) ≡ 0) × (keeps setup map.old ≡ true) × (setup.s1 ≤ address)
         × (address < setup.s1 + words setup) × (j ≤ top setup.d)
-        × (first_of (runs (size j) setup (live setup map.old)) ≡ At address) }
+        × (first_of (runs (size j) setup (live setup map.old)) ≡ Some address) }
     ensures { map.new ≡ delivered_map j address setup map.old }
 {
     let start = address - setup.s1 as usize;

@@ -29,10 +29,8 @@ pub(crate) fn zero_from(from: usize, tags: &[u8]) -> bool
     ensures { result ≡ same (replicate (length tags.now - from) 0) (drop from tags.now) }
 {
     let mut all: u8 = 0;
-    let mut i = from;
-    while i < tags.len() {
-        all = all | tags[i];
-        i += 1;
+    for x in &tags[from..] {
+        all |= *x;
     }
     all == 0
 }
@@ -86,6 +84,7 @@ pub(crate) fn count_blocks(k: u8, bytes: &[u8]) -> usize
 {
     let mut count: usize = 0;
     let mut i = 0;
+    // no range: how far a turn goes is found out in it
     while i < bytes.len() {
         if !starts_block(k, i, bytes) {
             return 0;

@@ -4,14 +4,14 @@ use mathlib.Core.Path.{◌≡◌, refl, sym, ap, ◌∙◌}
 use mathlib.Core.Bool.{cond}
 use mathlib.Core.List.{List, [], ◌∷◌, ◌++◌}
 use Prim.Native.Nat.{ℕ, zero, suc, ◌+◌, ◌-◌, ◌*◌, ◌/◌, ◌%◌, ◌^◌, ◌≤◌, ◌<◌, min}
-use native.Mathlib.Nat.{add_comm, add-sub_of_le, sub_self, zero-mul, zero-add, one-mul, mul-zero, mul-suc, pow-zero, pow-suc}
+use native.Mathlib.Nat.{add_comm, add-sub_of_le, add-sub_cancel_left, sub_self, zero-mul, zero-add, one-mul, mul-zero, mul-suc, pow-zero, pow-suc}
 use native.Mathlib.Nat.{pow-succ', pow-le-pow_right, mul-le-mul_left, div-div-eq-div-mul, mod-eq_of_lt}
 use native.Mathlib.Omega.{arith}
 use lib.Arith.{digits_lt, digits_mod}
 use lib.Pow.{pow-add, pow-lt}
 use lib.ListN.{length, take, drop, get_or, replicate, length-take, length-drop, drop_of_length-le, length-append, length-replicate}
 use lib.ListN.{get_or-replicate, get_or-append}
-use lib.Seq.{drop-cons, get_or-take, get_or-drop, get_or-append-add}
+use lib.Seq.{drop-cons, get_or-append-add}
 use borrow.Author.Tests.{lt-ltb, le-ltb, eq-eqb, ne_eqb}
 use Rattle.character.specs.Character.{digits, number, characters, packed, holds, blank, leading, all_below, printed}
 use Rattle.character.specs.Character.{from_binary}
@@ -228,22 +228,24 @@ module _ (count width v : ℕ) where
         let m : before < length blanks = rw length-replicate l in
         rw (get_or-append, get_or-replicate)
 
-module _ (input : List ℕ) (at count left : ℕ) (inside : at + count ≤ length input) where
+module _ (input : List ℕ) (at count i : ℕ) (inside : at + count ≤ length input) where
+  abbrev taken : List ℕ
+  taken = take count (drop at input)
+
   -- as many bytes as are taken
-  length_taken : length (take count (drop at input)) ≡ count
+  pub length_taken : length taken ≡ count
   length_taken = simp (length-take, length-drop) (omega arith)
 
-  -- the first of those that are left, and the others
-  pub taken_first : 0 < left → left ≤ count
-      → drop (count - left) (take count (drop at input)) ≡ get_or input (at + (count - left)) 0 ∷ drop (count - (left - 1)) (take count (drop at input))
-  taken_first h most =
-      let e : count - (left - 1) ≡ suc (count - left) = omega arith in
-      let l : count - left < length (take count (drop at input)) = rw length_taken (omega arith) in
-      let m : count - left < count = omega arith in
-      rw (e, drop-cons (take count (drop at input)) (count - left) 0, get_or-take count (drop at input) (count - left) 0 m, get_or-drop at input (count - left) 0)
+  -- a place in as much as the code cuts out is one of them, and a place past it is none
+  pub taken_inside : i < length (take (at + count - at) (drop at input)) → i < count
+  taken_inside h = rw (add-sub_cancel_left, length_taken) at h
 
-  -- past them nothing is left
-  pub taken_last : left ≡ 0 → drop (count - left) (take count (drop at input)) ≡ []
-  taken_last e =
-      let l : length (take count (drop at input)) ≤ count - left = rw length_taken (omega arith) in
-      drop_of_length-le _ l
+  pub taken_past : length (take (at + count - at) (drop at input)) ≤ i → drop i taken ≡ []
+  taken_past h = drop_of_length-le taken (rw add-sub_cancel_left at h)
+
+  -- the first of those that are left, and the others
+  pub taken_first : {x : ℕ} → i < length (take (at + count - at) (drop at input)) → x ≡ get_or (take (at + count - at) (drop at input)) i 0
+      → drop i taken ≡ x ∷ drop (i + 1) taken
+  taken_first h is =
+      let e : i + 1 ≡ suc i = omega arith in
+      rw (e, rw add-sub_cancel_left at is) (drop-cons taken i 0 (rw add-sub_cancel_left at h))

@@ -4,7 +4,7 @@
 mod thousand;
 pub mod triples;
 
-ghost use Rattle.std.specs.Prelude.{◌≡◌, ◌++◌, ◌+◌, ◌*◌, ◌/◌, ◌%◌, ◌^◌, ◌≤◌, ◌<◌, min, length, take, drop, get_or, replicate};
+ghost use Rattle.std.specs.Prelude.{◌≡◌, ◌++◌, ◌+◌, ◌*◌, ◌/◌, ◌%◌, ◌^◌, ◌≤◌, ◌<◌, length, take, drop, get_or, replicate};
 ghost use Rattle.character.specs.Character.{holds, leading, characters, packed, printed, blanks_to_zeros, to_binary, from_binary};
 ghost use Rattle.character.specs.Character.{zeros_to_blanks};
 ghost use Rattle.character.specs.Converted.{told_converted, told_packed, converting, packing};
@@ -24,32 +24,11 @@ const SIX_DIGITS: u64 = 1_000_000;
 
 const THREE_DIGITS: u64 = 1_000;
 
-// What characters come to in a base.
-#[derive(Clone, Copy)]
-pub enum Converted {
-    Value(u64),
-    NotADigit,
-}
-
-// What bytes come to as characters.
-#[derive(Clone, Copy)]
-pub enum Packed {
-    Value(u64),
-    TooLarge,
-}
-
 // The characters that a field of this width holds.
 pub fn holds(width: usize) -> usize
     ensures { result ≡ holds width }
 {
     width / 6 + (width % 6 + 5) / 6
-}
-
-// The lesser of two counts.
-fn least(a: usize, b: usize) -> usize
-    ensures { result ≡ min a b }
-{
-    if a < b { a } else { b }
 }
 
 // The digit of some bits at a place of a value, counted from the right.
@@ -73,10 +52,8 @@ pub fn from_binary_octal(n: usize, v: u64) -> u64
     requires { n ≤ 10 }
     ensures { result ≡ from_binary 8 n v }
 {
-    let mut left = n;
     let mut made = 0;
-    while left > 0 {
-        left -= 1;
+    for left in (0..n).rev() {
         made = made * CODES + digit(3, left, v);
     }
     made
@@ -95,21 +72,19 @@ pub fn from_binary_decimal(n: usize, v: u64) -> u64
 }
 
 // Operations 27 and 28: the number that n characters are in base 10 or 8, if each is a digit of the base.
-pub fn to_binary(base: u64, n: usize, v: u64) -> Converted
+pub fn to_binary(base: u64, n: usize, v: u64) -> Option<u64>
     requires { (base ≤ 64) × (n ≤ 10) }
     ensures { told_converted result ≡ converting (to_binary base n v) }
 {
-    let mut left = n;
     let mut made = 0;
-    while left > 0 {
-        left -= 1;
+    for left in (0..n).rev() {
         let next = digit(6, left, v);
         if next >= base {
-            return Converted::NotADigit;
+            return None;
         }
         made = made * base + next;
     }
-    Converted::Value(made)
+    Some(made)
 }
 
 // The last n characters of a value, with each leading one that is `old` made `new`.
@@ -117,14 +92,12 @@ fn changed(old: u64, new: u64, n: usize, v: u64) -> u64
     requires { (new < 64) × (n ≤ 10) }
     ensures { result ≡ packed (leading old new (characters n v)) }
 {
-    let mut left = n;
     let mut made = 0;
-    while left > 0 {
-        if digit(6, left - 1, v) != old {
-            let rest = power(left);
+    for left in (0..n).rev() {
+        if digit(6, left, v) != old {
+            let rest = power(left + 1);
             return made * rest + v % rest;
         }
-        left -= 1;
         made = made * CODES + new;
     }
     made
@@ -135,7 +108,7 @@ pub fn blanks_to_zeros(n: usize, width: usize, v: u64) -> u64
     requires { n ≤ 10 }
     ensures { result ≡ blanks_to_zeros n width v }
 {
-    changed(BLANK, 0, least(n, holds(width)), v)
+    changed(BLANK, 0, n.min(holds(width)), v)
 }
 
 // Operation 31: leading zeros become blanks.
@@ -165,10 +138,8 @@ pub fn print_into(output: &mut [u8], at: usize, count: usize, width: usize, v: u
     ensures { output.new ≡ take at output.old ++
         (printed count width v ++ drop (at + count) output.old) }
 {
-    let mut i = 0;
-    while i < count {
+    for i in 0..count {
         output[at + i] = printed_at(count, width, v, i);
-        i += 1;
     }
 }
 
@@ -181,19 +152,17 @@ pub fn line_ends(n: usize) -> u64
 }
 
 // Operation 24: the value of `count` input bytes from a place on, if each is a character.
-pub fn pack_input(input: &[u8], at: usize, count: usize) -> Packed
+pub fn pack_input(input: &[u8], at: usize, count: usize) -> Option<u64>
     requires { (count ≤ 10) × (at + count ≤ length input.now) }
     ensures { told_packed result ≡ packing (take count (drop at input.now)) }
 {
-    let mut left = count;
     let mut made = 0;
-    while left > 0 {
-        let next = input[at + (count - left)] as u64;
+    for byte in &input[at..at + count] {
+        let next = u64::from(*byte);
         if next >= CODES {
-            return Packed::TooLarge;
+            return None;
         }
         made = made * CODES + next;
-        left -= 1;
     }
-    Packed::Value(made)
+    Some(made)
 }

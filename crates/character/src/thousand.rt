@@ -81,13 +81,6 @@ const THOUSAND: [u16; 1000] = [
     37446, 37447, 37448, 37449,
 ];
 
-// An entry as a word.
-fn wide(entry: u16) -> u64
-    ensures { result ≡ entry }
-{
-    entry as u64
-}
-
 // The six characters of a number below 1,000,000, three and three looked up: nothing else reads the constant.
 pub(crate) fn six(k: u64) -> u64
     requires { k < 1000000 }
@@ -96,5 +89,5 @@ pub(crate) fn six(k: u64) -> u64
     let entries = THOUSAND;
     let high = (k / 1000) as usize;
     let low = (k % 1000) as usize;
-    wide(entries[high]) * THREE + wide(entries[low])
+    u64::from(entries[high]) * THREE + u64::from(entries[low])
 }

@@ -25,10 +25,8 @@ pub fn fill(buffer: &mut [u16]) -> usize
     if buffer.len() != COUNT {
         return 0;
     }
-    let mut made = 0;
-    while made < buffer.len() {
-        buffer[made] = entry(made);
-        made += 1;
+    for k in 0..COUNT {
+        buffer[k] = entry(k);
     }
-    made
+    COUNT
 }

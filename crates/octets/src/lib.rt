@@ -9,10 +9,8 @@ pub fn number_at(bytes: &[u8], at: usize, n: usize) -> u64
     requires { (n ≤ 8) × (at + n ≤ length bytes.now) }
     ensures { result ≡ low_first (take n (drop at bytes.now)) }
 {
-    let mut left = n;
     let mut number = 0;
-    while left > 0 {
-        left -= 1;
+    for left in (0..n).rev() {
         number = number * 256 + bytes[at + left] as u64;
     }
     number
@@ -23,11 +21,9 @@ pub fn put_number(bytes: &mut [u8], at: usize, n: usize, v: u64)
     requires { at + n ≤ length bytes.old }
     ensures { bytes.new ≡ take at bytes.old ++ (bytes_of n v ++ drop (at + n) bytes.old) }
 {
-    let mut i = 0;
     let mut rest = v;
-    while i < n {
+    for i in 0..n {
         bytes[at + i] = (rest % 256) as u8;
         rest /= 256;
-        i += 1;
     }
 }

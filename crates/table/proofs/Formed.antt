@@ -11,8 +11,9 @@ use lib.ListN.{length}
 use Rattle.word.specs.Word.{is_width}
 use Rattle.table.specs.declared.Row.{Row}
 use Rattle.table.specs.declared.Shape.{Shape}
-use Rattle.table.specs.declared.TableCheck.{TableCheck}
-use Rattle.table.specs.declared.TableCheck.TheVariants.{Lowest, BadLength, NoWidth}
+use Rattle.std.specs.Prelude.{Result, Ok, Err}
+use Rattle.table.specs.declared.TableError.{TableError}
+use Rattle.table.specs.declared.TableError.TheVariants.{BadLength, NoWidth}
 use Rattle.table.specs.declared.Operand.{Operand}
 use Rattle.table.specs.declared.Pair.{Pair}
 use Rattle.table.specs.Operands.{test_shape, takes}
@@ -115,25 +116,25 @@ lowest_none b table r h = let none : length table / 10 - r ≡ 0 = omega arith i
 
 -- the check of a table of a fitting length, and of another
 pub checked_rows : (b : ℕ) (table : List ℕ) {fits : Bool} {n : ℕ} → fits ≡ length_fits table → fits ≡ true → n ≡ lowest_from b table 1 (rows table - 1)
-    → Lowest n ≡ checked b table
+    → Ok n ≡ checked b table
 unfolding checked
 checked_rows b table f t n = rw (sym f ∙ t, sym n) refl
 
-pub checked_length : (b : ℕ) (table : List ℕ) {fits : Bool} → fits ≡ length_fits table → fits ≡ false → BadLength ≡ checked b table
+pub checked_length : (b : ℕ) (table : List ℕ) {fits : Bool} → fits ≡ length_fits table → fits ≡ false → Err BadLength ≡ checked b table
 unfolding checked
 checked_length b table f t = rw (sym f ∙ t)
 
 -- the check at a width, by that width
-pub check_no_width : (b : ℕ) (table : List ℕ) → is_width b ≡ false → NoWidth ≡ table_checked b table
+pub check_no_width : (b : ℕ) (table : List ℕ) → is_width b ≡ false → Err NoWidth ≡ table_checked b table
 unfolding table_checked
 check_no_width b table w = rw w
 
-pub check_at_width : (b : ℕ) (table : List ℕ) → is_width b ≡ true → {x : TableCheck} → x ≡ checked b table → x ≡ table_checked b table
+pub check_at_width : (b : ℕ) (table : List ℕ) → is_width b ≡ true → {x : Result ℕ TableError} → x ≡ checked b table → x ≡ table_checked b table
 unfolding table_checked
 check_at_width b table w is = rw w is
 
 -- its answer in the papers' numbers
-pub check_numbers : (b : ℕ) (table : List ℕ) {x : TableCheck} → x ≡ table_checked b table
+pub check_numbers : (b : ℕ) (table : List ℕ) {x : Result ℕ TableError} → x ≡ table_checked b table
     → (x ≡ table_checked b table) × (told_check x ≡ check_told b table)
 unfolding table_checked checked told_check check_told
 check_numbers b table {x} is = (is, ap told_check is ∙ by_width (is_width b) (length_fits table))
@@ -141,7 +142,7 @@ check_numbers b table {x} is = (is, ap told_check is ∙ by_width (is_width b) (
     n : ℕ
     n = lowest_from b table 1 (rows table - 1)
 
-    by_width : (w t : Bool) → told_check (cond w (cond t (Lowest n) BadLength) NoWidth) ≡ cond w (cond t (gives n) (refuses 1)) (refuses 31)
+    by_width : (w t : Bool) → told_check (cond w (cond t (Ok n) (Err BadLength)) (Err NoWidth)) ≡ cond w (cond t (gives n) (refuses 1)) (refuses 31)
     by_width true true = refl
     by_width true false = refl
     by_width false t = refl

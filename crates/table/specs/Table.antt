@@ -1,11 +1,11 @@
 -- Well-formed rows, and the table check.
 -- Document 01: "The table" and, for the check, the order of refusals. Assumes nothing.
-use Rattle.std.specs.Prelude.{ℕ, zero, suc, ◌-◌, Bool, not, ◌&&◌, ◌||◌, cond, List, eqb, leb, ltb, get_or}
+use Rattle.std.specs.Prelude.{ℕ, zero, suc, ◌-◌, Bool, not, ◌&&◌, ◌||◌, cond, List, eqb, leb, ltb, get_or, Result, Ok, Err}
 use Rattle.word.specs.Word.{is_width}
 use Rattle.word.specs.Told.{Told, gives, refuses}
 use Rattle.table.specs.declared.Row.{Row}
-use Rattle.table.specs.declared.TableCheck.{TableCheck}
-use Rattle.table.specs.declared.TableCheck.TheVariants.{Lowest, BadLength, NoWidth}
+use Rattle.table.specs.declared.TableError.{TableError}
+use Rattle.table.specs.declared.TableError.TheVariants.{BadLength, NoWidth}
 use Rattle.table.specs.Row.{rows, row_at, length_fits, first_test, first_operation, go_to_of, done}
 use Rattle.table.specs.declared.Operand.TheVariants.{Absent}
 use Rattle.table.specs.declared.Shape.{Shape}
@@ -95,18 +95,18 @@ lowest_from b table r (suc count) =
     cond (well_formed b (rows table) r (row_at table r)) others r
 
 -- the table check of words of b bits: the lowest ill-formed row, 0 if none; row 0 is not read, and it refuses only by 1
-unfoldable pub checked : ℕ → List ℕ → TableCheck
-checked b table = cond (length_fits table) (Lowest (lowest_from b table 1 (rows table - 1))) BadLength
+unfoldable pub checked : ℕ → List ℕ → Result ℕ TableError
+checked b table = cond (length_fits table) (Ok (lowest_from b table 1 (rows table - 1))) (Err BadLength)
 
 -- the check at a width that a host gives: 31, before anything else, where that is none (ticket 9)
-unfoldable pub table_checked : ℕ → List ℕ → TableCheck
-table_checked b table = cond (is_width b) (checked b table) NoWidth
+unfoldable pub table_checked : ℕ → List ℕ → Result ℕ TableError
+table_checked b table = cond (is_width b) (checked b table) (Err NoWidth)
 
 -- its answer in numbers: the row, or the refusal
-unfoldable pub told_check : TableCheck → Told ℕ
-told_check (Lowest r) = gives r
-told_check BadLength = refuses 1
-told_check NoWidth = refuses 31
+unfoldable pub told_check : Result ℕ TableError → Told ℕ
+told_check (Ok r) = gives r
+told_check (Err BadLength) = refuses 1
+told_check (Err NoWidth) = refuses 31
 
 -- what the check tells, in the order 31, 1, the row
 unfoldable pub check_told : ℕ → List ℕ → Told ℕ

@@ -7,7 +7,7 @@ ghost use Rattle.table.specs.Table.{chained, shaped, well_formed_as, well_formed
 ghost use Rattle.table.specs.Table.{usable, lowest_from, table_checked, told_check, check_told};
 ghost use Rattle.table.specs.Row.{length_fits, rows};
 
-use crate::{Operand, Row, Shape, TableCheck, codes, forms, rows};
+use crate::{Operand, Row, Shape, TableError, codes, forms, rows};
 
 // The shape of an operation, or of a test, that has no name.
 fn unnamed(x: Operand, y: Operand, z: Operand) -> Shape
@@ -262,26 +262,25 @@ pub fn lowest_ill_formed(b: u64, table: &[u64]) -> u64
     ensures { result ≡ lowest_from b table.now 1 (rows table.now - 1) }
 {
     let rows = table.len() / rows::NUMBERS;
-    let mut r = 1;
-    while r < rows {
+    for r in 1..rows {
         if !well_formed(b, rows as u64, r as u64, rows::row_at(table, r)) {
             return r as u64;
         }
-        r += 1;
     }
     0
 }
 
-// The table check at a width: refusal 31, then 1, then the row; the second promise gives the answer in the papers' numbers.
-pub fn check_table(b: u64, table: &[u64]) -> TableCheck
+// The table check at a width: refusal 31, then 1, then the lowest ill-formed row, 0 if there is none; the second promise gives the
+// answer in the papers' numbers.
+pub fn check_table(b: u64, table: &[u64]) -> Result<u64, TableError>
     ensures value { result ≡ table_checked b table.now }
     ensures numbered { told_check result ≡ check_told b table.now }
 {
     if !word::is_width(b) {
-        return TableCheck::NoWidth;
+        return Err(TableError::NoWidth);
     }
     if !has_length(table) {
-        return TableCheck::BadLength;
+        return Err(TableError::BadLength);
     }
-    TableCheck::Lowest(lowest_ill_formed(b, table))
+    Ok(lowest_ill_formed(b, table))
 }

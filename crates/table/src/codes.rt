@@ -1,4 +1,5 @@
-// The numbers that stand in rows: kinds, modes, forms and codes, by document 01's names.
+// The numbers that stand in rows: kinds, modes, forms and codes, by document 01's names. Numbers, and no enums: rows are what C lends,
+// and the definitions (`shape_of`, `compared`, `value_by`) go by the paper's numbers.
 
 // Kinds of rows.
 pub const LINE: u64 = 1;

@@ -63,10 +63,9 @@ pub struct Shape {
     pub third: Operand,
 }
 
-// What the table check answers: the lowest ill-formed row, 0 if there is none, or that the table's length or the width is refused.
-#[derive(Clone, Copy)]
-pub enum TableCheck {
-    Lowest(u64),
-    BadLength,
+// Why the table check is refused: the width is none, or the table's length does not fit.
+#[derive(Clone, Copy, PartialEq, Eq, Debug)]
+pub enum TableError {
     NoWidth,
+    BadLength,
 }

@@ -52,6 +52,7 @@ pub fn names_in(v: u64) -> Names
     let mut fields = [FieldName(0); 5];
     let mut rest = v;
     let mut from = 5;
+    // no range: the digits tell how many names there are
     while ONE_DIGIT <= rest {
         from -= 1;
         fields[from] = FieldName((rest % ONE_DIGIT - FIRST) as u8);
@@ -59,8 +60,8 @@ pub fn names_in(v: u64) -> Names
     }
     Names {
         bug: BugLetter(rest - A),
-        from: from,
-        fields: fields,
+        from,
+        fields,
     }
 }
 

@@ -1,6 +1,6 @@
 // Reading a row.
-ghost use Rattle.std.specs.Prelude.{◌≡◌, ◌+◌, ◌*◌, ◌≤◌, length};
-ghost use Rattle.table.specs.Row.{as_row, row_at};
+ghost use Rattle.std.specs.Prelude.{◌≡◌, ◌+◌, ◌*◌, ◌≤◌, ◌<◌, length};
+ghost use Rattle.table.specs.Row.{as_row, pair_at, row_at};
 
 use crate::{Pair, Row};
 
@@ -34,6 +34,17 @@ pub const THIRD_FORM: usize = 8;
 
 pub const THIRD: usize = 9;
 
+// Numbers i and i + 1 of a row as a pair.
+pub fn pair_at(row: &[u64], i: usize) -> Pair
+    requires { i + 1 < length row.now }
+    ensures { result ≡ pair_at row.now i }
+{
+    Pair {
+        form: row[i],
+        value: row[i + 1],
+    }
+}
+
 // Ten numbers as a row.
 fn as_row(row: &[u64]) -> Row
     requires { 10 ≤ length row.now }
@@ -44,18 +55,9 @@ fn as_row(row: &[u64]) -> Row
         next: row[NEXT],
         code: row[CODE],
         name: row[NAME],
-        first: Pair {
-            form: row[FIRST_FORM],
-            value: row[FIRST],
-        },
-        second: Pair {
-            form: row[SECOND_FORM],
-            value: row[SECOND],
-        },
-        third: Pair {
-            form: row[THIRD_FORM],
-            value: row[THIRD],
-        },
+        first: pair_at(row, FIRST_FORM),
+        second: pair_at(row, SECOND_FORM),
+        third: pair_at(row, THIRD_FORM),
     }
 }
 

@@ -7,4 +7,5 @@ pub mod Bitwise
 pub mod Places
 pub mod Nearest
 pub mod Width
+pub mod Chunks
 pub mod Filling

@@ -1,7 +1,7 @@
 -- `character::changed` meets its contract. The loop's invariant: the characters that are left, with their leading ones changed, after
 -- those that were made, make the result. Assumes nothing.
 use mathlib.Core.Path.{◌≡◌, refl, sym, ◌∙◌}
-use Prim.Native.Nat.{◌+◌, ◌*◌, ◌%◌, ◌^◌, ◌<◌}
+use Prim.Native.Nat.{◌+◌, ◌-◌, ◌*◌, ◌%◌, ◌^◌, ◌<◌}
 use native.Mathlib.Nat.{mod-lt, one-le-pow}
 use native.Mathlib.Omega.{arith}
 use Rattle.character.specs.Character.{digits, number, characters, packed, leading}
@@ -17,12 +17,18 @@ loop-left-init c = (growing c.args.n, refl)
 below : (c : After-power-rest) → c.args.v % c.power-rest.result < c.power-rest.result
 below c = mod-lt _ (rw c.power-rest.ensures (one-le-pow _ 64 (omega arith)))
 
+-- that power
+power_left : (c : After-power-rest) → c.power-rest.result ≡ 64 ^ c.loop-left.left
+power_left c =
+    let e : c.loop-left.left - 1 + 1 ≡ c.loop-left.left = omega (arith, c.loop-left-test.true) in
+    rw e at c.power-rest.ensures
+
 -- the value fits with what is left
 whole : (c : After-power-rest)
     → c.loop-left.made * c.power-rest.result + c.args.v % c.power-rest.result < 2 ^ 64
 whole c =
     let l = c.loop-left in
-    rw c.power-rest.ensures (whole_fits _ l.invariant.0 (omega arith) (rw c.power-rest.ensures at (below c)))
+    rw (power_left c) (whole_fits _ l.invariant.0 (omega arith) (rw (power_left c) at (below c)))
 
 pub overflow_mul-result : goal.overflow_mul-result
 overflow_mul-result c = omega (arith, whole c)
@@ -38,7 +44,7 @@ returns-then-digit-old c =
     let l = c.loop-left in
     let a = c.args in
     let digit = c.digit in
-    rw c.power-rest.ensures
+    rw (power_left c)
     (sym (leading_ends a.old a.new l.made l.left a.v digit.result c.loop-left-test.true digit.ensures c.if-digit-old.true)
     ∙ l.invariant.1)
 

@@ -6,6 +6,3 @@ use Rattle.character.proofs.changed.Given as goal
 abbrev pub invariant-loop-left : goal.invariant-loop-left
 invariant-loop-left l =
     Growing l.n l.left l.made × (number 64 l.made (leading l.old l.new (digits 64 l.left l.v)) ≡ packed (leading l.old l.new (characters l.n l.v)))
-
-abbrev pub decreases-loop-left : goal.decreases-loop-left
-decreases-loop-left l = l.left

@@ -6,6 +6,3 @@ use Rattle.character.proofs.from_binary_octal.Given as goal
 abbrev pub invariant-loop-left : goal.invariant-loop-left
 invariant-loop-left l =
     Growing l.n l.left l.made × (number 64 l.made (digits 8 l.left l.v) ≡ from_binary 8 l.n l.v)
-
-abbrev pub decreases-loop-left : goal.decreases-loop-left
-decreases-loop-left l = l.left

@@ -1,6 +1,5 @@
 -- `character::print_into` meets its contract. The loop's invariant: the output is what it was, with the first i characters put in.
 -- Assumes nothing.
-use Prim.Native.Nat.{◌-◌}
 use Rattle.character.proofs.Digits.{length_printed}
 use Rattle.word.proofs.Filling.{fills_none, fills_next, fills_all}
 use Rattle.character.proofs.print_into.Goals as goal

@@ -1,10 +1,6 @@
-use Prim.Native.Nat.{◌-◌}
 use Rattle.character.specs.Character.{printed}
 use Rattle.word.proofs.Filling.{Fills}
 use Rattle.character.proofs.print_into.Given as goal
 
 abbrev pub invariant-loop-i : goal.invariant-loop-i
 invariant-loop-i l = Fills l.at l.count (printed l.count l.width l.v) l.initial.output l.output l.i
-
-abbrev pub decreases-loop-i : goal.decreases-loop-i
-decreases-loop-i l = l.count - l.i

@@ -7,6 +7,3 @@ use Rattle.character.proofs.to_binary.Given as goal
 abbrev pub invariant-loop-left : goal.invariant-loop-left
 invariant-loop-left l =
     Growing l.n l.left l.made × (answer some none l.base l.made (digits 64 l.left l.v) ≡ to_binary l.base l.n l.v)
-
-abbrev pub decreases-loop-left : goal.decreases-loop-left
-decreases-loop-left l = l.left

@@ -6,6 +6,3 @@ use Rattle.octets.proofs.put_number.Given as goal
 
 abbrev pub invariant-loop-i : goal.invariant-loop-i
 invariant-loop-i l = Rest l.n l.v l.i l.rest × Fills l.at l.n (bytes_of l.n l.v) l.initial.bytes l.bytes l.i
-
-abbrev pub decreases-loop-i : goal.decreases-loop-i
-decreases-loop-i l = l.n - l.i

@@ -1,5 +1,5 @@
 -- `buddy::fresh::free_trees` meets its contract. The loop's invariant: so many trees are written. Assumes nothing.
-use Rattle.std.proofs.Common.{◌≡◌, ◌-◌, length, refl, ◌∙◌, zero-mul, arith, length-set}
+use Rattle.std.proofs.Common.{◌≡◌, length, refl, ◌∙◌, zero-mul, arith, length-set}
 use Rattle.block.specs.Blocks.{size}
 use Rattle.block.proofs.Size.{size_pos}
 use Rattle.buddy.proofs.FreeTrees.{free_trees, trees_room, trees_next, trees_none, trees_more}

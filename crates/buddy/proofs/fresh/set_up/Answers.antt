@@ -19,13 +19,13 @@ free_trees-requires c =
     let fill = count_fill u c.top_of-k.result c.size_of.result c.words_of.result c.top_of-k.ensures
     c.size_of.ensures c.words_of.ensures c.requires.0 in (
       omega (arith, c.top_of-k.ensures, top_le u.d),
-      omega (arith, fill, zeros_long m c.zero_all.ensures),
-      zeros_again m c.zero_all.ensures,
+      omega (arith, fill, zeros_long m (c.fill.ensures.after (λ y h. h))),
+      zeros_again m (c.fill.ensures.after (λ y h. h)),
     )
 
 pub returns : goal.returns
 returns c =
     let u = c.args.setup in
     let m = c.args.map.now in
-    trees_fresh m c.zero_all.ensures u c.top_of-k.result c.size_of.result c.words_of.result
+    trees_fresh m (c.fill.ensures.after (λ y h. h)) u c.top_of-k.result c.size_of.result c.words_of.result
     c.top_of-k.ensures c.size_of.ensures c.words_of.ensures c.requires.0 c.free_trees.ensures

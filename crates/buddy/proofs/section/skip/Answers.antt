@@ -1,5 +1,5 @@
 -- `skip` passes bytes below a tag. The loop's invariant: all that was passed is so. The measure is what is left up to the end. Assumes nothing.
-use Rattle.std.proofs.Common.{◌-◌, arith}
+use Rattle.std.proofs.Common.{arith}
 use Rattle.buddy.specs.Lowest.{here, more}
 use Rattle.buddy.proofs.section.skip.Goals as goal
 

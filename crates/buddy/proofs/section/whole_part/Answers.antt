@@ -1,6 +1,6 @@
 -- `whole_part` tests the tags of the trees in a part. The loop's invariant: where less than 2 is left of the tags passed, their trees are one
 -- block each. Assumes nothing.
-use Rattle.std.proofs.Common.{ℕ, ◌-◌, ◌%◌, ◌^◌, sym, ap, ◌∙◌, mod-eq_of_lt, one-mul, arith, ltb-true}
+use Rattle.std.proofs.Common.{ℕ, ◌%◌, ◌^◌, sym, ap, ◌∙◌, mod-eq_of_lt, one-mul, arith, ltb-true}
 use lib.Pow.{pow-lt}
 use Rattle.block.proofs.Size.{size_pow, size_pos}
 use Rattle.buddy.proofs.Whole.{tags_next}

@@ -1,6 +1,6 @@
 -- `whole_trees` passes trees that are one block each. The loop's invariant: those left give what all gave, and the number grew by one at most
 -- for each byte passed. Assumes nothing.
-use Rattle.std.proofs.Common.{◌-◌, ◌*◌, ◌≤◌, mul-le-mul_left, arith}
+use Rattle.std.proofs.Common.{◌*◌, ◌≤◌, mul-le-mul_left, arith}
 use Rattle.block.proofs.Size.{size_pos, size_small}
 use Rattle.buddy.proofs.Passing.{pass_none, pass_blocks}
 use Rattle.buddy.proofs.section.whole_trees.Goals as goal

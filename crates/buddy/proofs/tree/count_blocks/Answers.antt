@@ -1,6 +1,6 @@
 -- `count_blocks` counts one block after the other. The loop's invariant: counting from here on gives the blocks of the tree, and each byte
 -- passed added one at most. The measure is what is left of the tree. Assumes nothing.
-use Rattle.std.proofs.Common.{◌-◌, sym, arith}
+use Rattle.std.proofs.Common.{sym, arith}
 use Rattle.word.proofs.Tests.{known_true, known_false}
 use Rattle.buddy.specs.Marks.{tag_level}
 use Rattle.block.proofs.Size.{size_small}

@@ -1,6 +1,6 @@
 -- `free_up` frees a block upward. The loop's invariant: the bytes lack just the tag of a free block at the place, and rejoined upward they
 -- are what they would have been at first. The measure is how many levels are left. Assumes nothing.
-use Rattle.std.proofs.Common.{◌≡◌, ℕ, ◌+◌, ◌-◌, ◌<◌, ◌≤◌, get_or, set, sym, ap, ◌∙◌, arith, length-set}
+use Rattle.std.proofs.Common.{◌≡◌, ℕ, ◌+◌, ◌<◌, ◌≤◌, get_or, set, sym, ap, ◌∙◌, arith, length-set}
 use Rattle.block.specs.Blocks.{size}
 use Rattle.block.specs.Map.{free_tag}
 use Rattle.buddy.specs.Upward.{other_place}

@@ -6,16 +6,16 @@ use lib.ListN.{get_or}
 use Rattle.character.specs.Thousand.{thousand}
 use Rattle.character.proofs.Entries.{thousand_small}
 use Rattle.character.proofs.thousand.six.Goals as goal
-use Rattle.character.proofs.thousand.six.Goals.{After-wide, After-wide-2}
+use Rattle.character.proofs.thousand.six.Goals.{After-from, After-from-2}
 
 -- what is looked up
-high : (c : After-wide) → c.wide.result ≡ get_or thousand (c.args.k / 1000) 0
+high : (c : After-from) → c.from.result ≡ get_or thousand (c.args.k / 1000) 0
 unfolding thousand
-high c = c.wide.ensures
+high c = c.from.ensures
 
-low : (c : After-wide-2) → c.wide-2.result ≡ get_or thousand (c.args.k % 1000) 0
+low : (c : After-from-2) → c.from-2.result ≡ get_or thousand (c.args.k % 1000) 0
 unfolding thousand
-low c = c.wide-2.ensures
+low c = c.from-2.ensures
 
 pub overflow_mul-result : goal.overflow_mul-result
 overflow_mul-result c = rw (high c) (omega (arith, thousand_small (c.args.k / 1000) (omega arith)))

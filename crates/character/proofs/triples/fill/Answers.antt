@@ -1,6 +1,5 @@
 -- `character::triples::fill` meets its contract. The loop's invariant: the buffer's first entries are the list's. Assumes nothing.
 use mathlib.Core.Path.{◌≡◌, sym, ◌∙◌}
-use Prim.Native.Nat.{◌-◌}
 use native.Mathlib.Omega.{arith}
 use lib.ListN.{length}
 use borrow.Author.Tests.{eq-eqb, ne_eqb}
@@ -15,18 +14,18 @@ returns-then-buffer-ne-COUNT c =
     let other = ne_eqb (length c.args.buffer.now) 1000 (λ e. omega arith) in
     (rw other, rw other)
 
-pub loop-made-init : goal.loop-made-init
-loop-made-init c = fills_none (length_triples 1000) (omega arith)
+pub loop-k-init : goal.loop-k-init
+loop-k-init c = fills_none (length_triples 1000) (omega arith)
 
-pub loop-made-preserved : goal.loop-made-preserved
-loop-made-preserved c =
-    let l = c.loop-made in
-    whole_next l.invariant (omega arith) 0 (c.entry.ensures ∙ sym (triples_at 1000 l.made (omega arith)))
+pub loop-k-preserved : goal.loop-k-preserved
+loop-k-preserved c =
+    let l = c.loop-k in
+    whole_next l.invariant (omega arith) 0 (c.entry.ensures ∙ sym (triples_at 1000 l.k (omega arith)))
 
 pub returns : goal.returns
 unfolding filled answered
 returns c =
-    let l = c.loop-made in
+    let l = c.loop-k in
     let before = c.args.buffer.now in
     let long : length before ≡ 1000 = omega arith in
     let test = eq-eqb (length before) 1000 long in

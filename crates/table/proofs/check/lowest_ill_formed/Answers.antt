@@ -1,5 +1,4 @@
 -- `table::check::lowest_ill_formed` meets its contract: the rows passed are well-formed, so the lowest ill-formed one is at or after r. Assumes nothing.
-use Prim.Native.Nat.{◌-◌}
 use native.Mathlib.Numerals.{add-one}
 use mathlib.Core.Path.{refl, ap, sym, ◌∙◌}
 use Rattle.word.proofs.Tests.{known_true, known_false}
@@ -40,9 +39,3 @@ returns c =
 
 pub row_at-requires : goal.row_at-requires
 row_at-requires row-at-requires = omega arith
-
-pub overflow_add-r : goal.overflow_add-r
-overflow_add-r add_r = omega arith
-
-pub loop-r-smaller : goal.loop-r-smaller
-loop-r-smaller loop-less = omega arith
