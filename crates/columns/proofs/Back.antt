@@ -1,5 +1,5 @@
 -- What is saved by columns comes back: loading what was saved gives the words, and saving what was loaded gives the bytes. Assumes nothing.
-use Prim.Native.Nat.{ℕ, zero, suc, ◌+◌, ◌-◌, ◌*◌, ◌^◌, ◌≤◌, ◌<◌}
+use Prim.Native.Nat.{ℕ, zero, suc, ◌-◌, ◌*◌, ◌^◌, ◌≤◌, ◌<◌}
 use native.Mathlib.Omega.{arith}
 use mathlib.Core.Bool.{true}
 use mathlib.Core.List.{List, [], ◌∷◌, ◌++◌}
@@ -17,6 +17,11 @@ use Rattle.columns.proofs.Turning.{below_append, below_take, length_groups, grou
 pub room : (n : ℕ) → n ≤ 8 * groups_of n
 unfolding groups_of
 room n = omega arith
+
+-- and each of them has a word
+pub group_below : (n k : ℕ) {groups : ℕ} → groups ≡ groups_of n → k < groups → 8 * k < n
+unfolding groups_of
+group_below n k is h = omega arith
 
 zeros_below : (bound n : ℕ) → 0 < bound → each_below bound (replicate n 0) ≡ true
 unfolding each_below

@@ -3,15 +3,16 @@ use Prim.Native.Nat.{ℕ, zero, suc, ◌+◌, ◌-◌, ◌*◌, ◌/◌, ◌^◌
 use native.Mathlib.Nat.{div-lt_iff_lt-mul, div-eq_of_lt}
 use native.Mathlib.Numerals.{add-one}
 use native.Mathlib.Omega.{arith}
-use mathlib.Core.Bool.{true, false, ◌&&◌}
+use mathlib.Core.Bool.{Bool, ◌&&◌}
 use mathlib.Core.List.{List, [], ◌∷◌, ◌++◌}
-use mathlib.Core.Path.{◌≡◌, refl, sym, ap, ◌∙◌}
-use borrow.Author.Tests.{lt-ltb, le-ltb}
-use lib.Dec.{ltb}
+use mathlib.Core.Path.{◌≡◌, refl, sym, ap, ap₂, ◌∙◌}
+use borrow.Author.Tests.{lt-ltb, le-ltb, eq-eqb, ne_eqb}
+use lib.Dec.{eqb, ltb}
 use lib.ListN.{length, get_or, drop, take, replicate, length-take, length-drop}
 use lib.Pow.{pow_pos}
 use lib.Seq.{drop-cons, get_or-take, get_or-drop}
-use Rattle.word.proofs.Tests.{by_leb}
+use Rattle.std.specs.List.{list_all, range_with_len}
+use Rattle.word.proofs.Tests.{by_leb, by_eqb}
 use Rattle.columns.specs.Columns.{each_below, fits_width, groups_of, filled_up}
 use Rattle.columns.proofs.Back.{length_filled}
 
@@ -27,38 +28,36 @@ drop_all [] (suc i) h = refl
 drop_all (x ∷ xs) zero h = absurd (omega arith)
 drop_all (x ∷ xs) (suc i) h = drop_all xs i (omega arith)
 
--- whether each from a place on is below a bound, by the number there
-module _ (bound : ℕ) (xs : List ℕ) (i : ℕ) (inside : i < length xs) where
-  opened : each_below bound (drop i xs) ≡ (ltb (get_or xs i 0) bound && each_below bound (drop (suc i) xs))
+-- words that fit a width have no bits but the last b
+fits_one : (b x : ℕ) → eqb (x / 2 ^ b) 0 ≡ ltb x (2 ^ b)
+fits_one b x =
+    by_leb (λ t. eqb (x / 2 ^ b) 0 ≡ t) (suc x) (2 ^ b)
+    (λ less. eq-eqb (x / 2 ^ b) 0 (div-eq_of_lt less))
+    (λ more. ne_eqb (x / 2 ^ b) 0 (λ none. let small = (div-lt_iff_lt-mul {x = x} {y = 1} (pow_pos b)).0 (omega arith) in omega arith))
+
+pub fits_is : (b : ℕ) (xs : List ℕ) → list_all (λ (x : ℕ). eqb (x / 2 ^ b) 0) xs ≡ fits_width b xs
+unfolding fits_width each_below
+fits_is b [] = refl
+fits_is b (x ∷ xs) = ap₂ (λ (s t : Bool). s && t) (fits_one b x) (fits_is b xs)
+
+-- and numbers below 1 are zeros, from a place on
+zero_one : (x : ℕ) → eqb x 0 ≡ ltb x 1
+zero_one x = by_eqb (λ t. t ≡ ltb x 1) x 0 (λ none. sym (lt-ltb x 1 (omega arith))) (λ some. sym (le-ltb x 1 (omega arith)))
+
+module _ (xs : List ℕ) where
+  zeros_from : (k n : ℕ) → n + k ≡ length xs → list_all (λ (i : ℕ). eqb (get_or xs i 0) 0) (range_with_len n k) ≡ each_below 1 (drop n xs)
   unfolding each_below
-  opened = ap (each_below bound) (drop-cons xs i 0 inside)
+  zeros_from zero n all = sym (ap (each_below 1) (drop_all xs n (omega arith)))
+  zeros_from (suc k) n all =
+      ap₂ (λ (s t : Bool). s && t) (zero_one (get_or xs n 0)) (zeros_from k (n + 1) (omega arith))
+      ∙ sym (ap (each_below 1) (drop-cons xs n 0 (omega arith)) ∙ ap (λ (m : ℕ). ltb (get_or xs n 0) 1 && each_below 1 (drop m xs)) (sym (add-one n)))
 
-  pub below_next : get_or xs i 0 < bound → each_below bound (drop (i + 1) xs) ≡ each_below bound (drop i xs)
-  below_next h = ap (λ (k : ℕ). each_below bound (drop k xs)) (add-one i) ∙ sym (opened ∙ rw (lt-ltb (get_or xs i 0) bound h))
-
-  pub below_not : bound ≤ get_or xs i 0 → each_below bound (drop i xs) ≡ false
-  below_not h = opened ∙ rw (le-ltb (get_or xs i 0) bound h)
-
-pub below_all : (bound : ℕ) (xs : List ℕ) (i : ℕ) → length xs ≤ i → each_below bound (drop i xs) ≡ true
-unfolding each_below
-below_all bound xs i h = ap (each_below bound) (drop_all xs i h)
-
--- whether words fit the width, by what is left of them beside their last b bits
-module _ (b : ℕ) (xs : List ℕ) (i : ℕ) (so_far : each_below (2 ^ b) (drop i xs) ≡ fits_width b xs) (inside : i < length xs) where
-  pub fits_next : get_or xs i 0 / 2 ^ b ≡ 0 → each_below (2 ^ b) (drop (i + 1) xs) ≡ fits_width b xs
-  fits_next none =
-      let small = (div-lt_iff_lt-mul {x = get_or xs i 0} {y = 1} (pow_pos b)).0 (omega arith) in
-      below_next (2 ^ b) xs i inside (omega arith) ∙ so_far
-
-  pub fits_not : (get_or xs i 0 / 2 ^ b ≡ 0 → ⊥) → false ≡ fits_width b xs
-  fits_not some =
-      sym (below_not (2 ^ b) xs i inside (not_below _ _ λ h. some (div-eq_of_lt h))) ∙ so_far
-    where
-      not_below : (x y : ℕ) → (x < y → ⊥) → y ≤ x
-      not_below x y h = by_leb (λ t. y ≤ x) y x (λ l. l) (λ l. absurd (h l))
-
-pub fits_all : (b : ℕ) (xs : List ℕ) (i : ℕ) → each_below (2 ^ b) (drop i xs) ≡ fits_width b xs → length xs ≤ i → true ≡ fits_width b xs
-fits_all b xs i so_far past = sym (below_all (2 ^ b) xs i past) ∙ so_far
+  pub zeros_are : (n : ℕ) → list_all (λ (i : ℕ). eqb (get_or xs i 0) 0) (range_with_len n (length xs - n)) ≡ each_below 1 (drop n xs)
+  unfolding each_below
+  zeros_are n =
+      by_leb (λ _. list_all (λ (i : ℕ). eqb (get_or xs i 0) 0) (range_with_len n (length xs - n)) ≡ each_below 1 (drop n xs)) n (length xs)
+      (λ inside. zeros_from (length xs - n) n (omega arith))
+      (λ past. let none : length xs - n ≡ 0 = omega arith in rw (none, drop_all xs n (omega arith)))
 
 -- the words of a group: those filled up with are zeros
 filled_at : (ws : List ℕ) (k j : ℕ) → get_or (ws ++ replicate k 0) j 0 ≡ get_or ws j 0
@@ -88,5 +87,9 @@ module _ (b : ℕ) (bytes : List ℕ) (at : ℕ) (inside : at + b ≤ length byt
   pub length_part : length (take b (drop at bytes)) ≡ b
   length_part = simp (length-take, length-drop) (omega arith)
 
-  pub part_at : (p : ℕ) → p < b → get_or (take b (drop at bytes)) p 0 ≡ get_or bytes (at + p) 0
-  part_at p h = rw (get_or-take, get_or-drop)
+  -- also as a slice has them, up to a place
+  pub slice_is : take (at + b - at) (drop at bytes) ≡ take b (drop at bytes)
+  slice_is = let size : at + b - at ≡ b = omega arith in ap (λ (k : ℕ). take k (drop at bytes)) size
+
+  pub length_slice : length (take (at + b - at) (drop at bytes)) ≡ b
+  length_slice = ap length slice_is ∙ length_part

@@ -9,7 +9,7 @@ use borrow.Author.Tests.{ltb-true}
 use lib.Dec.{ltb}
 use lib.ListN.{length, get_or, take, drop, replicate, length-take, length-drop, get_or-replicate}
 use lib.Pow.{pow-add, pow_pos, pow_mono, shr-shr, field, mod-mod-pow}
-use lib.Seq.{ext_get_or, get_or-take, get_or-drop}
+use lib.Seq.{ext_get_or, get_or-take, get_or-drop, take-add, drop-drop, sets}
 use Rattle.word.proofs.Tests.{and_true}
 use Rattle.character.specs.Character.{number}
 use Rattle.columns.specs.Columns.{bits_at, turned, turned_groups, groups_of, filled_up, saved, each_below}
@@ -18,6 +18,7 @@ use Rattle.columns.proofs.Turning.{length_turned, turned_below, length_groups}
 use Rattle.columns.proofs.Bits.{turned_at, groups_at}
 use Rattle.columns.proofs.Packing.{length_unpacked, unpacked_at, length_longer, longer_at, length_octets, bits_small}
 use Rattle.columns.proofs.Packing.{packed_at, bytes_less}
+use Rattle.columns.proofs.Writing.{sets_more}
 
 -- a bit of a byte of a number is a bit of the number
 low_bit : (y k : ℕ) → k < 8 → y % 256 / 2 ^ k % 2 ≡ y / 2 ^ k % 2
@@ -56,10 +57,15 @@ module _ (b p n right : ℕ) (ws : List ℕ) (eight : length ws ≡ 8) (few : n 
       unpacked_at n (all / 256 ^ (8 - n)) i more ∙ byte i more ∙ sym (rw (get_or-take, get_or-drop)))
 
 -- the eight at once, and the first few
-pub eight_turned : (b p : ℕ) (ws : List ℕ) → length ws ≡ 8 → p + 8 ≤ b → unpacked 8 (packed_turned (octets (b - p - 8) ws)) ≡ take 8 (drop p (turned b ws))
+eight_turned : (b p : ℕ) (ws : List ℕ) → length ws ≡ 8 → p + 8 ≤ b → unpacked 8 (packed_turned (octets (b - p - 8) ws)) ≡ take 8 (drop p (turned b ws))
 eight_turned b p ws eight inside =
     let whole : packed_turned (octets (b - p - 8) ws) ≡ packed_turned (octets (b - p - 8) ws) / 256 ^ (8 - 8) = omega arith in
     ap (unpacked 8) whole ∙ part_turned b p 8 (b - p - 8) ws eight (omega arith) (omega arith)
+
+pub eight_put : (b p to : ℕ) (ws l : List ℕ) → length ws ≡ 8 → p + 8 ≤ b → {o : List ℕ} → o ≡ sets l to (take p (turned b ws))
+    → sets o (to + p) (unpacked 8 (packed_turned (octets (b - p - 8) ws))) ≡ sets l to (take (p + 8) (turned b ws))
+eight_put b p to ws l eight inside is =
+    ap₂ (λ (r xs : List ℕ). sets r (to + p) xs) is (eight_turned b p ws eight inside) ∙ sets_more p 8 to (turned b ws) l
 
 powers : (k : ℕ) → 2 ^ (8 * k) ≡ 256 ^ k
 powers zero = refl
@@ -110,13 +116,22 @@ bits_after n p m (y ∷ ys) =
     let bit = y / 2 ^ (n - suc p) % 2 in
     rw (pow-suc 2 (length ys)) (omega (arith, bits_after n p (m * 2 + bit) ys, bits_after n p (0 * 2 + bit) ys))
 
-pub more_longer : (xs ys : List ℕ) → length ys ≡ 8 → longer (turned 8 xs) (packed_turned ys) ≡ turned 8 (xs ++ ys)
+more_longer : (xs ys : List ℕ) → length ys ≡ 8 → longer (turned 8 xs) (packed_turned ys) ≡ turned 8 (xs ++ ys)
 more_longer xs ys eight =
     longer_is (turned 8 xs) ys (xs ++ ys) (length_turned 8 xs) (omega arith) (λ i h.
     ap (λ (k : ℕ). k * 256 + number 2 0 (bits_at 8 i ys)) (turned_at 8 i xs h)
     ∙ ap (λ (k : ℕ). number 2 0 (bits_at 8 i xs) * 2 ^ k + number 2 0 (bits_at 8 i ys)) (sym eight)
     ∙ sym (bits_after 8 i (number 2 0 (bits_at 8 i xs)) ys)
     ∙ sym (bits_append 8 i 0 xs ys))
+
+-- eight bits more by the bytes at place p of those from a place on
+pub eight_longer : (bytes : List ℕ) (at p : ℕ) → at + p + 8 ≤ length bytes → {group : List ℕ} → group ≡ turned 8 (take p (drop at bytes))
+    → longer group (packed_turned (take 8 (drop (at + p) bytes))) ≡ turned 8 (take (p + 8) (drop at bytes))
+eight_longer bytes at p inside is =
+    let part = take 8 (drop (at + p) bytes) in
+    ap (λ (g : List ℕ). longer g (packed_turned part)) is
+    ∙ more_longer (take p (drop at bytes)) part (simp (length-take, length-drop) (omega arith))
+    ∙ ap (turned 8) (sym (take-add p 8 (drop at bytes) ∙ ap (λ (r : List ℕ). take p (drop at bytes) ++ take 8 r) (drop-drop p at bytes)))
 
 -- turned numbers have as many bits as there were numbers
 each_at : (bound : ℕ) (xs : List ℕ) → each_below bound xs ≡ true → 0 < bound → (i : ℕ) → get_or xs i 0 < bound

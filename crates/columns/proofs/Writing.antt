@@ -1,10 +1,10 @@
 -- Numbers stored one after the other from a place on. Assumes nothing.
-use Prim.Native.Nat.{ℕ, zero, suc, ◌+◌, ◌-◌, ◌≤◌}
+use Prim.Native.Nat.{ℕ, zero, suc, ◌+◌, ◌≤◌}
 use native.Mathlib.Omega.{arith}
 use mathlib.Core.List.{List, [], ◌∷◌, ◌++◌, append_assoc}
 use mathlib.Core.Path.{◌≡◌, sym, ap, ap₂, ◌∙◌}
 use lib.ListN.{length, set, take, drop}
-use lib.Seq.{drop-drop, take-nil, take_all, length-take-le, sets, sets-eq}
+use lib.Seq.{take-nil, length-take-le, sets, sets-eq}
 use Rattle.word.proofs.Filling.{Fills, fills_all}
 
 -- the first p, and then m more
@@ -20,26 +20,6 @@ sets_more (suc p) m to (x ∷ xs) l =
     ap (λ (i : ℕ). sets (sets (set l to x) (suc to) (take p xs)) i (take m (drop p xs))) start
     ∙ sets_more p m (suc to) xs (set l to x)
     ∙ ap (λ (j : ℕ). sets l to (take j (x ∷ xs))) (sym count)
-
--- the same, where the first odd are left out
-pub sets_later : (odd p m to : ℕ) (xs l : List ℕ) → odd ≤ p → {o : List ℕ} → o ≡ sets l (to + odd) (take (p - odd) (drop odd xs))
-    → sets o (to + p) (take m (drop p xs)) ≡ sets l (to + odd) (take (p + m - odd) (drop odd xs))
-sets_later odd p m to xs l least so_far =
-    let here : to + p ≡ to + odd + (p - odd) = omega arith in
-    let there : p ≡ odd + (p - odd) = omega arith in
-    let count : p - odd + m ≡ p + m - odd = omega arith in
-    ap (λ (r : List ℕ). sets r (to + p) (take m (drop p xs))) so_far
-    ∙ ap₂ (λ (i j : ℕ). sets (sets l (to + odd) (take (p - odd) (drop odd xs))) i (take m (drop j xs))) here there
-    ∙ ap (λ (ys : List ℕ). sets (sets l (to + odd) (take (p - odd) (drop odd xs))) (to + odd + (p - odd)) (take m ys)) (sym (drop-drop (p - odd) odd xs))
-    ∙ sets_more (p - odd) m (to + odd) (drop odd xs) l
-    ∙ ap (λ (k : ℕ). sets l (to + odd) (take k (drop odd xs))) count
-
-pub sets_both : (odd p to : ℕ) (xs l : List ℕ) → odd ≤ p → length xs ≤ p → {o : List ℕ} → o ≡ sets l to (take odd xs)
-    → sets o (to + odd) (take (p - odd) (drop odd xs)) ≡ sets l to xs
-sets_both odd p to xs l least all so_far =
-    ap (λ (r : List ℕ). sets r (to + odd) (take (p - odd) (drop odd xs))) so_far
-    ∙ sets_more odd (p - odd) to xs l
-    ∙ ap (sets l to) (take_all (odd + (p - odd)) xs (omega arith))
 
 -- by a loop that fills
 pub fills_sets : {to n : ℕ} {xs l o : List ℕ} {i : ℕ} → Fills to n xs l o i → n ≤ i → o ≡ sets l to xs

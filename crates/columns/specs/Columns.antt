@@ -1,10 +1,10 @@
 -- Storage kept by bit columns: words in groups of eight, one byte for each bit place. Document 02, ticket 13. Assumes nothing.
-use Rattle.std.specs.Prelude.{ℕ, zero, suc, ◌+◌, ◌-◌, ◌*◌, ◌/◌, ◌%◌, ◌^◌, Bool, true, ◌&&◌, cond, List, [], ◌∷◌, ◌++◌, eqb, leb, ltb, length, get_or, take, drop, replicate}
+use Rattle.std.specs.Prelude.{ℕ, zero, suc, ◌+◌, ◌-◌, ◌*◌, ◌/◌, ◌%◌, ◌^◌, Bool, true, ◌&&◌, cond, List, [], ◌∷◌, ◌++◌, eqb, leb, ltb, length, get_or, take, drop, replicate, Result, Ok, Err}
 use Rattle.word.specs.Word.{is_width}
 use Rattle.word.specs.Told.{Told, gives, refuses}
 use Rattle.character.specs.Character.{digits, number}
-use Rattle.columns.specs.declared.Kept.{Kept}
-use Rattle.columns.specs.declared.Kept.TheVariants.{Count, NoWidth, WordTooWide, NotSaved, OutputShort}
+use Rattle.columns.specs.declared.KeepError.{KeepError}
+use Rattle.columns.specs.declared.KeepError.TheVariants.{NoWidth, WordTooWide, NotSaved, OutputShort}
 
 -- the first of each row, and the others
 unfoldable pub heads : List (List ℕ) → List ℕ
@@ -77,36 +77,36 @@ is_saved b n bytes = eqb (length bytes) (b * groups_of n) && each_below 1 (drop 
 
 -- what a call answers and what it leaves in its output
 pub record Left : Type 0 where
-  pub answer : Kept
+  pub answer : Result ℕ KeepError
   pub output : List ℕ
 
 -- these written from the start of an output that has room, and how many they are; 35 where it has none
 unfoldable pub written : List ℕ → List ℕ → Left
 written xs output =
-    cond (leb (length xs) (length output)) (record { answer = Count (length xs); output = xs ++ drop (length xs) output })
-    (record { answer = OutputShort; output = output })
+    cond (leb (length xs) (length output)) (record { answer = Ok (length xs); output = xs ++ drop (length xs) output })
+    (record { answer = Err OutputShort; output = output })
 
 -- saving: 31, 33, 35
 unfoldable pub saving : ℕ → List ℕ → List ℕ → Left
 saving b ws output =
     cond (is_width b)
-    (cond (fits_width b ws) (written (saved b ws) output) (record { answer = WordTooWide; output = output }))
-    (record { answer = NoWidth; output = output })
+    (cond (fits_width b ws) (written (saved b ws) output) (record { answer = Err WordTooWide; output = output }))
+    (record { answer = Err NoWidth; output = output })
 
 -- loading: 31, 34, 35
 unfoldable pub loading : ℕ → ℕ → List ℕ → List ℕ → Left
 loading b n bytes output =
     cond (is_width b)
-    (cond (is_saved b n bytes) (written (loaded b n bytes) output) (record { answer = NotSaved; output = output }))
-    (record { answer = NoWidth; output = output })
+    (cond (is_saved b n bytes) (written (loaded b n bytes) output) (record { answer = Err NotSaved; output = output }))
+    (record { answer = Err NoWidth; output = output })
 
 -- answers in numbers: the count, or the refusal
-unfoldable pub told_kept : Kept → Told ℕ
-told_kept (Count n) = gives n
-told_kept NoWidth = refuses 31
-told_kept WordTooWide = refuses 33
-told_kept NotSaved = refuses 34
-told_kept OutputShort = refuses 35
+unfoldable pub told_kept : Result ℕ KeepError → Told ℕ
+told_kept (Ok n) = gives n
+told_kept (Err NoWidth) = refuses 31
+told_kept (Err WordTooWide) = refuses 33
+told_kept (Err NotSaved) = refuses 34
+told_kept (Err OutputShort) = refuses 35
 
 -- what saving and loading tell: 31, 33, 35 and 31, 34, 35
 unfoldable pub written_told : List ℕ → List ℕ → Told ℕ

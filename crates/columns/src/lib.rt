@@ -20,10 +20,9 @@ const SEVENS: u64 = 0x7F7F_7F7F_7F7F_7F7F;
 
 const DIAGONAL: u64 = 0x0102_0408_1020_4080;
 
-// What a call answers: how many bytes or words it wrote, or why it wrote none: refusals 31, 33, 34, 35.
-#[derive(Clone, Copy)]
-pub enum Kept {
-    Count(usize),
+// Why a call wrote none: refusals 31, 33, 34, 35.
+#[derive(Clone, Copy, PartialEq, Eq, Debug)]
+pub enum KeepError {
     NoWidth,
     WordTooWide,
     NotSaved,
@@ -34,7 +33,7 @@ pub enum Kept {
 fn groups_of(words: usize) -> usize
     ensures { result ≡ groups_of words }
 {
-    words / GROUP + (words % GROUP + 7) / GROUP
+    words.div_ceil(GROUP)
 }
 
 // Whether every word fits the width.
@@ -42,14 +41,7 @@ fn fit(b: u64, words: &[u64]) -> bool
     requires { b ≤ 48 }
     ensures { result ≡ fits_width b words.now }
 {
-    let mut i = 0;
-    while i < words.len() {
-        if words[i] >> b != 0 {
-            return false;
-        }
-        i += 1;
-    }
-    true
+    words.iter().all(|word| *word >> b == 0)
 }
 
 // The word i places after a place, or zero past the last.
@@ -57,11 +49,7 @@ fn word_or_zero(words: &[u64], at: usize, i: usize) -> u64
     requires { at ≤ length words.now }
     ensures { result ≡ get_or words.now (at + i) 0 }
 {
-    if i < words.len() - at {
-        words[at + i]
-    } else {
-        0
-    }
+    words[at..].get(i).copied().unwrap_or(0)
 }
 
 // Eight words from a place on, zero past the last.
@@ -70,10 +58,8 @@ fn group_at(words: &[u64], at: usize) -> [u64; GROUP]
     ensures { result ≡ take 8 (drop at (filled_up words.now)) }
 {
     let mut group = [0u64; GROUP];
-    let mut i = 0;
-    while i < GROUP {
+    for i in 0..GROUP {
         group[i] = word_or_zero(words, at, i);
-        i += 1;
     }
     group
 }
@@ -94,24 +80,20 @@ fn turned_words(group: &[u64], right: u64) -> u64
     ensures { result ≡ packed_turned (octets right group.now) }
 {
     let mut made = 0;
-    let mut i = 0;
-    while i < GROUP {
-        made = made * 2 + spread((group[i] >> right) % 256);
-        i += 1;
+    for word in group {
+        made = made * 2 + spread((*word >> right) % 256);
     }
     made
 }
 
-// So many bytes from a place on turned.
+// So many bytes from a place on turned. A loop of its own: words are shifted first, and bytes are not.
 fn turned_bytes(bytes: &[u8], at: usize, n: usize) -> u64
     requires { (n ≤ 8) × (at + n ≤ length bytes.now) }
     ensures { result ≡ packed_turned (take n (drop at bytes.now)) }
 {
     let mut made = 0;
-    let mut i = 0;
-    while i < n {
-        made = made * 2 + spread(bytes[at + i] as u64);
-        i += 1;
+    for byte in &bytes[at..at + n] {
+        made = made * 2 + spread(u64::from(*byte));
     }
     made
 }
@@ -122,11 +104,9 @@ fn put_bytes(bytes: &mut [u8], to: usize, n: usize, all: u64)
     ensures { bytes.new ≡ sets bytes.old to (unpacked n all) }
 {
     let mut rest = all;
-    let mut i = 0;
-    while i < n {
+    for i in 0..n {
         bytes[to + i] = (rest % 256) as u8;
         rest = rest / 256;
-        i += 1;
     }
 }
 
@@ -143,10 +123,9 @@ fn save_group(b: u64, group: &[u64], bytes: &mut [u8], to: usize)
         odd,
         (turned_words(group, b - b % 8) / 256) >> (56 - 8 * odd),
     );
-    let mut p = odd;
-    while p < n {
+    for k in 0..n / 8 {
+        let p = odd + 8 * k;
         put_bytes(bytes, to + p, 8, turned_words(group, (n - p - 8) as u64));
-        p += 8;
     }
 }
 
@@ -157,11 +136,9 @@ fn with_bits(group: &[u64], all: u64) -> [u64; GROUP]
 {
     let mut made = [0u64; GROUP];
     let mut rest = all;
-    let mut i = 0;
-    while i < GROUP {
+    for i in 0..GROUP {
         made[i] = group[i] * 256 + rest % 256;
         rest = rest / 256;
-        i += 1;
     }
     made
 }
@@ -173,12 +150,10 @@ fn load_group(b: u64, bytes: &[u8], at: usize) -> [u64; GROUP]
 {
     let n = b as usize;
     let odd = n % 8;
-    let mut group = [0u64; GROUP];
-    group = with_bits(&group, turned_bytes(bytes, at, odd));
-    let mut p = odd;
-    while p < n {
+    let mut group = with_bits(&[0; GROUP], turned_bytes(bytes, at, odd));
+    for k in 0..n / 8 {
+        let p = odd + 8 * k;
         group = with_bits(&group, turned_bytes(bytes, at + p, 8));
-        p += 8;
     }
     group
 }
@@ -188,11 +163,7 @@ fn put_words(group: &[u64], n: usize, words: &mut [u64], to: usize)
     requires { (n ≤ length group.now) × (to + n ≤ length words.old) }
     ensures { words.new ≡ sets words.old to (take n group.now) }
 {
-    let mut i = 0;
-    while i < n {
-        words[to + i] = group[i];
-        i += 1;
-    }
+    words[to..to + n].copy_from_slice(&group[..n]);
 }
 
 // The word that has bit i of each of the b bytes from a place on.
@@ -203,10 +174,8 @@ fn row(b: u64, i: u64, bytes: &[u8], at: usize) -> u64
     let right = 7 - i;
     let n = b as usize;
     let mut made = 0;
-    let mut p = 0;
-    while p < n {
-        made = made * 2 + ((bytes[at + p] as u64) >> right) % 2;
-        p += 1;
+    for byte in &bytes[at..at + n] {
+        made = made * 2 + (u64::from(*byte) >> right) % 2;
     }
     made
 }
@@ -224,15 +193,7 @@ fn filled_with_zeros(b: u64, groups: usize, bytes: &[u8], n: usize) -> bool
     requires { (8 ≤ b) × (b ≤ 48) × (length bytes.now ≡ b * groups) }
     ensures { result ≡ each_below 1 (drop n (turned_groups 8 b groups bytes.now)) }
 {
-    let end = groups * GROUP;
-    let mut i = n;
-    while i < end {
-        if word_at(b, groups, bytes, i) != 0 {
-            return false;
-        }
-        i += 1;
-    }
-    true
+    (n..groups * GROUP).all(|i| word_at(b, groups, bytes, i) == 0)
 }
 
 // Writes what is saved of words at the start of the bytes, a group at a time.
@@ -241,35 +202,22 @@ fn save_all(b: u64, words: &[u64], groups: usize, bytes: &mut [u8])
     ensures { bytes.new ≡ saved b words.now ++ drop (b * groups) bytes.old }
 {
     let n = b as usize;
-    let mut k = 0;
-    while k < groups {
+    for k in 0..groups {
         let group = group_at(words, GROUP * k);
         save_group(b, &group, bytes, n * k);
-        k += 1;
     }
-}
-
-// As many words as a group has, or what is left.
-fn up_to_eight(left: usize) -> usize
-    ensures { result ≡ min left 8 }
-{
-    if left < GROUP { left } else { GROUP }
 }
 
 // Writes the first n words of what is loaded at the start of the words, a group at a time.
 fn load_all(b: u64, groups: usize, bytes: &[u8], n: usize, words: &mut [u64])
-    requires { (b ≤ 48) × (length bytes.now ≡ b * groups) × (n ≤ 8 * groups) × (n ≤ length words.old) }
+    requires { (b ≤ 48) × (length bytes.now ≡ b * groups) × (groups ≡ groups_of n) × (n ≤ length words.old) }
     ensures { words.new ≡ take n (turned_groups 8 b groups bytes.now) ++ drop n words.old }
 {
     let size = b as usize;
-    let mut k = 0;
-    let mut i = 0;
-    while i < n {
+    for k in 0..groups {
         let group = load_group(b, bytes, size * k);
-        let m = up_to_eight(n - i);
-        put_words(&group, m, words, i);
-        k += 1;
-        i += m;
+        let i = GROUP * k;
+        put_words(&group, GROUP.min(n - i), words, i);
     }
 }
 
@@ -279,48 +227,48 @@ fn is_whole(b: u64, groups: usize, length: usize) -> bool
     ensures { result ≡ eqb length (b * groups) }
 {
     let n = b as usize;
-    (length % n == 0) & (length / n == groups)
+    length % n == 0 && length / n == groups
 }
 
 // Saves words of b bits: refusals 31, 33, 35. Bytes past those written stay.
-pub fn save(b: u64, words: &[u64], bytes: &mut [u8]) -> Kept
+pub fn save(b: u64, words: &[u64], bytes: &mut [u8]) -> Result<usize, KeepError>
     ensures bytes_after { record { answer = result; output = bytes.new } ≡ saving b words.now bytes.old }
     ensures numbered { told_kept result ≡ saving_told b words.now bytes.old }
 {
     if !is_width(b) {
-        return Kept::NoWidth;
+        return Err(KeepError::NoWidth);
     }
     if !fit(b, words) {
-        return Kept::WordTooWide;
+        return Err(KeepError::WordTooWide);
     }
     let n = b as usize;
     let groups = groups_of(words.len());
     if bytes.len() / n < groups {
-        return Kept::OutputShort;
+        return Err(KeepError::OutputShort);
     }
     let count = n * groups;
     save_all(b, words, groups, bytes);
-    Kept::Count(count)
+    Ok(count)
 }
 
 // Loads n words of b bits: refusals 31, 34, 35. Words past those written stay.
-pub fn load(b: u64, bytes: &[u8], n: usize, words: &mut [u64]) -> Kept
+pub fn load(b: u64, bytes: &[u8], n: usize, words: &mut [u64]) -> Result<usize, KeepError>
     ensures words_after { record { answer = result; output = words.new } ≡ loading b n bytes.now words.old }
     ensures numbered { told_kept result ≡ loading_told b n bytes.now words.old }
 {
     if !is_width(b) {
-        return Kept::NoWidth;
+        return Err(KeepError::NoWidth);
     }
     let groups = groups_of(n);
     if !is_whole(b, groups, bytes.len()) {
-        return Kept::NotSaved;
+        return Err(KeepError::NotSaved);
     }
     if !filled_with_zeros(b, groups, bytes, n) {
-        return Kept::NotSaved;
+        return Err(KeepError::NotSaved);
     }
     if words.len() < n {
-        return Kept::OutputShort;
+        return Err(KeepError::OutputShort);
     }
     load_all(b, groups, bytes, n, words);
-    Kept::Count(n)
+    Ok(n)
 }

@@ -21,6 +21,7 @@ pub fn read_full(from: &mut impl Read, bytes: &mut [u8]) -> usize
     ensures { IsPrefixLen result bytes.new }
 {
     let mut done = 0;
+    // A `while`: a read moves on by as many bytes as it got.
     while done < bytes.len() {
         match from.read(&mut bytes[done..]) {
             Ok(0) | Err(_) => break,

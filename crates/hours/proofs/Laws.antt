@@ -9,10 +9,9 @@ use lib.Dec.{eqb, leb}
 use lib.ListN.{length}
 use Rattle.word.proofs.Tests.{and_true, and_false}
 use Rattle.hours.specs.declared.Entry.{Entry}
-use Rattle.hours.specs.declared.Opening.TheVariants.{Closed}
+use Rattle.std.proofs.Common.{Option, None, Ok}
 use Rattle.hours.specs.Hours.{weekday, window, exception, entries, has_hours, has_zeros, has_name, keeps, all_keep_of, holds}
 use Rattle.hours.specs.Hours.{any_names, naming, counting, first_holding, list_keeps, accepts, open_at}
-use Rattle.hours.proofs.Tests.{search_from}
 
 -- day 0 is a Saturday, day 2 a Monday, and a week later is the same weekday
 pub first_days : (weekday 0 ≡ 5) × (weekday 2 ≡ 0)
@@ -49,24 +48,20 @@ keeps_each n {e} all (Memᴰ.head {x = x} {xs = xs} is) = ap (keeps n) is ∙ (a
 keeps_each n {e} all (Memᴰ.tail {x = x} {xs = xs} m) = keeps_each n (and_true (keeps n x) (all_keep_of n xs) all).1 m
 
 -- where none that is named holds the minute, the answer is closed
-none_answers : (k minute : ℕ) (e : Entry) → (e.name ≡ k → holds minute e ≡ false) → (eqb e.name k && holds minute e) ≡ false
-none_answers k minute e h = pick (eqb e.name k) refl
-  where
-    pick : (t : Bool) → eqb e.name k ≡ t → (t && holds minute e) ≡ false
-    pick true is = h (eqb-true _ _ is)
-    pick false is = refl
-
 none_hold : (k minute : ℕ) (es : List Entry) → ((e : Entry) → Memᴰ e es → e.name ≡ k → holds minute e ≡ false)
-    → first_holding minute (naming k es) ≡ Closed
+    → first_holding minute (naming k es) ≡ None
 unfolding naming first_holding
 none_hold k minute [] h = refl
-none_hold k minute (e ∷ es) h =
-    search_from k minute e false (none_answers k minute e (h e (Memᴰ.head refl))) es
-    ∙ none_hold k minute es (λ x m. h x (Memᴰ.tail m))
+none_hold k minute (e ∷ es) h = pick (eqb e.name k) refl (none_hold k minute es (λ x m. h x (Memᴰ.tail m)))
+  where
+    pick : (t : Bool) → eqb e.name k ≡ t → first_holding minute (naming k es) ≡ None
+        → first_holding minute (cond t (e ∷ naming k es) (naming k es)) ≡ None
+    pick true is rest = rw (h e (Memᴰ.head refl) (eqb-true _ _ is)) rest
+    pick false is rest = rest
 
 module _ (exceptions : List ℕ) (day minute : ℕ) (some : any_names day (entries exception exceptions) ≡ true) where
   by_day : (windows : List ℕ) → accepts windows exceptions minute ≡ true
-      → open_at windows exceptions day minute ≡ first_holding minute (naming day (entries exception exceptions))
+      → open_at windows exceptions day minute ≡ Ok (first_holding minute (naming day (entries exception exceptions)))
   unfolding open_at counting
   by_day windows so = rw (so, some)
 
@@ -77,12 +72,12 @@ module _ (exceptions : List ℕ) (day minute : ℕ) (some : any_names day (entri
 
   -- a closed exception hides the windows of its day: where those that name the day are closed, the answer is closed
   pub closed_hides : (windows : List ℕ) → accepts windows exceptions minute ≡ true
-      → ((e : Entry) → Memᴰ e (entries exception exceptions) → e.name ≡ day → e.closed ≡ 1) → open_at windows exceptions day minute ≡ Closed
+      → ((e : Entry) → Memᴰ e (entries exception exceptions) → e.name ≡ day → e.closed ≡ 1) → open_at windows exceptions day minute ≡ Ok None
   unfolding accepts list_keeps
   closed_hides windows so shut =
       let both = (and_true (list_keeps window windows) (list_keeps exception exceptions && leb minute 1439) so).1 in
       let list = (and_true (list_keeps exception exceptions) (leb minute 1439) both).0 in
       let all = (and_true (eqb (length exceptions % exception) 0) (all_keep_of exception (entries exception exceptions)) list).1 in
       by_day windows so
-      ∙ none_hold day minute (entries exception exceptions)
-      (λ e m is. closed_never_holds e exception (keeps_each exception all m) (shut e m is) minute)
+      ∙ ap (λ (o : Option ℕ). Ok o) (none_hold day minute (entries exception exceptions)
+      (λ e m is. closed_never_holds e exception (keeps_each exception all m) (shut e m is) minute))

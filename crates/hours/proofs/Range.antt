@@ -9,7 +9,8 @@ use lib.Dec.{eqb, leb, ltb}
 use lib.ListN.{length}
 use Rattle.word.proofs.Tests.{and_true}
 use Rattle.hours.specs.declared.Entry.{Entry}
-use Rattle.hours.specs.declared.Opening.TheVariants.{Row, Refused}
+use Rattle.hours.specs.declared.BadHours.{BadHours}
+use Rattle.std.proofs.Common.{Some, Result, Ok, Err, Option}
 use Rattle.hours.specs.Hours.{weekday, window, exception, entries, has_hours, has_zeros, keeps, all_keep_of, holds}
 use Rattle.hours.specs.Hours.{any_names, naming, counting, first_holding, list_keeps, accepts, open_at}
 use Rattle.hours.proofs.Laws.{kept, closed_never_holds}
@@ -45,15 +46,15 @@ keeps_naming n k (e ∷ es) all =
     pick true first rest = rw (first, rest)
     pick false first rest = rest
 
-found_row : (n minute r : ℕ) (es : List Entry) → all_keep_of n es ≡ true → first_holding minute es ≡ Row r → (1 ≤ r) × (r ≤ 799)
+found_row : (n minute r : ℕ) (es : List Entry) → all_keep_of n es ≡ true → first_holding minute es ≡ Some r → (1 ≤ r) × (r ≤ 799)
 unfolding all_keep_of first_holding
-found_row n minute r [] all is = let never : ◌≡◌ {A = ℕ} 0 1 = cc in absurd (omega arith)
+found_row n minute r [] all is = cc
 found_row n minute r (e ∷ es) all is =
     let (first, rest) = and_true (keeps n e) (all_keep_of n es) all in
     pick (holds minute e) refl first (found_row n minute r es rest) is
   where
-    pick : (t : Bool) → holds minute e ≡ t → keeps n e ≡ true → (first_holding minute es ≡ Row r → (1 ≤ r) × (r ≤ 799))
-        → cond t (Row e.row) (first_holding minute es) ≡ Row r → (1 ≤ r) × (r ≤ 799)
+    pick : (t : Bool) → holds minute e ≡ t → keeps n e ≡ true → (first_holding minute es ≡ Some r → (1 ≤ r) × (r ≤ 799))
+        → cond t (Some e.row) (first_holding minute es) ≡ Some r → (1 ≤ r) × (r ≤ 799)
     pick true held first later is =
         let same : e.row ≡ r = cc in
         let (low, high) = row_held n e first minute held in
@@ -61,24 +62,27 @@ found_row n minute r (e ∷ es) all is =
     pick false held first later is = later is
 
 -- a row that is answered is one from 1 to 799
-pub row_in_range : (windows exceptions : List ℕ) (day minute r : ℕ) → open_at windows exceptions day minute ≡ Row r → (1 ≤ r) × (r ≤ 799)
+pub row_in_range : (windows exceptions : List ℕ) (day minute r : ℕ) → open_at windows exceptions day minute ≡ Ok (Some r) → (1 ≤ r) × (r ≤ 799)
 unfolding open_at accepts list_keeps counting
 row_in_range windows exceptions day minute r = tested (accepts windows exceptions minute) refl
   where
-    one_list : (n k : ℕ) (xs : List ℕ) → list_keeps n xs ≡ true → first_holding minute (naming k (entries n xs)) ≡ Row r → (1 ≤ r) × (r ≤ 799)
+    one_list : (n k : ℕ) (xs : List ℕ) → list_keeps n xs ≡ true → first_holding minute (naming k (entries n xs)) ≡ Some r → (1 ≤ r) × (r ≤ 799)
     one_list n k xs list is =
         found_row n minute r (naming k (entries n xs))
         (keeps_naming n k (entries n xs) (and_true (eqb (length xs % n) 0) (all_keep_of n (entries n xs)) list).1) is
 
     by_day : (t : Bool) → list_keeps window windows ≡ true → list_keeps exception exceptions ≡ true
-        → first_holding minute (cond t (naming day (entries exception exceptions)) (naming (weekday day) (entries window windows))) ≡ Row r
+        → first_holding minute (cond t (naming day (entries exception exceptions)) (naming (weekday day) (entries window windows))) ≡ Some r
         → (1 ≤ r) × (r ≤ 799)
     by_day true w x is = one_list exception day exceptions x is
     by_day false w x is = one_list window (weekday day) windows w is
 
     tested : (t : Bool) → accepts windows exceptions minute ≡ t
-        → cond t (first_holding minute (counting day (entries window windows) (entries exception exceptions))) Refused ≡ Row r → (1 ≤ r) × (r ≤ 799)
-    tested false so is = let never : ◌≡◌ {A = ℕ} 0 1 = cc in absurd (omega arith)
+        → ◌≡◌ {A = Result (Option ℕ) BadHours}
+        (cond t (Ok (first_holding minute (counting day (entries window windows) (entries exception exceptions)))) (Err (record {}))) (Ok (Some r))
+        → (1 ≤ r) × (r ≤ 799)
+    tested false so is = cc
     tested true so is =
         let (w, both) = and_true (list_keeps window windows) (list_keeps exception exceptions && leb minute 1439) so in
-        by_day (any_names day (entries exception exceptions)) w (and_true (list_keeps exception exceptions) (leb minute 1439) both).0 is
+        let found : first_holding minute (counting day (entries window windows) (entries exception exceptions)) ≡ Some r = cc in
+        by_day (any_names day (entries exception exceptions)) w (and_true (list_keeps exception exceptions) (leb minute 1439) both).0 found

@@ -1,10 +1,9 @@
 -- Opening hours: the row of the entry line at which a tour starts, by the day and the minute. Document 02: ticket 7. Assumes
 -- nothing.
-use Rattle.std.specs.Prelude.{ℕ, zero, suc, ◌+◌, ◌/◌, ◌%◌, Bool, true, false, ◌&&◌, ◌||◌, cond, List, [], ◌∷◌, eqb, leb, ltb, length, take, drop, get_or}
+use Rattle.std.specs.Prelude.{ℕ, zero, suc, ◌+◌, ◌/◌, ◌%◌, Bool, true, false, ◌&&◌, ◌||◌, cond, List, [], ◌∷◌, eqb, leb, ltb, length, take, drop, get_or, Option, Some, None, Result, Ok, Err}
 use Rattle.word.specs.Told.{Told, tells, gives, refuses}
 use Rattle.hours.specs.declared.Entry.{Entry}
-use Rattle.hours.specs.declared.Opening.{Opening}
-use Rattle.hours.specs.declared.Opening.TheVariants.{Row, Closed, Refused}
+use Rattle.hours.specs.declared.BadHours.{BadHours}
 
 -- day 0 is 1 January 2000, a Saturday; weekdays run from 0, Monday, to 6
 abbrev pub weekday : ℕ → ℕ
@@ -72,9 +71,9 @@ counting day windows exceptions =
     cond (any_names day exceptions) (naming day exceptions) (naming (weekday day) windows)
 
 -- the first that holds the minute gives the row; if none, closed
-unfoldable pub first_holding : ℕ → List Entry → Opening
-first_holding minute [] = Closed
-first_holding minute (e ∷ es) = cond (holds minute e) (Row e.row) (first_holding minute es)
+unfoldable pub first_holding : ℕ → List Entry → Option ℕ
+first_holding minute [] = None
+first_holding minute (e ∷ es) = cond (holds minute e) (Some e.row) (first_holding minute es)
 
 -- a list of entries of n numbers: its length is a multiple of n, and every entry keeps the rules
 unfoldable pub list_keeps : ℕ → List ℕ → Bool
@@ -85,17 +84,17 @@ unfoldable pub accepts : List ℕ → List ℕ → ℕ → Bool
 accepts windows exceptions minute = list_keeps window windows && (list_keeps exception exceptions && leb minute 1439)
 
 -- the answer of two lists on a day at a minute
-unfoldable pub open_at : List ℕ → List ℕ → ℕ → ℕ → Opening
+unfoldable pub open_at : List ℕ → List ℕ → ℕ → ℕ → Result (Option ℕ) BadHours
 open_at windows exceptions day minute =
     cond (accepts windows exceptions minute)
-    (first_holding minute (counting day (entries window windows) (entries exception exceptions)))
-    Refused
+    (Ok (first_holding minute (counting day (entries window windows) (entries exception exceptions))))
+    (Err (record {}))
 
 -- its answer in numbers: the row, no value where it is closed, or 29
-unfoldable pub told_opening : Opening → Told ℕ
-told_opening (Row r) = gives r
-told_opening Closed = tells 0 []
-told_opening Refused = refuses 29
+unfoldable pub told_opening : Result (Option ℕ) BadHours → Told ℕ
+told_opening (Ok (Some r)) = gives r
+told_opening (Ok None) = tells 0 []
+told_opening (Err e) = refuses 29
 
 -- what the call tells: 29, or the row of the first entry that holds the minute, if there is one
 unfoldable pub holding_told : ℕ → List Entry → Told ℕ

@@ -1,9 +1,9 @@
 // Opening hours: the row of the entry line at which a tour starts, by the day and the minute. Document 02: ticket 7.
 #![tactic(auto)]
 
-ghost use Rattle.std.specs.Prelude.{◌&&◌, eqb, ◌≡◌, ◌+◌, ◌≤◌, length, take, drop};
+ghost use Rattle.std.specs.Prelude.{◌&&◌, eqb, ◌≡◌, ◌<◌, get_or};
 ghost use Rattle.hours.specs.Hours.{weekday, entry_of, entries, has_hours, has_zeros, has_name, keeps, all_keep_of, holds};
-ghost use Rattle.hours.specs.Hours.{any_names, naming, first_holding, list_keeps, open_at, told_opening, holding_told, open_told};
+ghost use Rattle.hours.specs.Hours.{any_names, naming, first_holding, list_keeps, accepts, open_at, told_opening, open_told};
 
 // How many numbers a window and an exception have.
 const WINDOW: usize = 4;
@@ -21,7 +21,8 @@ const LAST_MINUTE: u64 = 1439;
 
 const LAST_ROW: u64 = 799;
 
-// What a window or an exception says: its weekday or day, the opening and the closing minute, the row, and 1 if it is closed.
+// What a window or an exception says: its weekday or day, the opening and the closing minute, the row, and 1 if it is closed. These
+// are the numbers of a lent list, before they are tested: `closed` may be neither 0 nor 1, which is refused.
 #[derive(Clone, Copy)]
 pub struct Entry {
     pub name: u64,
@@ -31,13 +32,9 @@ pub struct Entry {
     pub closed: u64,
 }
 
-// The answer: the row of an entry line, closed, or refused (refusal 29).
-#[derive(Clone, Copy)]
-pub enum Opening {
-    Row(u64),
-    Closed,
-    Refused,
-}
+// The lists or the minute break the rules: refusal 29.
+#[derive(Clone, Copy, PartialEq, Eq, Debug)]
+pub struct BadHours;
 
 // The weekday of a day.
 fn weekday_of(day: u64) -> u64
@@ -46,28 +43,24 @@ fn weekday_of(day: u64) -> u64
     (day % WEEKDAYS + 5) % WEEKDAYS
 }
 
-// The entry of these numbers.
-fn entry_of(numbers: &[u64]) -> Entry
-    requires { 4 ≤ length numbers.now }
-    ensures { result ≡ entry_of numbers.now }
+// Number k of these numbers, zero past the last.
+fn number_of(numbers: &[u64], k: usize) -> u64
+    ensures { result ≡ get_or numbers.now k 0 }
 {
-    let closed = if 4 < numbers.len() { numbers[4] } else { 0 };
-    Entry {
-        name: numbers[0],
-        opening: numbers[1],
-        closing: numbers[2],
-        row: numbers[3],
-        closed,
-    }
+    numbers.get(k).copied().unwrap_or(0)
 }
 
-// The entry of the n numbers from a place on.
-fn entry_at(list: &[u64], at: usize, n: usize) -> Entry
-    requires { (4 ≤ n) × (at + n ≤ length list.now) }
-    ensures { result ≡ entry_of (take n (drop at list.now)) }
+// The entry of these numbers.
+fn entry_of(numbers: &[u64]) -> Entry
+    ensures { result ≡ entry_of numbers.now }
 {
-    let end = at + n;
-    entry_of(&list[at..end])
+    Entry {
+        name: number_of(numbers, 0),
+        opening: number_of(numbers, 1),
+        closing: number_of(numbers, 2),
+        row: number_of(numbers, 3),
+        closed: number_of(numbers, 4),
+    }
 }
 
 // The minutes and the row of an entry that is not closed.
@@ -98,10 +91,11 @@ fn keeps_rules(n: usize, e: Entry) -> bool
     if !has_name(n, e) {
         return false;
     }
-    if e.closed == 0 {
-        return has_hours(e);
+    match e.closed {
+        0 => has_hours(e),
+        1 => has_zeros(e),
+        _ => false,
     }
-    (e.closed == 1) & has_zeros(e)
 }
 
 // Whether an entry names this day or weekday and holds the minute.
@@ -113,85 +107,64 @@ fn answers(e: Entry, name: u64, minute: u64) -> bool
 
 // Whether every entry keeps the rules.
 fn all_keep(list: &[u64], n: usize) -> bool
-    requires { 4 ≤ n }
+    requires { 0 < n }
     ensures { result ≡ all_keep_of n (entries n list.now) }
 {
-    let mut at = 0;
-    let mut left = list.len() / n;
-    while 0 < left {
-        if !keeps_rules(n, entry_at(list, at, n)) {
-            return false;
-        }
-        at += n;
-        left -= 1;
-    }
-    true
+    list.chunks_exact(n)
+        .all(|numbers| keeps_rules(n, entry_of(numbers)))
 }
 
 // Whether some entry names this day.
 fn any_names(list: &[u64], n: usize, name: u64) -> bool
-    requires { 4 ≤ n }
+    requires { 0 < n }
     ensures { result ≡ any_names name (entries n list.now) }
 {
-    let mut at = 0;
-    let mut left = list.len() / n;
-    while 0 < left {
-        let e = entry_at(list, at, n);
-        if e.name == name {
-            return true;
-        }
-        at += n;
-        left -= 1;
-    }
-    false
+    list.chunks_exact(n)
+        .any(|numbers| entry_of(numbers).name == name)
 }
 
 // The row of the first entry that names this day or weekday and holds the minute.
-fn first_holding(list: &[u64], n: usize, name: u64, minute: u64) -> Opening
-    requires { 4 ≤ n }
-    ensures value { result ≡ first_holding minute (naming name (entries n list.now)) }
-    ensures numbered { told_opening result ≡ holding_told minute (naming name (entries n list.now)) }
+fn first_holding(list: &[u64], n: usize, name: u64, minute: u64) -> Option<u64>
+    requires { 0 < n }
+    ensures { result ≡ first_holding minute (naming name (entries n list.now)) }
 {
-    let mut at = 0;
-    let mut left = list.len() / n;
-    while 0 < left {
-        let e = entry_at(list, at, n);
-        if answers(e, name, minute) {
-            return Opening::Row(e.row);
-        }
-        at += n;
-        left -= 1;
-    }
-    Opening::Closed
+    list.chunks_exact(n)
+        .map(entry_of)
+        .find(|e| answers(*e, name, minute))
+        .map(|e| e.row)
 }
 
 // Whether a list's length is a multiple of n and every entry keeps the rules.
 fn list_keeps(list: &[u64], n: usize) -> bool
-    requires { 4 ≤ n }
+    requires { 0 < n }
     ensures { result ≡ list_keeps n list.now }
 {
-    if list.len() % n != 0 {
-        return false;
-    }
-    all_keep(list, n)
+    list.len() % n == 0 && all_keep(list, n)
 }
 
-// The row of the entry line on a day at a minute, closed, or refused; the second promise gives the answer in the ticket's numbers.
-pub fn open_at(windows: &[u64], exceptions: &[u64], day: u64, minute: u64) -> Opening
+// Whether both lists and the minute keep the rules.
+fn accepts(windows: &[u64], exceptions: &[u64], minute: u64) -> bool
+    ensures { result ≡ accepts windows.now exceptions.now minute }
+{
+    list_keeps(windows, WINDOW) && list_keeps(exceptions, EXCEPTION) && minute <= LAST_MINUTE
+}
+
+// The row of the entry line on a day at a minute, none if it is closed, or refused; the second promise gives the answer in the
+// ticket's numbers.
+pub fn open_at(
+    windows: &[u64],
+    exceptions: &[u64],
+    day: u64,
+    minute: u64,
+) -> Result<Option<u64>, BadHours>
     ensures value { result ≡ open_at windows.now exceptions.now day minute }
     ensures numbered { told_opening result ≡ open_told windows.now exceptions.now day minute }
 {
-    if !list_keeps(windows, WINDOW) {
-        return Opening::Refused;
-    }
-    if !list_keeps(exceptions, EXCEPTION) {
-        return Opening::Refused;
-    }
-    if LAST_MINUTE < minute {
-        return Opening::Refused;
+    if !accepts(windows, exceptions, minute) {
+        return Err(BadHours);
     }
     if any_names(exceptions, EXCEPTION, day) {
-        return first_holding(exceptions, EXCEPTION, day, minute);
+        return Ok(first_holding(exceptions, EXCEPTION, day, minute));
     }
-    first_holding(windows, WINDOW, weekday_of(day), minute)
+    Ok(first_holding(windows, WINDOW, weekday_of(day), minute))
 }

@@ -1,17 +1,16 @@
 -- Steps of the loops over the rows of a list. Assumes nothing.
-use Prim.Native.Nat.{ℕ, zero, suc, ◌+◌, ◌-◌, ◌%◌, ◌<◌, ◌≤◌}
+use Prim.Native.Nat.{ℕ, zero, suc, ◌+◌, ◌-◌, ◌<◌, ◌≤◌}
 use native.Mathlib.Numerals.{sub-one}
 use native.Mathlib.Omega.{arith}
 use mathlib.Core.Bool.{true, false, ◌&&◌}
 use mathlib.Core.List.{List, map-append}
 use mathlib.Core.Path.{◌≡◌, sym, ap, ◌∙◌}
-use borrow.Author.Tests.{lt-ltb, le-ltb, eq-eqb, ne_eqb}
+use borrow.Author.Tests.{lt-ltb, le-ltb}
 use lib.Dec.{ltb}
 use lib.ListN.{length, take}
 use lib.Seq.{take-length}
-use Rattle.recordings.specs.declared.Least.{Least}
-use Rattle.recordings.specs.declared.Least.TheVariants.{Nothing}
-use Rattle.recordings.specs.Recordings.{row_count, number_of, next_of, stop_of, zeros_after, nexts_inside, is_list, chain}
+use Rattle.std.proofs.Common.{Option, None}
+use Rattle.recordings.specs.Recordings.{row_count, number_of, next_of, stop_of, nexts_inside, is_list, chain}
 use Rattle.recordings.specs.Walking.{stops, lesser}
 use Rattle.recordings.proofs.Chain.{At, at_passed}
 use Rattle.recordings.proofs.Stops.{LeastOf, least_none, least_more}
@@ -36,37 +35,18 @@ pub nexts_none : (xs : List ℕ) (row : ℕ) → row ≡ 0 → nexts_inside xs r
 unfolding nexts_inside
 nexts_none xs row e = ap (nexts_inside xs) e
 
--- 26, check by check
-module _ (xs : List ℕ) where
-  pub no_rows : length xs ≡ 0 → false ≡ is_list xs
-  unfolding is_list
-  no_rows e = rw (eq-eqb (length xs) 0 e)
-
-  module _ (some : length xs ≡ 0 → ⊥) where
-    pub uneven : (length xs % 4 ≡ 0 → ⊥) → false ≡ is_list xs
-    unfolding is_list
-    uneven h = rw (ne_eqb (length xs) 0 some, ne_eqb (length xs % 4) 0 h)
-
-    module _ (even : length xs % 4 ≡ 0) where
-      pub not_zeros : zeros_after xs ≡ false → false ≡ is_list xs
-      unfolding is_list
-      not_zeros h = rw (ne_eqb (length xs) 0 some, eq-eqb (length xs % 4) 0 even, h)
-
-      pub by_nexts : zeros_after xs ≡ true → nexts_inside xs (row_count xs) ≡ is_list xs
-      unfolding is_list
-      by_nexts h = rw (ne_eqb (length xs) 0 some, eq-eqb (length xs % 4) 0 even, h)
-
 -- the least stop of the rows passed
 module _ (xs : List ℕ) (low : ℕ) where
-  pub least_start : LeastOf low (stops xs (take 0 (chain xs))) Nothing
+  pub least_start : LeastOf low (stops xs (take 0 (chain xs))) None
   least_start = least_none low
 
-  pub least_step : (is : is_list xs ≡ true) {i row : ℕ} (at : At xs i row) → i < length (chain xs) → (found : Least)
+  pub least_step : (is : is_list xs ≡ true) {i row : ℕ} (at : At xs i row) → i < length (chain xs) → (found : Option ℕ)
       → LeastOf low (stops xs (take i (chain xs))) found → LeastOf low (stops xs (take (i + 1) (chain xs))) (lesser low found (stop_of xs row))
   least_step is {i} {row} at more found least = rw (
     at_passed xs is at more,
     map-append,
   ) (least_more low (stops xs (take i (chain xs))) (stop_of xs row) found least)
 
-  pub least_end : (i : ℕ) → i ≡ length (chain xs) → (found : Least) → LeastOf low (stops xs (take i (chain xs))) found → LeastOf low (stops xs (chain xs)) found
+  pub least_end : (i : ℕ) → i ≡ length (chain xs) → (found : Option ℕ) → LeastOf low (stops xs (take i (chain xs))) found
+      → LeastOf low (stops xs (chain xs)) found
   least_end i e found least = rw (e, take-length) at least

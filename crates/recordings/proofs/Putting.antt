@@ -5,13 +5,15 @@ use native.Mathlib.Omega.{arith}
 use mathlib.Core.Bool.{true}
 use mathlib.Core.List.{List, ◌++◌}
 use mathlib.Core.Path.{◌≡◌, refl, sym, ap, ◌∙◌}
-use lib.ListN.{length, take, drop, get_or, set, length-append, length-drop}
+use lib.ListN.{length, take, drop, get_or, set, length-append, length-drop, get_or-append}
+use Rattle.std.proofs.Common.{get_or-take}
 use lib.Seq.{take-suc, drop-cons, drop-drop, length-take-le, take-length, get_or_at}
 use Rattle.recordings.specs.Recordings.{stop_of, recording_of, is_list, all_standing, pairs}
 use Rattle.recordings.specs.Walking.{row_at, with_row, all_written, Noted}
 use Rattle.recordings.proofs.Counting.{each_at}
 use Rattle.recordings.proofs.Chain.{number_inside}
 use Rattle.recordings.proofs.Growing.{noted_count, noted_row, standing_inside}
+use Rattle.recordings.proofs.Held.{held_same}
 use Rattle.recordings.proofs.Pairs.{length_pairs, pairs_put}
 
 -- stops and recordings of the first k standing rows in their places, and the others noted still
@@ -23,14 +25,31 @@ pub record Fits (xs : List ℕ) (count : ℕ) (before : List ℕ) : Type 0 where
   pub all : count ≡ length (all_standing xs)
   pub room : 2 * count ≤ length before
 
--- as many as are noted somewhere
-pub fits : {xs : List ℕ} {count : ℕ} {noted : List ℕ} → Noted (all_standing xs) count noted noted → (before : List ℕ) → 2 * count ≤ length before
-    → Fits xs count before
-fits is before room = record { all = noted_count is; room = room }
-
--- or in the output itself
+-- as many as are noted in it
 pub noted_fits : {xs : List ℕ} {count : ℕ} {before : List ℕ} → Noted (all_standing xs) count before before → Fits xs count before
-noted_fits {xs} {count} {before} is = fits is before is.room
+noted_fits is = record { all = noted_count is; room = is.room }
+
+-- rows noted elsewhere are noted in an output that begins with these pairs
+module _ {rows pairs : List ℕ} (output : List ℕ) {n : ℕ} (is : Noted rows n pairs pairs) (room : 2 * n ≤ length output) where
+  abbrev copied : List ℕ
+  copied = take (2 * n) pairs ++ drop (2 * n) output
+
+  copied_row : (k : ℕ) → k < n → row_at copied k ≡ row_at pairs k
+  copied_row k h =
+      let long = length-take-le (2 * n) pairs is.room in
+      get_or-append (take (2 * n) pairs) (drop (2 * n) output) 0 (2 * k) (omega (arith, long)) ∙ get_or-take (2 * n) pairs (2 * k) 0 (omega arith)
+
+  noted_copied : Noted rows n copied copied
+  noted_copied =
+      record {
+        held = held_same n pairs copied copied_row ∙ is.held;
+        room = simp length-append (omega (arith, length-take-le (2 * n) pairs is.room));
+        past = refl;
+        same_long = refl;
+      }
+
+  pub noted_there : (front : List ℕ) → front ≡ take (2 * n) pairs → Noted rows n (front ++ drop (2 * n) output) (front ++ drop (2 * n) output)
+  noted_there front e = rw e noted_copied
 
 module _ (xs : List ℕ) {count : ℕ} {before : List ℕ} (is : Fits xs count before) where
   abbrev rows : List ℕ

@@ -6,88 +6,63 @@ use mathlib.Core.Bool.{Bool, true, false, ◌&&◌, cond}
 use mathlib.Core.List.{List, [], ◌∷◌, ◌++◌, append_assoc, append-nil}
 use mathlib.Core.Path.{◌≡◌, refl, sym, ap, ap₂, ◌∙◌}
 use borrow.Author.Tests.{lt-ltb, le-leb, lt-leb, leb-false}
-use lib.Dec.{eqb, leb, ltb}
+use lib.Dec.{eqb, leb}
 use lib.ListN.{length}
+use Rattle.std.proofs.Common.{Option, Some, None, Result, Ok, Err}
 use Rattle.word.specs.Told.{Told, tells, gives, refuses, value}
 use Rattle.word.proofs.Tests.{by_test, by_leb}
-use Rattle.recordings.specs.declared.Written.{Written}
-use Rattle.recordings.specs.declared.Written.TheVariants.{Count, BadList, RowTwice, OutputShort}
-use Rattle.recordings.specs.declared.Few.TheVariants as few
-use Rattle.recordings.specs.declared.Least.{Least}
-use Rattle.recordings.specs.declared.Least.TheVariants.{Stop, Nothing}
+use Rattle.recordings.specs.declared.CorrectionError.{CorrectionError}
+use Rattle.recordings.specs.declared.CorrectionError.TheVariants.{BadList, RowTwice, OutputShort}
 use Rattle.recordings.specs.Recordings.{row_count, is_list, chain, has_twice, all_standing, Left, written, correcting, told_written, correcting_told}
 use Rattle.recordings.specs.Walking.{Answered, ManyStops, has_few, told_few, few_told, few_output}
-use Rattle.recordings.specs.Walking.{lesser, least_from, told_least, lesser_told, least_told}
+use Rattle.recordings.specs.Walking.{lesser, least_from}
 use Rattle.recordings.proofs.Stops.{LeastOf, least_none, least_more}
 
--- the least stop
-same_least : (a b : Least) → told_least a ≡ told_least b → a ≡ b
-unfolding told_least
-same_least (Stop x) (Stop y) e = let same : x ≡ y = cc in ap Stop same
-same_least (Stop x) Nothing e = absurd (let z : ◌≡◌ {A = ℕ} 0 1 = cc in omega arith)
-same_least Nothing (Stop y) e = absurd (let z : ◌≡◌ {A = ℕ} 0 1 = cc in omega arith)
-same_least Nothing Nothing e = refl
-
-lesser_told_lem : (low : ℕ) (found : Least) (s : ℕ) → told_least (lesser low found s) ≡ lesser_told low found s
-unfolding told_least lesser lesser_told
-lesser_told_lem low Nothing s = by_test (λ t. told_least (cond t (Stop s) Nothing) ≡ cond t (gives s) (tells 0 [])) (leb low s) (λ _. refl) (λ _. refl)
-lesser_told_lem low (Stop found) s =
-    by_test (λ t. told_least (cond t (Stop s) (Stop found)) ≡ cond t (gives s) (gives found)) (leb low s && ltb s found) (λ _. refl) (λ _. refl)
-
-module _ (low : ℕ) (found : Least) (s : ℕ) {r : Least} where
-  pub lesser_tells : r ≡ lesser low found s → told_least r ≡ lesser_told low found s
-  lesser_tells e = ap told_least e ∙ lesser_told_lem low found s
-
-  pub lesser_is : told_least r ≡ lesser_told low found s → r ≡ lesser low found s
-  lesser_is e = same_least _ _ (e ∙ sym (lesser_told_lem low found s))
-
 module _ (low : ℕ) where
-  least_on : (l rest : List ℕ) (found : Least) → LeastOf low l found → LeastOf low (l ++ rest) (least_from low found rest)
+  least_on : (l rest : List ℕ) (found : Option ℕ) → LeastOf low l found → LeastOf low (l ++ rest) (least_from low found rest)
   unfolding least_from
   least_on l [] found least = rw append-nil least
   least_on l (s ∷ rest) found least =
       rw append_assoc at (least_on (l ++ (s ∷ [])) rest (lesser low found s) (least_more low l s found least))
 
   module _ (l : List ℕ) where
-    one_least : (a b : Least) → LeastOf low l a → LeastOf low l b → a ≡ b
+    one_least : (a b : Option ℕ) → LeastOf low l a → LeastOf low l b → a ≡ b
     unfolding LeastOf
-    one_least (Stop x) (Stop y) p q =
-        let same : x ≡ y = omega (arith, p.2 y q.1 q.0, q.2 x p.1 p.0) in ap Stop same
-    one_least (Stop x) Nothing p none = absurd (omega (arith, none x p.1, p.0))
-    one_least Nothing (Stop y) none q = absurd (omega (arith, none y q.1, q.0))
-    one_least Nothing Nothing p q = refl
+    one_least (Some x) (Some y) p q =
+        let same : x ≡ y = omega (arith, p.2 y q.1 q.0, q.2 x p.1 p.0) in ap (λ (n : ℕ). Some n) same
+    one_least (Some x) None p none = absurd (omega (arith, none x p.1, p.0))
+    one_least None (Some y) none q = absurd (omega (arith, none y q.1, q.0))
+    one_least None None p q = refl
 
-    found_least : LeastOf low l (least_from low Nothing l)
-    found_least = least_on [] l Nothing (least_none low)
+    found_least : LeastOf low l (least_from low None l)
+    found_least = least_on [] l None (least_none low)
 
-    pub least_tells : (r : Least) → LeastOf low l r → told_least r ≡ least_told low l
-    unfolding least_told
-    least_tells r least = ap told_least (one_least r (least_from low Nothing l) least found_least)
+    pub least_found : (r : Option ℕ) → LeastOf low l r → r ≡ least_from low None l
+    least_found r least = one_least r (least_from low None l) least found_least
 
-    pub least_is : (r : Least) → told_least r ≡ least_told low l → LeastOf low l r
-    unfolding least_told
-    least_is r e = rw (same_least r (least_from low Nothing l) e) found_least
+    pub least_is : (r : Option ℕ) → r ≡ least_from low None l → LeastOf low l r
+    least_is r e = rw e found_least
 
 -- the call's answer
-same_written : {a b : Written} → told_written a ≡ told_written b → a ≡ b
+same_written : {a b : Result ℕ CorrectionError} → told_written a ≡ told_written b → a ≡ b
 unfolding told_written value
 same_written {a} {b} e = sym (back a) ∙ ap numbered e ∙ back b
   where
-    numbered : Told ℕ → Written
-    numbered (tells n xs) = cond (eqb n 26) BadList (cond (eqb n 27) RowTwice (cond (eqb n 28) OutputShort (Count (value (tells n xs)))))
+    numbered : Told ℕ → Result ℕ CorrectionError
+    numbered (tells n xs) = cond (eqb n 26) (Err BadList) (cond (eqb n 27) (Err RowTwice) (cond (eqb n 28) (Err OutputShort) (Ok (value (tells n xs)))))
 
-    back : (a : Written) → numbered (told_written a) ≡ a
-    back (Count n) = refl
-    back BadList = refl
-    back RowTwice = refl
-    back OutputShort = refl
+    back : (a : Result ℕ CorrectionError) → numbered (told_written a) ≡ a
+    back (Ok n) = refl
+    back (Err BadList) = refl
+    back (Err RowTwice) = refl
+    back (Err OutputShort) = refl
 
-some_written : (a : Written) → told_written a ≡ tells 0 [] → ⊥
+some_written : (a : Result ℕ CorrectionError) → told_written a ≡ tells 0 [] → ⊥
 unfolding told_written
-some_written (Count n) e = let z : ◌≡◌ {A = ℕ} 0 1 = cc in omega arith
-some_written BadList e = let z : ◌≡◌ {A = ℕ} 26 0 = cc in omega arith
-some_written RowTwice e = let z : ◌≡◌ {A = ℕ} 27 0 = cc in omega arith
-some_written OutputShort e = let z : ◌≡◌ {A = ℕ} 28 0 = cc in omega arith
+some_written (Ok n) e = let z : ◌≡◌ {A = ℕ} 0 1 = cc in omega arith
+some_written (Err BadList) e = let z : ◌≡◌ {A = ℕ} 26 0 = cc in omega arith
+some_written (Err RowTwice) e = let z : ◌≡◌ {A = ℕ} 27 0 = cc in omega arith
+some_written (Err OutputShort) e = let z : ◌≡◌ {A = ℕ} 28 0 = cc in omega arith
 
 module _ (xs output : List ℕ) where
   correcting_told_lem : told_written (correcting xs output).answer ≡ correcting_told xs output
@@ -97,9 +72,9 @@ module _ (xs output : List ℕ) where
       by_checks : (l h r : Bool) (n : ℕ) (after : List ℕ)
           → told_written
           (cond l
-          (cond h (record { answer = RowTwice; output = output })
-          (cond {A = Left} r (record { answer = Count n; output = after }) (record { answer = OutputShort; output = output })))
-          (record { answer = BadList; output = output })
+          (cond h (record { answer = Err RowTwice; output = output })
+          (cond {A = Left} r (record { answer = Ok n; output = after }) (record { answer = Err OutputShort; output = output })))
+          (record { answer = Err BadList; output = output })
           ).answer
           ≡ cond l (cond h (refuses 27) (cond r (gives n) (refuses 28))) (refuses 26)
       by_checks true true r n after = refl
@@ -109,24 +84,29 @@ module _ (xs output : List ℕ) where
 
   -- few stops or not
   module _ {after : List ℕ} where
-    pub few_tells : {answer : Written} → length (chain xs) < row_count xs → length (all_standing xs) ≤ 1023 → Answered xs output answer after
-        → (told_few (few.Told answer) ≡ few_told xs output) × (after ≡ few_output xs output)
+    pub few_tells : {answer : Result ℕ CorrectionError} → length (chain xs) < row_count xs → length (all_standing xs) ≤ 1023 → Answered xs output answer after
+        → (told_few (Some answer) ≡ few_told xs output) × (after ≡ few_output xs output)
     unfolding has_few told_few few_told few_output
     few_tells ends few-stops (is, told) =
         let ends_so = lt-ltb _ _ ends in
         let few-so = le-leb _ _ few-stops in
         (rw (ends_so, few-so) told, rw (ends_so, few-so) (ap (λ (l : Left). l.output) is))
 
-    pub few_answered : {answer : Written} → told_few (few.Told answer) ≡ few_told xs output → after ≡ few_output xs output → Answered xs output answer after
+    pub few_answered : {answer : Result ℕ CorrectionError} → told_few (Some answer) ≡ few_told xs output → after ≡ few_output xs output
+        → Answered xs output answer after
     unfolding told_few few_told few_output
     few_answered {answer} e o =
         by_test (λ t. told_written answer ≡ cond t (correcting_told xs output) (tells 0 []) → after ≡ cond t (correcting xs output).output output
         → Answered xs output answer after)
         (has_few xs)
-        (λ _ told left. (ap₂ (λ (a : Written) (l : List ℕ). record { answer = a; output = l }) (same_written (told ∙ sym correcting_told_lem)) left, told))
+        (λ _ told left. (
+          ap₂ (λ (a : Result ℕ CorrectionError) (l : List ℕ). record { answer = a; output = l })
+              (same_written (told ∙ sym correcting_told_lem)) left,
+          told,
+        ))
         (λ _ told _. absurd (some_written answer told)) e o
 
-    pub many_left : told_few few.Many ≡ few_told xs output → after ≡ few_output xs output → (after ≡ output) × ManyStops xs
+    pub many_left : told_few None ≡ few_told xs output → after ≡ few_output xs output → (after ≡ output) × ManyStops xs
     unfolding has_few told_few few_told few_output
     many_left e o =
         by_test (λ t. tells 0 [] ≡ cond t (correcting_told xs output) (tells 0 []) → after ≡ cond t (correcting xs output).output output
@@ -138,7 +118,7 @@ module _ (xs output : List ℕ) where
         many : has_few xs ≡ false → ManyStops xs
         many not-few ends = leb-false (length (all_standing xs)) 1023 (rw (lt-ltb _ _ ends) at not-few)
 
-  pub many_tells : ManyStops xs → (told_few few.Many ≡ few_told xs output) × (output ≡ few_output xs output)
+  pub many_tells : ManyStops xs → (told_few None ≡ few_told xs output) × (output ≡ few_output xs output)
   unfolding has_few told_few few_told few_output
   many_tells many =
       by_leb (λ t. (tells 0 [] ≡ cond (t && leb (length (all_standing xs)) 1023) (correcting_told xs output) (tells 0 []))

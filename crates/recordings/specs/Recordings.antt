@@ -1,9 +1,9 @@
 -- Re-recorded stops: of a museum's corrections to its list, the recording that stands for each stop. Document 02, ticket 6. Assumes
 -- nothing.
-use Rattle.std.specs.Prelude.{ℕ, zero, suc, ◌+◌, ◌*◌, ◌/◌, ◌%◌, Bool, true, false, not, ◌&&◌, ◌||◌, cond, List, [], ◌∷◌, ◌++◌, eqb, leb, ltb, length, drop, get_or}
+use Rattle.std.specs.Prelude.{ℕ, zero, suc, ◌+◌, ◌*◌, ◌/◌, ◌%◌, Bool, true, false, not, ◌&&◌, ◌||◌, cond, List, [], ◌∷◌, ◌++◌, eqb, leb, ltb, length, drop, get_or, Result, Ok, Err}
 use Rattle.word.specs.Told.{Told, gives, refuses}
-use Rattle.recordings.specs.declared.Written.{Written}
-use Rattle.recordings.specs.declared.Written.TheVariants.{Count, BadList, RowTwice, OutputShort}
+use Rattle.recordings.specs.declared.CorrectionError.{CorrectionError}
+use Rattle.recordings.specs.declared.CorrectionError.TheVariants.{BadList, RowTwice, OutputShort}
 
 -- a list is rows of four numbers: next, stop number, issue day, recording
 abbrev pub number_of : List ℕ → ℕ → ℕ → ℕ
@@ -86,29 +86,29 @@ pairs f g (row ∷ rows) = f row ∷ g row ∷ pairs f g rows
 
 -- what the call answers and what it leaves in its output
 pub record Left : Type 0 where
-  pub answer : Written
+  pub answer : Result ℕ CorrectionError
   pub output : List ℕ
 
 -- stop and recording of these rows, from the start of an output that has room, and how many rows they are; 28 where it has none
 unfoldable pub written : List ℕ → List ℕ → List ℕ → Left
 written xs rows output =
     cond (leb (2 * length rows) (length output))
-    (record { answer = Count (length rows); output = pairs (stop_of xs) (recording_of xs) rows ++ drop (2 * length rows) output })
-    (record { answer = OutputShort; output = output })
+    (record { answer = Ok (length rows); output = pairs (stop_of xs) (recording_of xs) rows ++ drop (2 * length rows) output })
+    (record { answer = Err OutputShort; output = output })
 
 -- the call: 26, 27, 28, each tested over the whole list
 unfoldable pub correcting : List ℕ → List ℕ → Left
 correcting xs output =
     cond (is_list xs)
-    (cond (has_twice (chain xs)) (record { answer = RowTwice; output = output }) (written xs (all_standing xs) output))
-    (record { answer = BadList; output = output })
+    (cond (has_twice (chain xs)) (record { answer = Err RowTwice; output = output }) (written xs (all_standing xs) output))
+    (record { answer = Err BadList; output = output })
 
 -- its answer in numbers: the count, or the refusal
-unfoldable pub told_written : Written → Told ℕ
-told_written (Count n) = gives n
-told_written BadList = refuses 26
-told_written RowTwice = refuses 27
-told_written OutputShort = refuses 28
+unfoldable pub told_written : Result ℕ CorrectionError → Told ℕ
+told_written (Ok n) = gives n
+told_written (Err BadList) = refuses 26
+told_written (Err RowTwice) = refuses 27
+told_written (Err OutputShort) = refuses 28
 
 -- what the call tells, in the order 26, 27, 28
 unfoldable pub correcting_told : List ℕ → List ℕ → Told ℕ

@@ -1,12 +1,8 @@
 -- What the contracts of inner functions name besides: the chain walked, rows entered one after the other, the chains of places by
 -- which a stop is found again, the least stop from a bound on. Assumes nothing.
-use Rattle.std.specs.Prelude.{ℕ, zero, suc, ◌+◌, ◌*◌, ◌/◌, ◌%◌, ◌<◌, ◌≤◌, Bool, true, false, ◌&&◌, cond, List, [], ◌∷◌, map, ◌≡◌, eqb, leb, ltb, length, drop, get_or, set}
-use Rattle.word.specs.Told.{Told, tells, gives}
-use Rattle.recordings.specs.declared.Written.{Written}
-use Rattle.recordings.specs.declared.Few.{Few}
-use Rattle.recordings.specs.declared.Few.TheVariants as few
-use Rattle.recordings.specs.declared.Least.{Least}
-use Rattle.recordings.specs.declared.Least.TheVariants.{Stop, Nothing}
+use Rattle.std.specs.Prelude.{ℕ, zero, suc, ◌+◌, ◌*◌, ◌/◌, ◌%◌, ◌<◌, ◌≤◌, Bool, true, false, ◌&&◌, cond, List, [], ◌∷◌, map, ◌≡◌, eqb, leb, ltb, length, drop, get_or, set, Option, Some, None, Result}
+use Rattle.word.specs.Told.{Told, tells}
+use Rattle.recordings.specs.declared.CorrectionError.{CorrectionError}
 use Rattle.recordings.specs.Recordings.{number_of, stop_of, day_of, recording_of, row_count, is_list, chain, has_twice, all_standing}
 use Rattle.recordings.specs.Recordings.{pairs}
 use Rattle.recordings.specs.Recordings.{correcting, told_written, correcting_told}
@@ -154,7 +150,7 @@ abbrev pub all_written : List ℕ → List ℕ
 all_written xs = pairs (stop_of xs) (recording_of xs) (all_standing xs)
 
 -- an answer and what it leaves, also in the ticket's numbers
-abbrev pub Answered : List ℕ → List ℕ → Written → List ℕ → Type 0
+abbrev pub Answered : List ℕ → List ℕ → Result ℕ CorrectionError → List ℕ → Type 0
 Answered xs output answer after =
     (record { answer = answer; output = after } ≡ correcting xs output) × (told_written answer ≡ correcting_told xs output)
 
@@ -173,9 +169,9 @@ unfoldable pub has_few : List ℕ → Bool
 has_few xs = ltb (length (chain xs)) (row_count xs) && leb (length (all_standing xs)) 1023
 
 -- an answer for few stops in numbers: the call's own, or 0 and no value where there are more. The papers give that case no number
-unfoldable pub told_few : Few → Told ℕ
-told_few (few.Told answer) = told_written answer
-told_few few.Many = tells 0 []
+unfoldable pub told_few : Option (Result ℕ CorrectionError) → Told ℕ
+told_few (Some answer) = told_written answer
+told_few None = tells 0 []
 
 -- what is told of few stops, and the output with these written, or as it was
 unfoldable pub few_told : List ℕ → List ℕ → Told ℕ
@@ -185,29 +181,16 @@ unfoldable pub few_output : List ℕ → List ℕ → List ℕ
 few_output xs output = cond (has_few xs) (correcting xs output).output output
 
 -- the least number that is greater than what was found before, where there was something
-unfoldable pub from : Least → ℕ
-from Nothing = 0
-from (Stop last) = suc last
+unfoldable pub from : Option ℕ → ℕ
+from None = 0
+from (Some last) = suc last
 
 -- the lesser of what was found and a stop, unless the stop is below a bound
-unfoldable pub lesser : ℕ → Least → ℕ → Least
-lesser low Nothing stop = cond (leb low stop) (Stop stop) Nothing
-lesser low (Stop found) stop = cond (leb low stop && ltb stop found) (Stop stop) (Stop found)
+unfoldable pub lesser : ℕ → Option ℕ → ℕ → Option ℕ
+lesser low None stop = cond (leb low stop) (Some stop) None
+lesser low (Some found) stop = cond (leb low stop && ltb stop found) (Some stop) (Some found)
 
 -- the least of these numbers that is not below a bound, and of what was found before them
-unfoldable pub least_from : ℕ → Least → List ℕ → Least
+unfoldable pub least_from : ℕ → Option ℕ → List ℕ → Option ℕ
 least_from low found [] = found
 least_from low found (x ∷ xs) = least_from low (lesser low found x) xs
-
--- a least stop in numbers: 0 and the stop, 0 and no value where there is none. The papers give this answer no other number
-unfoldable pub told_least : Least → Told ℕ
-told_least (Stop x) = gives x
-told_least Nothing = tells 0 []
-
--- what is told of the lesser, and of the least of these numbers that is not below a bound
-unfoldable pub lesser_told : ℕ → Least → ℕ → Told ℕ
-lesser_told low Nothing stop = cond (leb low stop) (gives stop) (tells 0 [])
-lesser_told low (Stop found) stop = cond (leb low stop && ltb stop found) (gives stop) (gives found)
-
-unfoldable pub least_told : ℕ → List ℕ → Told ℕ
-least_told low xs = told_least (least_from low Nothing xs)

@@ -1,20 +1,19 @@
 // Re-recorded stops: of a museum's corrections to its list, the recording that stands for each stop. Document 02, ticket 6.
 #![tactic(auto)]
 
-ghost use Rattle.std.specs.Prelude.{◌≡◌, true, ◌++◌, ◌+◌, ◌*◌, ◌≤◌, ◌<◌, leb, length, drop};
+ghost use Rattle.std.specs.Prelude.{◌≡◌, true, None, ◌++◌, ◌+◌, ◌*◌, ◌≤◌, ◌<◌, leb, length, drop};
 ghost use Rattle.recordings.specs.Recordings.{row_count, number_of, zeros_after, nexts_inside, is_list, chain};
 ghost use Rattle.recordings.specs.Recordings.{all_standing, correcting, told_written, correcting_told};
-ghost use Rattle.recordings.specs.Walking.{Walked, Noted, Fresh, stops, from, told_least, lesser_told, least_told};
+ghost use Rattle.recordings.specs.Walking.{Walked, Noted, Fresh, stops, from, lesser, least_from};
 ghost use Rattle.recordings.specs.Walking.{with_row, all_written, Answered, FewNoted, ManyStops, told_few, few_told, few_output};
 
 use places::{enter, first_of, grow, put_pair};
 
 mod places;
 
-// What the call answers: how many stops it wrote, or why it wrote none: refusals 26, 27, 28.
-#[derive(Clone, Copy)]
-pub enum Written {
-    Count(usize),
+// Why the call wrote none: refusals 26, 27, 28.
+#[derive(Clone, Copy, PartialEq, Eq, Debug)]
+pub enum CorrectionError {
     BadList,
     RowTwice,
     OutputShort,
@@ -30,7 +29,8 @@ const FEW_HEADS: usize = 1021;
 // How many chains the first pairs of more stops have.
 const HEADS: usize = 8191;
 
-// How many numbers a row has, and which are its next index, its stop, its issue day and its recording.
+// How many numbers a row has, and which are its next index, its stop, its issue day and its recording. No struct holds them: C
+// lends a list as plain numbers, and nothing is copied from it.
 const NUMBERS: usize = 4;
 
 const NEXT: usize = 0;
@@ -40,20 +40,6 @@ const STOP: usize = 1;
 const DAY: usize = 2;
 
 const RECORDING: usize = 3;
-
-// What a list with few stops comes to: the call's answer, or that it has more.
-#[derive(Clone, Copy)]
-enum Few {
-    Told(Written),
-    Many,
-}
-
-// The least stop found so far, if there is any.
-#[derive(Clone, Copy)]
-enum Least {
-    Stop(u64),
-    Nothing,
-}
 
 // Number k of a row.
 fn number_of(list: &[u64], row: usize, k: usize) -> u64
@@ -68,9 +54,7 @@ fn nexts_inside(list: &[u64]) -> bool
     ensures { result ≡ nexts_inside list.now (row_count list.now) }
 {
     let rows = list.len() / NUMBERS;
-    let mut row = rows;
-    while 0 < row {
-        row -= 1;
+    for row in (0..rows).rev() {
         if rows as u64 <= number_of(list, row, NEXT) {
             return false;
         }
@@ -90,16 +74,7 @@ fn zeros_after(list: &[u64]) -> bool
 fn is_list(list: &[u64]) -> bool
     ensures { result ≡ is_list list.now }
 {
-    if list.len() == 0 {
-        return false;
-    }
-    if list.len() % NUMBERS != 0 {
-        return false;
-    }
-    if !zeros_after(list) {
-        return false;
-    }
-    nexts_inside(list)
+    !list.is_empty() && list.len() % NUMBERS == 0 && zeros_after(list) && nexts_inside(list)
 }
 
 // How many rows the chain reaches, counted up to as many as the list has.
@@ -109,75 +84,52 @@ fn chain_length(list: &[u64]) -> usize
 {
     let rows = list.len() / NUMBERS;
     let mut row = number_of(list, 0, NEXT);
-    let mut count = 0;
-    while count < rows {
+    for count in 0..rows {
         if row == 0 {
             return count;
         }
         row = number_of(list, row as usize, NEXT);
-        count += 1;
     }
-    count
+    rows
 }
 
 // Whether a stop is greater than the last one.
-fn is_after(last: Least, stop: u64) -> bool
+fn is_after(last: Option<u64>, stop: u64) -> bool
     ensures { result ≡ leb (from last) stop }
 {
-    match last {
-        Least::Nothing => true,
-        Least::Stop(before) => before < stop,
-    }
+    last.is_none_or(|before| before < stop)
 }
 
 // The lesser of what was found and a stop, unless the stop is no greater than the last one.
-fn lesser_of(last: Least, found: Least, stop: u64) -> Least
-    ensures { told_least result ≡ lesser_told (from last) found stop }
+fn lesser_of(last: Option<u64>, found: Option<u64>, stop: u64) -> Option<u64>
+    ensures { result ≡ lesser (from last) found stop }
 {
     if !is_after(last, stop) {
         return found;
     }
-    match found {
-        Least::Nothing => Least::Stop(stop),
-        Least::Stop(least) => Least::Stop(if stop < least { stop } else { least }),
-    }
+    Some(found.map_or(stop, |least| least.min(stop)))
 }
 
 // The least stop of the chain that is greater than the last one.
-fn next_stop(list: &[u64], steps: usize, last: Least) -> Least
+fn next_stop(list: &[u64], steps: usize, last: Option<u64>) -> Option<u64>
     requires { Walked list.now steps }
-    ensures { told_least result ≡ least_told (from last) (stops list.now (chain list.now)) }
+    ensures { result ≡ least_from (from last) None (stops list.now (chain list.now)) }
 {
-    let mut found = Least::Nothing;
+    let mut found = None;
     let mut row = number_of(list, 0, NEXT);
-    let mut i = 0;
-    while i < steps {
+    for i in 0..steps {
         found = lesser_of(last, found, number_of(list, row as usize, STOP));
         row = number_of(list, row as usize, NEXT);
-        i += 1;
     }
     found
 }
 
-// Heads of no chains yet.
-fn no_heads() -> [u32; HEADS]
-    ensures { (length result ≡ 8191) × Fresh result }
+// Heads of so many chains that have no place yet.
+fn no_heads<const N: usize>() -> [u32; N]
+    requires { 0 < N }
+    ensures { (length result ≡ N) × Fresh result }
 {
-    [0u32; HEADS]
-}
-
-// The same for few pairs.
-fn few_heads() -> [u32; FEW_HEADS]
-    ensures { (length result ≡ 1021) × Fresh result }
-{
-    [0u32; FEW_HEADS]
-}
-
-// Room for few pairs, and one more.
-fn no_pairs() -> [u64; FEW_NUMBERS]
-    ensures { length result ≡ 2048 }
-{
-    [0u64; FEW_NUMBERS]
+    [0; N]
 }
 
 // Whether there is room for the stops of a chain with more than 1,023, which are counted only where the chain has more rows than
@@ -192,18 +144,14 @@ fn has_room(list: &[u64], steps: usize, room: usize) -> bool
     if room <= FEW {
         return false;
     }
-    let mut last = Least::Nothing;
-    let mut left = room;
-    loop {
-        let Least::Stop(stop) = next_stop(list, steps, last) else {
+    let mut last = None;
+    for left in (0..room).rev() {
+        let Some(stop) = next_stop(list, steps, last) else {
             return true;
         };
-        if left == 0 {
-            return false;
-        }
-        last = Least::Stop(stop);
-        left -= 1;
+        last = Some(stop);
     }
+    next_stop(list, steps, last).is_none()
 }
 
 // Notes row and link of each standing row at the start of the output, and counts them.
@@ -214,12 +162,10 @@ fn note_standing(list: &[u64], steps: usize, output: &mut [u64], heads: &mut [u3
     let mut count = 0;
     let mut size = 0;
     let mut row = number_of(list, 0, NEXT);
-    let mut i = 0;
-    while i < steps {
+    for i in 0..steps {
         size = grow(list, count, size, output, heads);
         count = enter(list, row as usize, count, size, output, heads);
         row = number_of(list, row as usize, NEXT);
-        i += 1;
     }
     count
 }
@@ -229,7 +175,7 @@ fn note(list: &[u64], steps: usize, output: &mut [u64]) -> usize
     requires { Walked list.now steps × (2 * length (all_standing list.now) ≤ length output.old) }
     ensures { Noted (all_standing list.now) result output.old output.new }
 {
-    let mut heads = no_heads();
+    let mut heads = no_heads::<HEADS>();
     note_standing(list, steps, output, &mut heads)
 }
 
@@ -251,14 +197,13 @@ fn put_recordings(list: &[u64], count: usize, output: &mut [u64])
     requires { is_list list.now ≡ true × Noted (all_standing list.now) count output.old output.old }
     ensures { output.new ≡ all_written list.now ++ drop (2 * count) output.old }
 {
-    let mut k = 0;
-    while k < count {
+    for k in 0..count {
         put_row(list, first_of(&*output, k) as usize, k, output);
-        k += 1;
     }
 }
 
-// Notes row and link of each standing row in little memory, and counts them, as long as they are few and the chain ends.
+// Notes row and link of each standing row in little memory, and counts them, as long as they are few and the chain ends. It is no
+// one function with note_standing: this one tests for both at each row, which that one has behind it, and its pairs hold no heads.
 fn note_few(list: &[u64], pairs: &mut [u64], heads: &mut [u32]) -> usize
     requires { is_list list.now ≡ true × (2048 ≤ length pairs.old) × Fresh heads.old }
     ensures { FewNoted list.now result pairs.new }
@@ -266,8 +211,7 @@ fn note_few(list: &[u64], pairs: &mut [u64], heads: &mut [u32]) -> usize
     let rows = list.len() / NUMBERS;
     let mut count = 0;
     let mut row = number_of(list, 0, NEXT);
-    let mut i = 0;
-    while i < rows {
+    for i in 0..rows {
         if row == 0 {
             return count;
         }
@@ -276,72 +220,67 @@ fn note_few(list: &[u64], pairs: &mut [u64], heads: &mut [u32]) -> usize
             return count;
         }
         row = number_of(list, row as usize, NEXT);
-        i += 1;
     }
     FEW + 1
 }
 
-// Writes stop and recording of each row noted elsewhere.
+// The same of rows noted elsewhere.
 fn put_few(list: &[u64], count: usize, pairs: &[u64], output: &mut [u64])
     requires { is_list list.now ≡ true × Noted (all_standing list.now) count pairs.now pairs.now
         × (2 * count ≤ length output.old) }
     ensures { output.new ≡ all_written list.now ++ drop (2 * count) output.old }
 {
-    let mut k = 0;
-    while k < count {
-        put_row(list, first_of(pairs, k) as usize, k, output);
-        k += 1;
-    }
+    output[..2 * count].copy_from_slice(&pairs[..2 * count]);
+    put_recordings(list, count, output);
 }
 
-// Answers for a list with few stops by one walk along its chain.
-fn write_few(list: &[u64], output: &mut [u64]) -> Few
+// Answers for a list with few stops by one walk along its chain; none where it has more.
+fn write_few(list: &[u64], output: &mut [u64]) -> Option<Result<usize, CorrectionError>>
     requires { is_list list.now ≡ true }
     ensures { (told_few result ≡ few_told list.now output.old)
         × (output.new ≡ few_output list.now output.old) }
 {
-    let mut pairs = no_pairs();
-    let mut heads = few_heads();
+    let mut pairs = [0; FEW_NUMBERS];
+    let mut heads = no_heads::<FEW_HEADS>();
     let count = note_few(list, &mut pairs, &mut heads);
     if FEW < count {
-        return Few::Many;
+        return None;
     }
     if output.len() / 2 < count {
-        return Few::Told(Written::OutputShort);
+        return Some(Err(CorrectionError::OutputShort));
     }
     put_few(list, count, &pairs, output);
-    Few::Told(Written::Count(count))
+    Some(Ok(count))
 }
 
 // The same for a list with more.
-fn write_many(list: &[u64], output: &mut [u64]) -> Written
+fn write_many(list: &[u64], output: &mut [u64]) -> Result<usize, CorrectionError>
     requires { is_list list.now ≡ true × ManyStops list.now }
     ensures { Answered list.now output.old result output.new }
 {
     let steps = chain_length(list);
     if steps == list.len() / NUMBERS {
-        return Written::RowTwice;
+        return Err(CorrectionError::RowTwice);
     }
     if !has_room(list, steps, output.len() / 2) {
-        return Written::OutputShort;
+        return Err(CorrectionError::OutputShort);
     }
     let count = note(list, steps, output);
     put_recordings(list, count, output);
-    Written::Count(count)
+    Ok(count)
 }
 
 // Writes stop and recording of each standing record, in the order in which the stops first occur in the chain, and counts them:
 // refusals 26, 27, 28. Numbers past those written stay.
-pub fn write_standing(list: &[u64], output: &mut [u64]) -> Written
+pub fn write_standing(list: &[u64], output: &mut [u64]) -> Result<usize, CorrectionError>
     ensures output_after { record { answer = result; output = output.new } ≡ correcting list.now output.old }
     ensures numbered { told_written result ≡ correcting_told list.now output.old }
 {
     if !is_list(list) {
-        return Written::BadList;
+        return Err(CorrectionError::BadList);
     }
-    let few = write_few(list, output);
-    match few {
-        Few::Told(answer) => answer,
-        Few::Many => write_many(list, output),
+    match write_few(list, output) {
+        Some(answer) => answer,
+        None => write_many(list, output),
     }
 }

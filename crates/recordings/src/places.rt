@@ -1,4 +1,5 @@
 // Pairs of an output while rows are noted: a row of the list, and the chains of places by which its stop is found again.
+// List, heads, size, output and count are parameters of their own: the definitions of the clauses take them one by one.
 ghost use Rattle.std.specs.Prelude.{◌≡◌, ◌+◌, ◌*◌, ◌/◌, ◌%◌, ◌≤◌, ◌<◌, length, set};
 ghost use Rattle.recordings.specs.Walking.{row_at, second_at_of, link_at, chain_count, head_at, stop_at, standing_of, Holds};
 ghost use Rattle.recordings.specs.Walking.{Place, Linked, HeadPut, Pushed, Cleared, Regrown, Entering, Enters};
@@ -88,14 +89,12 @@ pub fn place_of(list: &[u64], output: &[u64], count: usize, stop: u64) -> usize
     requires { Holds list.now count output.now }
     ensures { Place list.now output.now count stop result }
 {
-    let mut k = 0;
-    while k < count {
+    for k in 0..count {
         if stop_at(list, output, k) == stop {
             return k;
         }
-        k += 1;
     }
-    k
+    count
 }
 
 // Which chain a stop belongs to: that of its remainder.
@@ -151,6 +150,7 @@ pub fn find(
         return place_of(list, output, count, stop);
     }
     let mut at = head_of(heads, size, output, chain_of(heads, size, stop)) as usize;
+    // A `while`: it follows links from place to place, and counts no index.
     while 0 < at {
         let k = at - 1;
         if stop_at(list, output, k) == stop {
@@ -178,10 +178,8 @@ pub fn clear(count: usize, output: &mut [u64])
     requires { 2 * count ≤ length output.old }
     ensures { Cleared count output.old output.new }
 {
-    let mut k = 0;
-    while k < count {
+    for k in 0..count {
         put_second(output, k, 0);
-        k += 1;
     }
 }
 
@@ -192,10 +190,8 @@ pub fn relink(list: &[u64], count: usize, output: &mut [u64], heads: &mut [u32])
         output.old output.new heads.old heads.new }
 {
     clear(count, output);
-    let mut k = 0;
-    while k < count {
+    for k in 0..count {
         push(list, heads, count, k, output);
-        k += 1;
     }
 }
 

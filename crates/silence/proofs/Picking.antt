@@ -1,12 +1,14 @@
--- The stops that a test picks, as a loop meets them, and how many there are. Assumes nothing.
-use Prim.Native.Nat.{ℕ, suc, ◌+◌, ◌<◌, ◌≤◌}
+-- The stops that a test picks, place by place, and how many there are. Assumes nothing.
+use Prim.Native.Nat.{ℕ, zero, suc, ◌+◌, ◌<◌, ◌≤◌}
 use native.Mathlib.Numerals.{add-one}
 use native.Mathlib.Omega.{arith}
-use mathlib.Core.Bool.{Bool, true, false, cond}
+use mathlib.Core.Bool.{Bool, cond}
 use mathlib.Core.List.{List, [], ◌∷◌}
 use mathlib.Core.Path.{◌≡◌, sym, ap, ◌∙◌}
 use lib.ListN.{length, get_or, take, drop, drop_of_length-le}
 use lib.Seq.{drop-cons, take-suc}
+use Rattle.std.specs.List.{filter, range_with_len}
+use Rattle.word.proofs.Tests.{by_test}
 use Rattle.silence.specs.Silence.{Test, picked, test_at}
 
 -- those that are left from a place on
@@ -14,15 +16,6 @@ abbrev pub left_at : Test → List ℕ → ℕ → List ℕ
 left_at test stops i = picked test (take i stops) (drop i stops)
 
 module _ (test : Test) (stops : List ℕ) where
-  -- how many are counted before a place
-  pub record Counted (i n : ℕ) : Type 0 where
-    pub inside : i ≤ length stops
-    pub few : n ≤ i
-    pub sum : n + length (left_at test stops i) ≡ length (picked test [] stops)
-
-  pub counted_start : Counted 0 0
-  counted_start = record { inside = omega arith; few = omega arith; sum = omega arith }
-
   pub left_none : (i : ℕ) → length stops ≤ i → left_at test stops i ≡ []
   unfolding picked
   left_none i h = ap (picked test (take i stops)) (drop_of_length-le stops h)
@@ -45,9 +38,16 @@ module _ (test : Test) (stops : List ℕ) where
     left_by same =
         left_here ∙ ap (λ (t : Bool). cond t (get_or stops i 0 ∷ left_at test stops (i + 1)) (left_at test stops (i + 1))) (sym same)
 
-    pub counted_next : {n : ℕ} (is : Bool) → LeftBy is → Counted i n → Counted (i + 1) (cond is (n + 1) n)
-    counted_next true left so = record { inside = omega arith; few = omega (arith, so.few); sum = omega (arith, ap length left, so.sum) }
-    counted_next false left so = record { inside = omega arith; few = omega (arith, so.few); sum = omega (arith, ap length left, so.sum) }
+  -- how many there are, by the places that are picked
+  count_left : (n i : ℕ) → i + n ≡ length stops → length (filter (test_at test stops) (range_with_len i n)) ≡ length (left_at test stops i)
+  count_left zero i all = sym (ap length (left_none i (omega arith)))
+  count_left (suc n) i all =
+      let rest : List ℕ = filter (test_at test stops) (range_with_len (i + 1) n) in
+      let later : length rest ≡ length (left_at test stops (i + 1)) = count_left n (i + 1) (omega arith) in
+      by_test (λ t. length (cond t (i ∷ rest) rest) ≡ length (cond t (get_or stops i 0 ∷ left_at test stops (i + 1)) (left_at test stops (i + 1))))
+      (test_at test stops i)
+      (λ _. ap suc later) (λ _. later)
+      ∙ sym (ap length (left_here i (omega arith)))
 
-  pub counted_all : (i n : ℕ) → length stops ≤ i → Counted i n → n ≡ length (picked test [] stops)
-  counted_all i n h so = omega (arith, ap length (left_none i h), so.sum)
+  pub count_picks : length (filter (test_at test stops) (range_with_len 0 (length stops))) ≡ length (picked test [] stops)
+  count_picks = count_left (length stops) 0 (omega arith)

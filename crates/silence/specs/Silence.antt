@@ -1,9 +1,8 @@
 -- Stops without a recording, and stops that stand twice, of a list of the stops on display. Assumes nothing.
-use Rattle.std.specs.Prelude.{ℕ, ◌+◌, Bool, false, not, ◌&&◌, ◌||◌, cond, List, [], ◌∷◌, ◌++◌, ◌≡◌, eqb, leb, length, get_or, take, drop}
+use Rattle.std.specs.Prelude.{ℕ, ◌+◌, Bool, false, not, ◌&&◌, ◌||◌, cond, List, [], ◌∷◌, ◌++◌, ◌≡◌, eqb, leb, length, get_or, take, drop, Result, Ok, Err}
 use Rattle.word.specs.Told.{Told, gives, refuses}
 use Rattle.recordings.specs.Recordings.{member}
-use Rattle.silence.specs.declared.Listed.{Listed}
-use Rattle.silence.specs.declared.Listed.TheVariants.{Count, OutputShort}
+use Rattle.silence.specs.declared.OutputShort.{OutputShort}
 use Rattle.silence.specs.declared.Asked.{Asked}
 use Rattle.silence.specs.declared.Asked.TheVariants.{Silent, Repeated}
 
@@ -46,26 +45,26 @@ repeated stops = chosen Repeated [] stops
 
 -- what a call answers and what it leaves in its output
 pub record Left : Type 0 where
-  pub answer : Listed
+  pub answer : Result ℕ OutputShort
   pub output : List ℕ
 
 -- these stops from the start of an output that has room, and how many they are; 28 where it has none
 unfoldable pub telling : List ℕ → List ℕ → Left
 telling found output =
     cond (leb (length found) (length output))
-    (record { answer = Count (length found); output = found ++ drop (length found) output })
-    (record { answer = OutputShort; output = output })
+    (record { answer = Ok (length found); output = found ++ drop (length found) output })
+    (record { answer = Err (record {}); output = output })
 
 -- the answer in numbers: the count, or 28
-unfoldable pub told_listed : Listed → Told ℕ
-told_listed (Count n) = gives n
-told_listed OutputShort = refuses 28
+unfoldable pub told_listed : Result ℕ OutputShort → Told ℕ
+told_listed (Ok n) = gives n
+told_listed (Err e) = refuses 28
 
 -- what a call tells that lists these stops
 unfoldable pub telling_told : List ℕ → List ℕ → Told ℕ
 telling_told found output = cond (leb (length found) (length output)) (gives (length found)) (refuses 28)
 
 -- both: what the calls promise
-pub record Tells (found output : List ℕ) (answer : Listed) (after : List ℕ) : Type 0 where
+pub record Tells (found output : List ℕ) (answer : Result ℕ OutputShort) (after : List ℕ) : Type 0 where
   pub left : record { answer = answer; output = after } ≡ telling found output
   pub numbered : told_listed answer ≡ telling_told found output

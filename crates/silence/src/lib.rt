@@ -2,19 +2,16 @@
 // the pairs, or along the list, so the time grows with the product of two lengths; lists have hundreds of stops, thousands at most.
 #![tactic(auto)]
 
-ghost use Rattle.std.specs.Prelude.{true, cond, [], ◌++◌, ◌≡◌, ◌+◌, ◌≤◌, ◌<◌, length, drop, set};
-ghost use Rattle.recordings.specs.Recordings.{member};
+ghost use Rattle.std.specs.Prelude.{[], ◌++◌, ◌≡◌, ◌≤◌, ◌<◌, length, drop};
 ghost use Rattle.silence.specs.Silence.{has_recording, test_of, test_at, chosen, silent, repeated, telling, told_listed};
 ghost use Rattle.silence.specs.Silence.{telling_told, Tells};
 
-// What a call answers: how many stops it wrote, or that its output is too short for them: refusal 28.
-#[derive(Clone, Copy)]
-pub enum Listed {
-    Count(usize),
-    OutputShort,
-}
+// The output is too short for the stops: refusal 28.
+#[derive(Clone, Copy, PartialEq, Eq, Debug)]
+pub struct OutputShort;
 
-// Which stops are asked for.
+// Which stops are asked for. No closure takes its place: the definitions test_of and chosen, by which silent and repeated are
+// stated, name it.
 #[derive(Clone, Copy)]
 pub enum Asked {
     Silent,
@@ -25,29 +22,9 @@ pub enum Asked {
 fn has_recording(pairs: &[u64], stop: u64) -> bool
     ensures { result ≡ has_recording stop pairs.now }
 {
-    let count = pairs.len() / 2;
-    let mut k = 0;
-    while k < count {
-        if (pairs[2 * k] == stop) & (pairs[2 * k + 1] != 0) {
-            return true;
-        }
-        k += 1;
-    }
-    false
-}
-
-// Whether a stop stands in a list.
-fn stands(list: &[u64], stop: u64) -> bool
-    ensures { result ≡ member stop list.now }
-{
-    let mut i = 0;
-    while i < list.len() {
-        if list[i] == stop {
-            return true;
-        }
-        i += 1;
-    }
-    false
+    pairs
+        .chunks_exact(2)
+        .any(|pair| (pair[0] == stop) & (pair[1] != 0))
 }
 
 // Whether the stop at a place of a list stands again later, and not before.
@@ -55,11 +32,7 @@ fn is_repeated(stops: &[u64], i: usize) -> bool
     requires { i < length stops.now }
     ensures { result ≡ test_at (test_of Asked.Repeated []) stops.now i }
 {
-    let next = i + 1;
-    if !stands(&stops[next..], stops[i]) {
-        return false;
-    }
-    !stands(&stops[..i], stops[i])
+    stops[i + 1..].contains(&stops[i]) && !stops[..i].contains(&stops[i])
 }
 
 // Whether the stop at a place of a list is one of those asked for.
@@ -73,36 +46,13 @@ fn is_picked(asked: Asked, stops: &[u64], pairs: &[u64], i: usize) -> bool
     }
 }
 
-// One more, if it is one of those asked for.
-fn counted(n: usize, is: bool) -> usize
-    requires { n < 18446744073709551615 }
-    ensures { result ≡ cond is (n + 1) n }
-{
-    if is { n + 1 } else { n }
-}
-
 // How many stops of a list are those asked for.
 fn count_picked(asked: Asked, stops: &[u64], pairs: &[u64]) -> usize
     ensures { result ≡ length (chosen asked pairs.now stops.now) }
 {
-    let mut n = 0;
-    let mut i = 0;
-    while i < stops.len() {
-        n = counted(n, is_picked(asked, stops, pairs, i));
-        i += 1;
-    }
-    n
-}
-
-// Puts a stop at a place, if it is one of those asked for.
-fn put_if(output: &mut [u64], n: usize, is: bool, stop: u64)
-    requires { is ≡ true → n < length output.old }
-    ensures { output.new ≡ cond is (set output.old n stop) output.old }
-{
-    if !is {
-        return;
-    }
-    output[n] = stop;
+    (0..stops.len())
+        .filter(|i| is_picked(asked, stops, pairs, *i))
+        .count()
 }
 
 // Puts the stops asked for, in the order of the list.
@@ -112,31 +62,35 @@ fn put_picked(asked: Asked, stops: &[u64], pairs: &[u64], output: &mut [u64])
         ++ drop (length (chosen asked pairs.now stops.now)) output.old }
 {
     let mut n = 0;
-    let mut i = 0;
-    while i < stops.len() {
-        let is = is_picked(asked, stops, pairs, i);
-        put_if(output, n, is, stops[i]);
-        n = counted(n, is);
-        i += 1;
+    for i in 0..stops.len() {
+        if is_picked(asked, stops, pairs, i) {
+            output[n] = stops[i];
+            n += 1;
+        }
     }
 }
 
 // Writes the stops asked for, in the order of the list, and counts them; refusal 28 where the output is too short, which then
 // stays.
-fn write_picked(asked: Asked, stops: &[u64], pairs: &[u64], output: &mut [u64]) -> Listed
+fn write_picked(
+    asked: Asked,
+    stops: &[u64],
+    pairs: &[u64],
+    output: &mut [u64],
+) -> Result<usize, OutputShort>
     ensures { Tells (chosen asked pairs.now stops.now) output.old result output.new }
 {
     let count = count_picked(asked, stops, pairs);
     if output.len() < count {
-        return Listed::OutputShort;
+        return Err(OutputShort);
     }
     put_picked(asked, stops, pairs, output);
-    Listed::Count(count)
+    Ok(count)
 }
 
 // Writes each stop of a list that no pair with a recording has, in the order of the list and as often as it stands there, and
 // counts them: refusal 28. Numbers past those written stay.
-pub fn write_silent(stops: &[u64], pairs: &[u64], output: &mut [u64]) -> Listed
+pub fn write_silent(stops: &[u64], pairs: &[u64], output: &mut [u64]) -> Result<usize, OutputShort>
     ensures output_after { record { answer = result; output = output.new }
         ≡ telling (silent pairs.now stops.now) output.old }
     ensures numbered { told_listed result ≡ telling_told (silent pairs.now stops.now)
@@ -146,7 +100,7 @@ pub fn write_silent(stops: &[u64], pairs: &[u64], output: &mut [u64]) -> Listed
 }
 
 // Writes each stop that stands in a list twice or more, once, in the order in which they first occur, and counts them: refusal 28.
-pub fn write_repeated(stops: &[u64], output: &mut [u64]) -> Listed
+pub fn write_repeated(stops: &[u64], output: &mut [u64]) -> Result<usize, OutputShort>
     ensures output_after { record { answer = result; output = output.new }
         ≡ telling (repeated stops.now) output.old }
     ensures numbered { told_listed result ≡ telling_told (repeated stops.now) output.old }

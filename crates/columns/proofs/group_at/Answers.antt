@@ -1,5 +1,4 @@
 -- `columns::group_at` meets its contract. The loop's invariant: i words are read. Assumes nothing.
-use Prim.Native.Nat.{◌-◌}
 use mathlib.Core.Path.{refl, sym, ◌∙◌}
 use native.Mathlib.Omega.{arith}
 use Rattle.word.proofs.Filling.{fills_none, whole_next, whole_all}

@@ -1,4 +1,3 @@
-use Prim.Native.Nat.{◌-◌}
 use lib.ListN.{take, drop}
 use Rattle.columns.specs.Columns.{filled_up}
 use Rattle.word.proofs.Filling.{Fills}
@@ -6,6 +5,3 @@ use Rattle.columns.proofs.group_at.Given as goal
 
 abbrev pub invariant-loop-i : goal.invariant-loop-i
 invariant-loop-i l = Fills 0 8 (take 8 (drop l.at (filled_up l.words))) l.initial.group l.group l.i
-
-abbrev pub decreases-loop-i : goal.decreases-loop-i
-decreases-loop-i l = 8 - l.i

@@ -2,7 +2,6 @@
 use native.Mathlib.Omega.{arith}
 use borrow.Author.Tests.{eqb-true}
 use Rattle.word.proofs.Tests.{known_true, known_false}
-use Rattle.columns.proofs.Back.{room}
 use Rattle.columns.proofs.Calls.{loading_no_width, loading_uneven, loading_filled, loading_short, loading_done}
 use Rattle.word.proofs.Width.{width_range}
 use Rattle.columns.proofs.load.Goals as goal
@@ -45,7 +44,7 @@ load_all-requires c =
     let range = width_range c.args.b (known_true c.is_width.ensures c.if-not-is_width.false-raw) in (
       range.1,
       eqb-true _ _ (known_true c.is_whole.ensures c.if-not-is_whole.false-raw),
-      omega (arith, room c.args.n, c.groups_of-groups.ensures),
+      c.groups_of-groups.ensures,
       c.if-words-n.false,
     )
 

@@ -1,15 +1,14 @@
--- `columns::load_group` meets its contract. The loop's invariant: the words have p bits. Assumes nothing.
-use Prim.Native.Nat.{ℕ, ◌+◌, ◌-◌, ◌%◌, ◌^◌, ◌<◌}
-use mathlib.Core.List.{List, ◌++◌}
+-- `columns::load_group` meets its contract. The loop's invariant: the words have the odd bits and k times eight. Assumes nothing.
+use Prim.Native.Nat.{ℕ, ◌+◌, ◌*◌, ◌%◌, ◌^◌, ◌<◌}
+use mathlib.Core.List.{List}
 use mathlib.Core.Path.{◌≡◌, refl, sym, ap, subst, ◌∙◌}
 use native.Mathlib.Omega.{arith}
 use lib.ListN.{length, get_or, take, drop, replicate}
-use lib.Seq.{take-add, drop-drop}
 use Rattle.columns.specs.Columns.{turned}
-use Rattle.columns.specs.Packing.{longer, packed_turned}
+use Rattle.columns.specs.Packing.{longer}
 use Rattle.columns.proofs.Turning.{length_turned}
 use Rattle.columns.proofs.Loops.{length_part}
-use Rattle.columns.proofs.Parts.{zeros_small, first_longer, more_longer, turned_small}
+use Rattle.columns.proofs.Parts.{zeros_small, first_longer, eight_longer, turned_small}
 use Rattle.columns.proofs.load_group.Goals as goal
 
 pub slice_bounds-with_bits-end : goal.slice_bounds-with_bits-end
@@ -21,70 +20,59 @@ turned_bytes-requires c = (omega arith, omega (arith, c.requires.1))
 pub with_bits-group-requires : goal.with_bits-group-requires
 with_bits-group-requires c = (refl, zeros_small)
 
-pub loop-p-init : goal.loop-p-init
-loop-p-init c =
+pub loop-k-init : goal.loop-k-init
+loop-k-init c =
     let a = c.args in
     let there = c.requires.1 in
-    let odd = a.b % 8 in (
-      omega arith,
+    let odd = a.b % 8 in
+    let start : odd ≡ odd + 8 * 0 = omega arith in (
       omega arith,
       c.with_bits-group.ensures
           ∙ ap (longer (replicate 8 0)) c.turned_bytes.ensures
-          ∙ first_longer (take odd (drop a.at a.bytes.now)) (omega (arith, length_part odd a.bytes.now a.at (omega arith))),
+          ∙ first_longer (take odd (drop a.at a.bytes.now)) (omega (arith, length_part odd a.bytes.now a.at (omega arith)))
+          ∙ ap (λ (p : ℕ). turned 8 (take p (drop a.at a.bytes.now))) start,
     )
 
-pub slice_bounds-with_bits-end-in-loop-p : goal.slice_bounds-with_bits-end-in-loop-p
-slice_bounds-with_bits-end-in-loop-p c = sym (ap length c.loop-p.invariant.2 ∙ length_turned 8 _)
+pub slice_bounds-with_bits-end-in-loop-k : goal.slice_bounds-with_bits-end-in-loop-k
+slice_bounds-with_bits-end-in-loop-k c = sym (ap length c.loop-k.invariant.1 ∙ length_turned 8 _)
 
-pub overflow_add-at : goal.overflow_add-at
-overflow_add-at c = omega (arith, c.requires.1)
+pub turned_bytes-requires-in-loop-k : goal.turned_bytes-requires-in-loop-k
+turned_bytes-requires-in-loop-k c =
+    let more = c.loop-k-test.true in (omega arith, omega (arith, c.requires.1))
 
-pub turned_bytes-requires-in-loop-p : goal.turned_bytes-requires-in-loop-p
-turned_bytes-requires-in-loop-p c =
-    let more = c.loop-p-test.true in (omega arith, omega (arith, c.requires.1, c.loop-p.invariant.1))
-
-pub with_bits-group-requires-in-loop-p : goal.with_bits-group-requires-in-loop-p
-with_bits-group-requires-in-loop-p c =
+pub with_bits-group-requires-in-loop-k : goal.with_bits-group-requires-in-loop-k
+with_bits-group-requires-in-loop-k c =
     let a = c.args in
-    let l = c.loop-p in
+    let l = c.loop-k in
     let there = c.requires.1 in
     let most = l.invariant.0 in
-    let few = c.requires.0 in (
-      ap length l.invariant.2 ∙ length_turned 8 _,
+    let few = c.requires.0 in
+    let p = a.b % 8 + 8 * l.k in (
+      ap length l.invariant.1 ∙ length_turned 8 _,
       λ i.
-          subst (λ (g : List ℕ). get_or g i 0 < 2 ^ 48) (sym l.invariant.2)
-          (turned_small 8 (take l.p (drop a.at a.bytes.now)) 48 (omega (arith, length_part l.p a.bytes.now a.at (omega arith))) i),
+          subst (λ (g : List ℕ). get_or g i 0 < 2 ^ 48) (sym l.invariant.1)
+          (turned_small 8 (take p (drop a.at a.bytes.now)) 48 (omega (arith, length_part p a.bytes.now a.at (omega arith))) i),
     )
 
-pub overflow_add-p : goal.overflow_add-p
-overflow_add-p c = omega (arith, c.requires.0)
-
-pub loop-p-smaller : goal.loop-p-smaller
-loop-p-smaller c = let more = c.loop-p-test.true in omega arith
-
-pub loop-p-preserved : goal.loop-p-preserved
-loop-p-preserved c =
+pub loop-k-preserved : goal.loop-k-preserved
+loop-k-preserved c =
     let a = c.args in
-    let l = c.loop-p in
-    let more = c.loop-p-test.true in
-    let rest = l.invariant.1 in
+    let l = c.loop-k in
+    let more = c.loop-k-test.true in
     let there = c.requires.1 in
-    let bytes = a.bytes.now in
-    let first = take l.p (drop a.at bytes) in
-    let part = take 8 (drop (a.at + l.p) bytes) in (
+    let p = a.b % 8 + 8 * l.k in
+    let next : p + 8 ≡ a.b % 8 + 8 * (l.k + 1) = omega arith in (
       omega arith,
-      omega arith,
-      c.with_bits-group-in-loop-p.ensures
-          ∙ ap (longer l.group) c.turned_bytes-in-loop-p.ensures
-          ∙ ap (λ (g : List ℕ). longer g (packed_turned part)) l.invariant.2
-          ∙ more_longer first part (length_part 8 bytes (a.at + l.p) (omega arith))
-          ∙ ap (turned 8) (sym (take-add l.p 8 (drop a.at bytes) ∙ ap (λ (r : List ℕ). first ++ take 8 r) (drop-drop l.p a.at bytes))),
+      c.with_bits-group-in-loop-k.ensures
+          ∙ ap (longer l.group) c.turned_bytes-in-loop-k.ensures
+          ∙ eight_longer a.bytes.now a.at p (omega arith) l.invariant.1
+          ∙ ap (λ (i : ℕ). turned 8 (take i (drop a.at a.bytes.now))) next,
     )
 
 pub returns : goal.returns
 returns c =
     let a = c.args in
-    let over = c.loop-p-test.false in
-    let most = c.loop-p.invariant.0 in
-    let same : c.loop-p.p ≡ a.b = omega arith in
-    c.loop-p.invariant.2 ∙ ap (λ (k : ℕ). turned 8 (take k (drop a.at a.bytes.now))) same
+    let over = c.loop-k-test.false in
+    let most = c.loop-k.invariant.0 in
+    let same : a.b % 8 + 8 * c.loop-k.k ≡ a.b = omega arith in
+    c.loop-k.invariant.1 ∙ ap (λ (i : ℕ). turned 8 (take i (drop a.at a.bytes.now))) same

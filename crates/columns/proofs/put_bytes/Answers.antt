@@ -1,5 +1,5 @@
 -- `columns::put_bytes` meets its contract. The loop's invariant: the first i bytes are stored. Assumes nothing.
-use Prim.Native.Nat.{ℕ, ◌-◌, ◌%◌}
+use Prim.Native.Nat.{ℕ, ◌%◌}
 use mathlib.Core.Path.{sym, ap, ◌∙◌}
 use native.Mathlib.Omega.{arith}
 use Rattle.word.proofs.Filling.{fills_none, fills_next}

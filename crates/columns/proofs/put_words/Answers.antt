@@ -1,23 +1,13 @@
--- `columns::put_words` meets its contract. The loop's invariant: the first i words are stored. Assumes nothing.
-use Prim.Native.Nat.{◌-◌}
-use mathlib.Core.Path.{sym}
-use lib.Seq.{length-take-le, get_or-take}
-use Rattle.word.proofs.Filling.{fills_none, fills_next}
-use Rattle.columns.proofs.Writing.{fills_sets}
+-- `columns::put_words` meets its contract: a part is written at once. Assumes nothing.
+use Rattle.std.proofs.Common.{◌≡◌, ◌+◌, ◌-◌, take, length-take-le, append_assoc, arith}
+use Rattle.std.proofs.Math.Seq.{drop-drop}
+use Rattle.std.proofs.lemmas.List.Edits.{sets-eq}
 use Rattle.columns.proofs.put_words.Goals as goal
 
-pub loop-i-init : goal.loop-i-init
-loop-i-init c = fills_none (length-take-le c.args.n c.args.group.now c.requires.0) c.requires.1
-
-pub loop-i-preserved : goal.loop-i-preserved
-loop-i-preserved c =
-    let a = c.args in
-    let l = c.loop-i in
-    let more = c.loop-i-test.true in
-    fills_next l.invariant more 0 (sym (get_or-take a.n a.group.now l.i 0 more))
-
-pub shape_of-words : goal.shape_of-words
-shape_of-words c = c.loop-i.invariant.long
-
 pub returns : goal.returns
-returns c = fills_sets c.loop-i.invariant c.loop-i-test.false
+returns c =
+    let a = c.args in
+    let part = take a.n a.group.now in
+    let long = length-take-le a.n a.group.now c.requires.0 in
+    let size : a.to + a.n - a.to ≡ a.n = omega arith in
+    rw (c.copy_from_slice.ensures.after, size, sets-eq part a.words.now a.to (omega (arith, long, c.requires.1)), long, append_assoc, drop-drop)

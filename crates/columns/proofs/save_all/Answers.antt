@@ -1,5 +1,5 @@
 -- `columns::save_all` meets its contract. The loop's invariant: the bytes of the first k groups are stored. Assumes nothing.
-use Prim.Native.Nat.{ℕ, suc, ◌+◌, ◌-◌, ◌*◌}
+use Prim.Native.Nat.{ℕ, suc, ◌+◌, ◌*◌}
 use mathlib.Core.List.{List, ◌++◌}
 use mathlib.Core.Path.{◌≡◌, refl, sym, ap, ◌∙◌}
 use native.Mathlib.Nat.{mul-le-mul_left}
@@ -11,7 +11,6 @@ use Rattle.columns.proofs.Back.{length_saved}
 use Rattle.columns.proofs.Loops.{length_group}
 use Rattle.columns.proofs.Parts.{saved_group}
 use Rattle.columns.proofs.Writing.{start_more, start_all}
-use borrow.Author.Rules.{rules}
 use Rattle.columns.proofs.save_all.Goals as goal
 
 pub loop-k-init : goal.loop-k-init
@@ -46,12 +45,6 @@ save_group-requires c =
       ap length c.group_at-group.ensures ∙ length_group c.args.words.now (8 * c.loop-k.k) (omega arith),
       omega (arith, c.requires.2, c.loop-k.invariant.1),
     )
-
-pub overflow_add-k : goal.overflow_add-k
-overflow_add-k c = let more = c.loop-k-test.true in search rules
-
-pub loop-k-smaller : goal.loop-k-smaller
-loop-k-smaller c = let more = c.loop-k-test.true in omega arith
 
 pub loop-k-preserved : goal.loop-k-preserved
 loop-k-preserved c =

@@ -1,5 +1,5 @@
 -- `columns::with_bits` meets its contract. The loop's invariant: i words are made. Assumes nothing.
-use Prim.Native.Nat.{ℕ, ◌-◌, ◌*◌, ◌+◌, ◌%◌}
+use Prim.Native.Nat.{ℕ, ◌*◌, ◌+◌, ◌%◌}
 use mathlib.Core.Path.{refl, sym, ap, ◌∙◌}
 use native.Mathlib.Omega.{arith}
 use lib.ListN.{get_or}

@@ -1,37 +1,13 @@
--- `hours::all_keep` meets its contract. The loop's invariant: whether all entries keep the rules is whether those that are left do. Assumes nothing.
-use native.Mathlib.Omega.{arith}
-use Rattle.word.proofs.Tests.{known_true, known_false}
-use Rattle.hours.specs.Hours.{all_keep_of}
-use Rattle.hours.proofs.Walk.{walk_start, walk_done, walk_inside, walk_next, walk_found}
-use Rattle.hours.proofs.Tests.{all_keep}
+-- `hours::all_keep` meets its contract: the chunks are the entries. Assumes nothing.
+use mathlib.Core.Path.{◌∙◌}
 use borrow.Author.Rules.{rules}
+use Rattle.std.proofs.lemmas.Iterator.Search.{all_from_yields_List}
+use Rattle.hours.specs.Hours.{keeps}
+use Rattle.hours.proofs.Walk.{entries_come, all_is}
 use Rattle.hours.proofs.all_keep.Goals as goal
 
-pub loop-left-init : goal.loop-left-init
-loop-left-init c = walk_start _ _ _
-
-pub entry_at-requires : goal.entry_at-requires
-entry_at-requires c = (search rules, walk_inside c.loop-left.invariant c.loop-left-test.true)
-
-pub returns-then-not-keeps_rules : goal.returns-then-not-keeps_rules
-returns-then-not-keeps_rules c =
-    let at-loop-test = c.before.before.before in
-    walk_found at-loop-test.loop-left.invariant at-loop-test.loop-left-test.true _ c.entry_at.ensures _
-    (all_keep _ _ _ (known_false c.keeps_rules.ensures c.if-not-keeps_rules.true-raw))
-
-pub overflow_add-at : goal.overflow_add-at
-overflow_add-at c =
-    let at-loop-test = c.before.before.before in
-    let at-loop = at-loop-test.before in
-    record { fits = omega (arith, walk_inside at-loop.loop-left.invariant at-loop-test.loop-left-test.true) }
-
-pub loop-left-preserved : goal.loop-left-preserved
-loop-left-preserved c =
-    let at-loop-test = c.before.before.before in
-    let at-loop = at-loop-test.before in
-    walk_next at-loop.loop-left.invariant at-loop-test.loop-left-test.true _ c.entry_at.ensures
-    (all_keep _ _ _ (known_true c.keeps_rules.ensures c.if-not-keeps_rules.false-raw))
-
 pub returns : goal.returns
-unfolding all_keep_of
-returns c = walk_done c.loop-left.invariant (omega arith)
+returns c =
+    all_from_yields_List (keeps c.args.n) _ _ _ c.all.ensures.ran
+    (entries_come _ _ c.requires c.chunks_exact.ensures.size c.chunks_exact.ensures.rest) (λ x b q k. search rules)
+    ∙ all_is _ _

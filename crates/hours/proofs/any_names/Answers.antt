@@ -1,34 +1,14 @@
--- `hours::any_names` meets its contract. The loop's invariant: whether some entry names the day is whether one that is left does. Assumes nothing.
-use native.Mathlib.Omega.{arith}
-use Rattle.hours.specs.Hours.{any_names}
-use Rattle.hours.proofs.Walk.{walk_start, walk_done, walk_inside, walk_next, walk_found}
-use Rattle.hours.proofs.Tests.{names_first, names_later}
+-- `hours::any_names` meets its contract: the chunks are the entries. Assumes nothing.
+use mathlib.Core.Path.{◌∙◌}
 use borrow.Author.Rules.{rules}
+use lib.Dec.{eqb}
+use Rattle.std.proofs.lemmas.Iterator.Search.{any_from_yields_List}
+use Rattle.hours.specs.declared.Entry.{Entry}
+use Rattle.hours.proofs.Walk.{entries_come, any_is}
 use Rattle.hours.proofs.any_names.Goals as goal
 
-pub loop-left-init : goal.loop-left-init
-loop-left-init c = walk_start _ _ _
-
-pub entry_at-e-requires : goal.entry_at-e-requires
-entry_at-e-requires c = (search rules, walk_inside c.loop-left.invariant c.loop-left-test.true)
-
-pub returns-then-e-name : goal.returns-then-e-name
-returns-then-e-name c =
-    let at-loop-test = c.before.before.before in
-    walk_found at-loop-test.loop-left.invariant at-loop-test.loop-left-test.true _ c.entry_at-e.ensures _ (λ es. names_first _ _ es c.if-e-name.true)
-
-pub overflow_add-at : goal.overflow_add-at
-overflow_add-at c =
-    let at-loop-test = c.before.before.before in
-    let at-loop = at-loop-test.before in
-    record { fits = omega (arith, walk_inside at-loop.loop-left.invariant at-loop-test.loop-left-test.true) }
-
-pub loop-left-preserved : goal.loop-left-preserved
-loop-left-preserved c =
-    let at-loop-test = c.before.before.before in
-    let at-loop = at-loop-test.before in
-    walk_next at-loop.loop-left.invariant at-loop-test.loop-left-test.true _ c.entry_at-e.ensures (λ es. names_later _ _ es c.if-e-name.false)
-
 pub returns : goal.returns
-unfolding any_names
-returns c = walk_done c.loop-left.invariant (omega arith)
+returns c =
+    any_from_yields_List (λ (e : Entry). eqb e.name c.args.name) _ _ _ c.any.ensures.ran
+    (entries_come _ _ c.requires c.chunks_exact.ensures.size c.chunks_exact.ensures.rest) (λ x b q k. search rules)
+    ∙ any_is _ _

@@ -1,41 +1,19 @@
--- `hours::first_holding` meets its contract. The loop's invariant: what is found in the whole list is what is found from here on. Assumes nothing.
-use mathlib.Core.Path.{sym, ◌∙◌}
-use native.Mathlib.Omega.{arith}
-use Rattle.hours.specs.Hours.{naming, first_holding}
-use Rattle.hours.proofs.Walk.{walk_start, walk_done, walk_inside, walk_next, walk_found}
-use Rattle.hours.proofs.Tests.{search_from}
-use Rattle.hours.proofs.Answering.{searched_told}
-use borrow.Author.Rules.{rules}
+-- `hours::first_holding` meets its contract: the chunks are the entries. Assumes nothing.
+use Rattle.std.proofs.Common.{◌≡◌, ap, ◌∙◌, rules}
+use Rattle.std.specs.Option.{option_map}
+use Rattle.std.specs.Slice.Iter.{chunks_exact_rest, chunks_exact_size}
+use Rattle.std.proofs.lemmas.Iterator.{YieldsList-from_map}
+use Rattle.std.proofs.lemmas.Iterator.Search.{find_from_yields_List}
+use Rattle.hours.specs.declared.Entry.{Entry}
+use Rattle.hours.proofs.Walk.{answering, row, entries_come, row_found}
 use Rattle.hours.proofs.first_holding.Goals as goal
 
-pub loop-left-init : goal.loop-left-init
-loop-left-init c = walk_start _ _ _
-
-pub entry_at-e-requires : goal.entry_at-e-requires
-entry_at-e-requires c = (search rules, walk_inside c.loop-left.invariant c.loop-left-test.true)
-
-pub returns-then-answers : goal.returns-then-answers
-returns-then-answers c =
-    let at-loop-test = c.before.before.before in
-    let all = searched_told _ _ (walk_found at-loop-test.loop-left.invariant at-loop-test.loop-left-test.true _ c.entry_at-e.ensures _
-    (search_from _ _ _ _ (sym c.answers.ensures ∙ c.if-answers.true))) in
-    record { value = all.0; numbered = all.1 }
-
-pub overflow_add-at : goal.overflow_add-at
-overflow_add-at c =
-    let at-loop-test = c.before.before.before in
-    let at-loop = at-loop-test.before in
-    record { fits = omega (arith, walk_inside at-loop.loop-left.invariant at-loop-test.loop-left-test.true) }
-
-pub loop-left-preserved : goal.loop-left-preserved
-loop-left-preserved c =
-    let at-loop-test = c.before.before.before in
-    let at-loop = at-loop-test.before in
-    walk_next at-loop.loop-left.invariant at-loop-test.loop-left-test.true _ c.entry_at-e.ensures
-    (search_from _ _ _ _ (sym c.answers.ensures ∙ c.if-answers.false))
-
 pub returns : goal.returns
-unfolding naming first_holding
 returns c =
-    let all = searched_told _ _ (walk_done c.loop-left.invariant (omega arith)) in
-    record { value = all.0; numbered = all.1 }
+    let source = c.map.ensures.source in
+    let found = find_from_yields_List (answering c.args.name c.args.minute) _ _ c.find.result c.find.ensures.ran
+    (YieldsList-from_map _ (λ (e : Entry). e)
+    (entries_come _ _ c.requires (ap chunks_exact_size source ∙ c.chunks_exact.ensures.size) (ap chunks_exact_rest source ∙ c.chunks_exact.ensures.rest))
+    c.map.ensures.closure (λ x b q k. search rules)) (λ x b q k. search rules) in
+    let rows : c.map-2.result ≡ option_map row c.find.result = search rules in
+    rows ∙ row_found _ _ _ _ found

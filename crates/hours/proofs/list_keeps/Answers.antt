@@ -1,10 +1,13 @@
 -- `hours::list_keeps` meets its contract: by the list's length. Assumes nothing.
-use mathlib.Core.Path.{◌∙◌}
-use Rattle.hours.proofs.Answering.{list_uneven, list_even}
+use native.Mathlib.Omega.{arith}
+use Rattle.std.proofs.lemmas.Grind.{common_steps}
+use Rattle.hours.specs.Hours.{list_keeps}
 use Rattle.hours.proofs.list_keeps.Goals as goal
 
-pub returns-then-list-n-ne0 : goal.returns-then-list-n-ne0
-returns-then-list-n-ne0 c = list_uneven _ _ c.if-list-n-ne0.true
+pub returns-then-list-n-eq0 : goal.returns-then-list-n-eq0
+unfolding list_keeps
+returns-then-list-n-eq0 c = grind (arith, common_steps)
 
-pub returns : goal.returns
-returns c = c.all_keep.ensures ∙ list_even _ _ c.if-list-n-ne0.false
+pub returns-else-list-n-eq0 : goal.returns-else-list-n-eq0
+unfolding list_keeps
+returns-else-list-n-eq0 c = grind (arith, common_steps)

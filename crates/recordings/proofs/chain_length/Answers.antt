@@ -1,5 +1,4 @@
 -- `recordings::chain_length` meets its contract. The loop's invariant: the walk has passed as many rows as it has counted. Assumes nothing.
-use Prim.Native.Nat.{◌-◌}
 use native.Mathlib.Omega.{arith}
 use Rattle.recordings.specs.Recordings.{next_of}
 use Rattle.recordings.proofs.Chain.{at_start, at_next, at_more, at_zero, at_last, number_inside, some_row}
@@ -26,4 +25,4 @@ loop-count-preserved c =
     (rw c.number_of-row-in-loop-count.ensures (at_next _ c.requires c.loop-count.invariant.0 more), omega arith)
 
 pub returns : goal.returns
-returns c = at_last _ c.loop-count.invariant.0 c.loop-count-test.false c.loop-count.invariant.1
+returns c = omega (arith, at_last _ c.loop-count.invariant.0 c.loop-count-test.false c.loop-count.invariant.1)

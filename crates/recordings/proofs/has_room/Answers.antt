@@ -5,7 +5,7 @@ use native.Mathlib.Omega.{arith}
 use borrow.Author.Tests.{lt-leb}
 use lib.ListN.{length}
 use Rattle.recordings.specs.Recordings.{all_standing}
-use Rattle.recordings.proofs.Stops.{room_for_all, room_start, room_none, room_short, room_next}
+use Rattle.recordings.proofs.Stops.{room_for_all, room_start, room_none, room_next, room_end}
 use Rattle.recordings.proofs.Telling.{least_is}
 use Rattle.recordings.proofs.has_room.Goals as goal
 
@@ -16,21 +16,23 @@ pub returns-then-room-le-FEW : goal.returns-then-room-le-FEW
 returns-then-room-le-FEW c =
     sym (lt-leb (length (all_standing c.args.list.now)) c.args.room (omega (arith, c.requires.1, c.if-room-le-FEW.true)))
 
-pub loop-stop-init : goal.loop-stop-init
-loop-stop-init c = room_start _ _
+pub loop-left-init : goal.loop-left-init
+loop-left-init c = room_start _ _
 
 pub next_stop-requires : goal.next_stop-requires
 next_stop-requires c = c.requires.0
 
 pub returns-in_default : goal.returns-in_default
 returns-in_default c =
-    sym (room_none _ _ _ (rw c.in_default.is at (least_is _ _ _ c.next_stop.ensures))) ∙ c.loop-stop.invariant
+    sym (room_none _ _ _ (rw c.in_default.is at (least_is _ _ _ c.next_stop.ensures))) ∙ c.loop-left.invariant
 
-pub returns-then-left-eq0 : goal.returns-then-left-eq0
-returns-then-left-eq0 c =
-    let least = rw c.in-Stop.is at (least_is _ _ _ c.next_stop.ensures) in
-    sym (room_short _ _ _ _ least c.if-left-eq0.true) ∙ c.loop-stop.invariant
+pub loop-left-preserved : goal.loop-left-preserved
+loop-left-preserved c =
+    room_next _ _ _ _ (rw c.in-Some.is at (least_is _ _ _ c.next_stop.ensures)) (omega arith) ∙ c.loop-left.invariant
 
-pub loop-stop-preserved : goal.loop-stop-preserved
-loop-stop-preserved c =
-    room_next _ _ _ _ (rw c.in-Stop.is at (least_is _ _ _ c.next_stop.ensures)) c.if-left-eq0.false ∙ c.loop-stop.invariant
+pub next_stop-requires-2 : goal.next_stop-requires-2
+next_stop-requires-2 c = c.requires.0
+
+pub returns : goal.returns
+returns c =
+    sym (room_end _ _ _ (omega arith) _ (least_is _ _ _ c.next_stop-2.ensures) _ c.is_none.ensures) ∙ c.loop-left.invariant

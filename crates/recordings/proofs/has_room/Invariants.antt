@@ -6,9 +6,6 @@ use Rattle.recordings.specs.Walking.{stops, from}
 use Rattle.recordings.proofs.Counting.{above}
 use Rattle.recordings.proofs.has_room.Given as goal
 
-abbrev pub invariant-loop-stop : goal.invariant-loop-stop
-invariant-loop-stop l =
+abbrev pub invariant-loop-left : goal.invariant-loop-left
+invariant-loop-left l =
     leb (above (from l.last) (stops l.list (all_standing l.list))) l.left ≡ leb (length (all_standing l.list)) l.room
-
-abbrev pub decreases-loop-stop : goal.decreases-loop-stop
-decreases-loop-stop l = l.left

@@ -1,13 +1,7 @@
--- `recordings::is_after` meets its contract, case by case. Assumes nothing.
-use mathlib.Core.Path.{sym}
-use lib.Dec.{leb-zero}
-use Rattle.recordings.specs.Walking.{from}
+-- `recordings::is_after` meets its contract: with no last stop or with one. Assumes nothing.
+use Rattle.std.proofs.Common.{rules}
+use Rattle.recordings.proofs.Stops.{after_is}
 use Rattle.recordings.proofs.is_after.Goals as goal
 
-pub returns-in-Nothing : goal.returns-in-Nothing
-unfolding from
-returns-in-Nothing c = rw c.in-Nothing.is (sym (leb-zero c.args.stop))
-
-pub returns-in-Stop : goal.returns-in-Stop
-unfolding from
-returns-in-Stop c = rw c.in-Stop.is
+pub returns : goal.returns
+returns c = after_is c.args.stop _ _ c.args.last c.is_none_or.ensures (λ x is. search rules)

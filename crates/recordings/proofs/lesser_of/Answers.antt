@@ -1,22 +1,10 @@
--- `recordings::lesser_of` meets its contract, case by case. Assumes nothing.
-use Rattle.word.proofs.Tests.{known_true, known_false}
-use Rattle.recordings.proofs.Stops.{lesser_below, lesser_only, lesser_new, lesser_old}
-use Rattle.recordings.proofs.Telling.{lesser_tells}
+-- `recordings::lesser_of` meets its contract: below the bound, or the lesser of what was found and the stop. Assumes nothing.
+use Rattle.std.proofs.Common.{◌∙◌, sym, rules}
+use Rattle.recordings.proofs.Stops.{lesser_below, lesser_is}
 use Rattle.recordings.proofs.lesser_of.Goals as goal
 
 pub returns-then-not-is_after : goal.returns-then-not-is_after
-returns-then-not-is_after c = lesser_tells _ _ _ (lesser_below _ _ _ (known_false c.is_after.ensures c.if-not-is_after.true-raw))
+returns-then-not-is_after c = lesser_below _ _ c.args.found (sym c.is_after.ensures ∙ c.if-not-is_after.true)
 
-pub returns-in-Nothing : goal.returns-in-Nothing
-returns-in-Nothing c =
-    rw c.in-Nothing.is (lesser_tells _ _ _ (lesser_only _ _ (known_true c.is_after.ensures c.if-not-is_after.false-raw)))
-
-pub returns-then-stop-least : goal.returns-then-stop-least
-returns-then-stop-least c =
-    let after = known_true c.is_after.ensures c.if-not-is_after.false-raw in
-    rw c.in-Stop.is (lesser_tells _ _ _ (lesser_new _ _ after _ c.if-stop-least.true))
-
-pub returns-else-stop-least : goal.returns-else-stop-least
-returns-else-stop-least c =
-    let after = known_true c.is_after.ensures c.if-not-is_after.false-raw in
-    rw c.in-Stop.is (lesser_tells _ _ _ (lesser_old _ _ after _ c.if-stop-least.false))
+pub returns : goal.returns
+returns c = lesser_is _ c.args.stop _ _ c.args.found (sym c.is_after.ensures ∙ c.if-not-is_after.false) c.map_or.ensures (λ x is. search rules)

@@ -1,4 +1,4 @@
-use Prim.Native.Nat.{◌≤◌, ◌-◌}
+use Prim.Native.Nat.{◌≤◌}
 use lib.ListN.{take}
 use Rattle.recordings.specs.Recordings.{chain}
 use Rattle.recordings.specs.Walking.{stops, from}
@@ -9,6 +9,3 @@ use Rattle.recordings.proofs.next_stop.Given as goal
 abbrev pub invariant-loop-i : goal.invariant-loop-i
 invariant-loop-i l =
     At l.list l.i l.row × (l.i ≤ l.steps) × LeastOf (from l.last) (stops l.list (take l.i (chain l.list))) l.found
-
-abbrev pub decreases-loop-i : goal.decreases-loop-i
-decreases-loop-i l = l.steps - l.i

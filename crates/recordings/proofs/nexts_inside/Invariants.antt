@@ -6,6 +6,3 @@ use Rattle.recordings.proofs.nexts_inside.Given as goal
 abbrev pub invariant-loop-row : goal.invariant-loop-row
 invariant-loop-row l =
     (l.row ≤ row_count l.list) × (nexts_inside l.list l.row ≡ nexts_inside l.list (row_count l.list))
-
-abbrev pub decreases-loop-row : goal.decreases-loop-row
-decreases-loop-row l = l.row

@@ -1,8 +1,7 @@
 -- `recordings::no_heads` meets its contract: heads that are all zero are heads of no chains (`fresh`). Assumes nothing.
-use native.Mathlib.Omega.{arith}
+use Rattle.std.proofs.lemmas.List.{length-replicate}
 use Rattle.recordings.proofs.Links.{fresh}
-use borrow.Author.Rules.{rules}
 use Rattle.recordings.proofs.no_heads.Goals as goal
 
 pub returns : goal.returns
-returns c = (search rules, fresh 8191 (omega arith))
+returns g c = (simp length-replicate, fresh _ c.requires)

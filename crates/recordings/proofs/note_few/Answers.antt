@@ -1,6 +1,6 @@
 -- `recordings::note_few` meets its contract. The loop's invariant: the pairs hold the standing rows of those passed, and these are few.
 -- Assumes nothing.
-use Prim.Native.Nat.{◌+◌, ◌-◌}
+use Prim.Native.Nat.{◌+◌}
 use mathlib.Core.Path.{◌∙◌}
 use native.Mathlib.Omega.{arith}
 use Rattle.recordings.specs.Recordings.{next_of}

@@ -1,12 +1,9 @@
-use Prim.Native.Nat.{◌≤◌, ◌-◌}
+use Prim.Native.Nat.{◌≤◌}
 use lib.ListN.{length}
-use Rattle.recordings.specs.Recordings.{row_count, chain}
+use Rattle.recordings.specs.Recordings.{chain}
 use Rattle.recordings.proofs.Growing.{Passing}
 use Rattle.recordings.proofs.note_few.Given as goal
 
 abbrev pub invariant-loop-i : goal.invariant-loop-i
 invariant-loop-i l =
     Passing l.list l.initial.pairs l.initial.heads l.pairs l.heads 0 l.count l.row l.i × (l.i ≤ length (chain l.list)) × (l.count ≤ 1023)
-
-abbrev pub decreases-loop-i : goal.decreases-loop-i
-decreases-loop-i l = row_count l.list - l.i

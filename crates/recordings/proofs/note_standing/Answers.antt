@@ -1,5 +1,5 @@
 -- `recordings::note_standing` meets its contract. The loop's invariant: the output holds the standing rows of those passed. Assumes nothing.
-use Prim.Native.Nat.{◌+◌, ◌<◌, ◌-◌}
+use Prim.Native.Nat.{◌+◌, ◌<◌}
 use native.Mathlib.Omega.{arith}
 use lib.ListN.{length}
 use Rattle.recordings.specs.Recordings.{next_of, chain}

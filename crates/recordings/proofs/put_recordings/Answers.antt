@@ -1,5 +1,4 @@
 -- `recordings::put_recordings` meets its contract. The loop's invariant: stops and recordings of the rows passed are put. Assumes nothing.
-use Prim.Native.Nat.{◌-◌}
 use mathlib.Core.Path.{ap, ◌∙◌}
 use native.Mathlib.Omega.{arith}
 use lib.ListN.{length}

@@ -12,17 +12,13 @@ use Rattle.recordings.proofs.Growing.{noted_count}
 use Rattle.recordings.proofs.Telling.{few_tells, many_tells}
 use Rattle.recordings.proofs.write_few.Goals as goal
 
-pub slice_bounds-note_few-end : goal.slice_bounds-note_few-end
-slice_bounds-note_few-end c =
-    sym c.no_pairs-pairs.ensures
-
 pub slice_bounds-note_few-end-2 : goal.slice_bounds-note_few-end-2
 slice_bounds-note_few-end-2 c =
-    sym c.few_heads-heads.ensures.0
+    sym c.no_heads-heads.ensures.0
 
 pub note_few-count-requires : goal.note_few-count-requires
 note_few-count-requires c =
-    (c.requires, omega (arith, c.no_pairs-pairs.ensures), c.few_heads-heads.ensures.1)
+    (c.requires, omega arith, c.no_heads-heads.ensures.1)
 
 pub returns-then-count-gt-FEW : goal.returns-then-count-gt-FEW
 returns-then-count-gt-FEW c =

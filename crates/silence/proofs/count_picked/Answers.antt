@@ -1,19 +1,15 @@
--- `silence::count_picked` meets its contract. The loop's invariant: the stops counted and those that are left are all. Assumes nothing.
-use Prim.Native.Nat.{◌-◌}
-use native.Mathlib.Omega.{arith}
-use Rattle.silence.proofs.Picking.{counted_start, left_by, counted_next, counted_all}
+-- `silence::count_picked` meets its contract: as many as there are places that are picked. Assumes nothing.
+use Rattle.std.proofs.Common.{length, arith, ◌∙◌, rules}
+use Rattle.std.proofs.lemmas.Iterator.{YieldsList-from_range}
+use Rattle.std.proofs.lemmas.Iterator.Consumers.{YieldsList-from_filter, count_from_yields_List}
+use Rattle.silence.specs.Silence.{test_of, test_at}
+use Rattle.silence.proofs.Picking.{count_picks}
 use Rattle.silence.proofs.count_picked.Goals as goal
 
-pub loop-i-init : goal.loop-i-init
-loop-i-init c = counted_start _ _
-
-pub counted-n-requires : goal.counted-n-requires
-counted-n-requires c = omega (arith, c.loop-i.invariant.few)
-
-pub loop-i-preserved : goal.loop-i-preserved
-loop-i-preserved c =
-    let left = left_by _ _ _ c.loop-i-test.true c.is_picked.ensures in
-    rw c.counted-n.ensures (counted_next _ _ _ c.loop-i-test.true c.is_picked.result left c.loop-i.invariant)
-
 pub returns : goal.returns
-returns c = counted_all _ _ _ _ (omega arith) c.loop-i.invariant
+returns c =
+    count_from_yields_List _ _ c.count.ensures.ran
+    (YieldsList-from_filter _ (test_at (test_of c.args.asked c.args.pairs.now) c.args.stops.now)
+    (YieldsList-from_range 0 (length c.args.stops.now) (length c.args.stops.now) c.filter.ensures.source (omega arith)) c.filter.ensures.closure
+    (λ x b q k. search rules))
+    ∙ count_picks (test_of c.args.asked c.args.pairs.now) c.args.stops.now

@@ -1,5 +1,5 @@
 -- `recordings::places::clear` meets its contract. The loop's invariant: the second numbers of the pairs passed are zero. Assumes nothing.
-use Prim.Native.Nat.{◌+◌, ◌*◌, ◌≤◌, ◌-◌}
+use Prim.Native.Nat.{◌+◌, ◌*◌, ◌≤◌}
 use native.Mathlib.Omega.{arith}
 use lib.ListN.{length}
 use Rattle.recordings.proofs.Pushing.{kept_none, kept_twice, second_kept, zeros_more}

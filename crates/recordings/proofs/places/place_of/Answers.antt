@@ -1,9 +1,7 @@
 -- `recordings::places::place_of` meets its contract. The loop's invariant: none of the pairs passed has the stop. Assumes nothing.
-use Prim.Native.Nat.{◌-◌}
 use mathlib.Core.Path.{sym, ◌∙◌}
 use native.Mathlib.Omega.{arith}
 use borrow.Author.Count.{below_more}
-use Rattle.recordings.specs.Walking.{stop_at}
 use Rattle.recordings.proofs.Entering.{pair_room, row_number}
 use Rattle.recordings.proofs.places.place_of.Goals as goal
 
@@ -24,4 +22,4 @@ loop-k-preserved c =
 
 pub returns : goal.returns
 returns c =
-    record { most = c.loop-k.invariant.0; found = λ h. absurd (omega arith); none = λ _ j h. c.loop-k.invariant.1 j (omega arith) }
+    record { most = omega arith; found = λ h. absurd (omega arith); none = λ _ j h. c.loop-k.invariant.1 j (omega arith) }

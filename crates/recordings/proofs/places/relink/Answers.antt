@@ -1,5 +1,4 @@
 -- `recordings::places::relink` meets its contract. The loop's invariant: the places passed are linked. Assumes nothing.
-use Prim.Native.Nat.{◌-◌}
 use mathlib.Core.Path.{◌∙◌}
 use Rattle.recordings.proofs.Pushing.{relinking_none, relinking_pushes, relinking_next, relinking_all, kept_holds}
 use Rattle.recordings.proofs.places.relink.Goals as goal
