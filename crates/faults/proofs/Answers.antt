@@ -10,8 +10,8 @@ use Rattle.lines.specs.Grammar.{Line, Typed}
 use Rattle.faults.specs.declared.Scan.{Scan}
 use Rattle.faults.specs.declared.Walk.{Walk}
 use Rattle.faults.specs.declared.Walk.TheVariants.{Start, Broken, Mode, Tests, Then, Operations, End}
-use Rattle.faults.specs.declared.Scanned.{Scanned}
-use Rattle.faults.specs.declared.Scanned.TheVariants.{Good, Bad}
+use Rattle.faults.specs.Checking.{Scanned}
+use Rattle.std.specs.Prelude.{Some, None}
 use Rattle.faults.specs.Checking.{scanned_line, line_read, line_told, typed_told, told_scanned, told_walk}
 
 pub same_walk : {a b : Walk} → told_walk a ≡ told_walk b → a ≡ b
@@ -36,12 +36,12 @@ pub same_scanned : {a b : Scanned} → told_scanned a ≡ told_scanned b → a �
 same_scanned {a} {b} e = sym (back a) ∙ ap scanned_of e ∙ back b
   where
     scanned_of : Told Scan → Scanned
-    scanned_of (tells n []) = Bad
-    scanned_of (tells n (c ∷ cs)) = Good c
+    scanned_of (tells n []) = None
+    scanned_of (tells n (c ∷ cs)) = Some c
 
     back : (a : Scanned) → scanned_of (told_scanned a) ≡ a
-    back (Good c) = refl
-    back Bad = refl
+    back (Some c) = refl
+    back None = refl
 
 module _ (s : List ℕ) (x : Option Typed) where
   pub scan_tells : (r : Scanned) → scanned_line s r ≡ line_read x → line_told s (told_scanned r) ≡ typed_told x
@@ -53,8 +53,8 @@ module _ (s : List ℕ) (x : Option Typed) where
       line_of (some l) = tells 0 (l ∷ [])
 
       by_scan : (r : Scanned) → line_told s (told_scanned r) ≡ line_of (scanned_line s r)
-      by_scan (Good c) = refl
-      by_scan Bad = refl
+      by_scan (Some c) = refl
+      by_scan None = refl
 
       by_read : (x : Option Typed) → line_of (line_read x) ≡ typed_told x
       by_read none = refl
@@ -69,8 +69,8 @@ module _ (s : List ℕ) (x : Option Typed) where
       line_of (tells n (l ∷ ls)) = some l
 
       by_scan : (r : Scanned) → line_of (line_told s (told_scanned r)) ≡ scanned_line s r
-      by_scan (Good c) = refl
-      by_scan Bad = refl
+      by_scan (Some c) = refl
+      by_scan None = refl
 
       by_read : (x : Option Typed) → line_of (typed_told x) ≡ line_read x
       by_read none = refl

@@ -5,15 +5,22 @@ use mathlib.Core.Path.{◌≡◌, refl, ap, ap₂, sym, subst, ◌∙◌}
 use mathlib.Core.Bool.{Bool, true, not, ◌&&◌, ◌||◌, cond}
 use mathlib.Core.List.{List, [], ◌∷◌, ◌++◌}
 use mathlib.Core.Option.{Option, none, some}
+use borrow.Author.Tests.{ne_eqb}
 use lib.Seq.{slice}
+use Rattle.std.specs.Prelude.{Ok, Err}
+use Rattle.word.specs.Told.{tells}
+use Rattle.word.proofs.Tests.{by_eqb}
+use Rattle.lines.specs.declared.ReadError.{ReadError}
+use Rattle.lines.specs.declared.ReadError.TheVariants.{NoWidth, BadLine, BadLabel, TooLong}
 use Rattle.faults.specs.declared.Scan.{Scan}
-use Rattle.faults.specs.declared.Scanned.{Scanned}
-use Rattle.faults.specs.declared.Scanned.TheVariants.{Good, Bad}
+use Rattle.faults.specs.Checking.{Scanned}
+use Rattle.std.specs.Prelude.{Some, None}
 use Rattle.lines.specs.Words.{is_empty, all, any}
 use Rattle.lines.specs.Forms.{is_operation}
 use Rattle.lines.specs.Grammar.{Line, Typed}
 use Rattle.lines.specs.Reading.{read_line}
 use Rattle.lines.specs.Program.{size, row_count, called_in, used, declares, bad_labels, too_long, fault_of}
+use Rattle.lines.specs.Program.{Refusal, told_read, refusal_told}
 use Rattle.faults.specs.Checking.{line_read, operations_at, line_at, scanned_line}
 use Rattle.faults.specs.Places.{lines_in, missing, goes_to_of, size_of}
 use Rattle.lines.proofs.Lists.{none_some, some_same}
@@ -44,7 +51,7 @@ module _ (b : ℕ) (s : List ℕ) where
       subst (λ (m : Line). all (is_operation b) m.operations ≡ true) (some_same f)
       (parts b t.line (spacing b t (line_sound b s t e).typed).line).operations
 
-  pub good_operations : {r : Scanned} {c : Scan} → r ≡ Good c → scanned_line s r ≡ line_read (read_line b s) → all (is_operation b) (operations_at s c) ≡ true
+  pub good_operations : {r : Scanned} {c : Scan} → r ≡ Some c → scanned_line s r ≡ line_read (read_line b s) → all (is_operation b) (operations_at s c) ≡ true
   unfolding scanned_line line_at
   good_operations {r} {c} is e = operations_of (line_at s c) (read_line b s) refl (sym e ∙ ap (scanned_line s) is)
 
@@ -62,11 +69,11 @@ module _ (b : ℕ) (s : List ℕ) where
     fault_none none e = refl
     fault_none (some t) e = absurd (none_some (sym e))
 
-    pub fault_bad : {r : Scanned} → r ≡ Bad → scanned_line s r ≡ line_read (read_line b s) → 23 ≡ fault_of b lent all_of before (read_line b s)
+    pub fault_bad : {r : Scanned} → r ≡ None → scanned_line s r ≡ line_read (read_line b s) → 23 ≡ fault_of b lent all_of before (read_line b s)
     unfolding scanned_line
     fault_bad is e = fault_none (read_line b s) (sym e ∙ ap (scanned_line s) is)
 
-    pub fault_good : {r : Scanned} {c : Scan} → r ≡ Good c → scanned_line s r ≡ line_read (read_line b s) → (count rows : ℕ) → count ≡ row_count before
+    pub fault_good : {r : Scanned} {c : Scan} → r ≡ Some c → scanned_line s r ≡ line_read (read_line b s) → (count rows : ℕ) → count ≡ row_count before
         → rows ≡ size_of (line_read (read_line b s))
         → fault_of b lent all_of before (read_line b s) ≡ cond (bad_labels b all_of before (line_at s c)) 24 (cond (too_long lent (count + rows)) 25 0)
     unfolding scanned_line size_of
@@ -74,3 +81,47 @@ module _ (b : ℕ) (s : List ℕ) where
         let line : line_read (read_line b s) ≡ some (line_at s c) = sym e ∙ ap (scanned_line s) is in
         fault_some (line_at s c) (read_line b s) line
         ∙ ap (λ (n : ℕ). cond (bad_labels b all_of before (line_at s c)) 24 (cond (too_long lent n) 25 0)) (sym (ap₂ ◌+◌ f (g ∙ ap size_of line)))
+
+-- a fault told with its line, or rows told where there is none
+module _ {n : ℕ} (line rows : ℕ) where
+  pub told_bad_line : n ≡ 23 → told_read (Err (BadLine line)) ≡ refusal_told (record { number = n; line = line }) rows
+  unfolding told_read refusal_told
+  told_bad_line e = rw e
+
+  pub told_bad_label : n ≡ 24 → told_read (Err (BadLabel line)) ≡ refusal_told (record { number = n; line = line }) rows
+  unfolding told_read refusal_told
+  told_bad_label e = rw e
+
+  pub told_too_long : n ≡ 25 → told_read (Err (TooLong line)) ≡ refusal_told (record { number = n; line = line }) rows
+  unfolding told_read refusal_told
+  told_too_long e = rw e
+
+pub told_rows : (r : Refusal) {k n : ℕ} → r.number ≡ 0 → k ≡ n → told_read (Ok k) ≡ refusal_told r n
+unfolding told_read refusal_told
+told_rows r e f = rw (e, f)
+
+-- what is told of an error is a refusal, and of rows none
+pub error_refused : (e : ReadError) (r : Refusal) (n : ℕ) → told_read (Err e) ≡ refusal_told r n → r.number ≡ 0 → ⊥
+unfolding told_read refusal_told
+error_refused e r n t z = some e (rw z at t)
+  where
+    some : (e : ReadError) → told_read (Err e) ≡ tells 0 (n ∷ []) → ⊥
+    some NoWidth t = cc
+    some (BadLine line) t = cc
+    some (BadLabel line) t = cc
+    some (TooLong line) t = cc
+
+pub rows_accepted : (k n : ℕ) (r : Refusal) → told_read (Ok k) ≡ refusal_told r n → (r.number ≡ 0) × (k ≡ n)
+unfolding told_read refusal_told
+rows_accepted k n r =
+    by_eqb (λ t. tells 0 (k ∷ []) ≡ cond t (tells 0 (n ∷ [])) (tells r.number (r.line ∷ [])) → (r.number ≡ 0) × (k ≡ n)) r.number 0
+    (λ z t. (z, cc)) (λ some t. let none : 0 ≡ r.number = cc in absurd (some (sym none)))
+
+-- the refusal alone decides what is told of an error
+pub error_stays : (e : ReadError) (r q : Refusal) (n m : ℕ) → told_read (Err e) ≡ refusal_told r n → ((r.number ≡ 0 → ⊥) → r ≡ q)
+    → told_read (Err e) ≡ refusal_told q m
+unfolding refusal_told
+error_stays e r q n m t same_refusal =
+    let bad : r.number ≡ 0 → ⊥ = error_refused e r n t in
+    let other : refusal_told r n ≡ refusal_told r m = rw (ne_eqb r.number 0 bad) in
+    t ∙ other ∙ ap (λ (p : Refusal). refusal_told p m) (same_refusal bad)

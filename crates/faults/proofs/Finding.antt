@@ -4,24 +4,24 @@ use native.Mathlib.Omega.{arith}
 use mathlib.Core.Path.{◌≡◌, refl, ap, sym, subst, ◌∙◌}
 use mathlib.Core.Bool.{Bool, true, false, not, ◌||◌}
 use mathlib.Core.List.{List, [], ◌∷◌, ◌++◌, map}
-use mathlib.Core.Option.{Option}
-use borrow.Author.Tests.{ltb-true, ltb-false}
+use borrow.Author.Tests.{ltb-true, ltb-false, eqb-true}
+use Rattle.std.specs.Prelude.{nat_eq}
+use Rattle.std.specs.List.{IsAnyAnswer}
 use lib.Dec.{ltb}
 use lib.ListN.{length, take, drop, get_or, set, length-append, length-set, get_or-append}
 use lib.Seq.{slice, get_or_at, take-set-le, take-suc-set}
 use Rattle.word.proofs.Tests.{by_test}
 use Rattle.lines.specs.Words.{is_empty, is_label}
-use Rattle.lines.specs.Grammar.{Line, Typed}
 use Rattle.lines.specs.Reading.{cut, read_line}
 use Rattle.lines.specs.Program.{kept_lines, declares}
 use Rattle.faults.specs.declared.Scan.{Scan}
-use Rattle.faults.specs.declared.Scanned.{Scanned}
-use Rattle.faults.specs.declared.Scanned.TheVariants.{Good}
+use Rattle.faults.specs.Checking.{Scanned}
+use Rattle.std.specs.Prelude.{Some}
 use Rattle.faults.specs.Checking.{line_read, scanned_line}
-use Rattle.faults.specs.Places.{line_length, lines_in, missing}
+use Rattle.faults.specs.Places.{lines_in, missing}
 use Rattle.faults.specs.Names.{key_of, Found, Told, LineOf, Kept, Moved}
 use Rattle.lines.proofs.Parts.{part_slice}
-use Rattle.faults.proofs.Texting.{line_inside, cut_from, declares_cons}
+use Rattle.faults.proofs.Texting.{First, left_in, declares_cons}
 use Rattle.faults.proofs.Keys.{key_same}
 use Rattle.faults.proofs.Naming.{line_told_lem}
 
@@ -55,55 +55,54 @@ module _ (b : ℕ) (text : List ℕ) where
   unfolding missing
   found_there found f w is j l e = sym (ap not (f w is j l e))
 
+  pub found_among : (found : List ℕ) (w : List ℕ) (key : ℕ) → IsAnyAnswer (λ y t. nat_eq y key ≡ t) found true → key ≡ key_of w → is_label w ≡ true
+      → Found b text found → false ≡ missing b text w
+  found_among found w key (j, l, at) k is f = found_there found f w is j l (eqb-true (get_or found j 0) key (at 0) ∙ k)
+
   -- a line's label
-  pub line_tells : (s : List ℕ) → LineOf b text s → {r : Scanned} {c : Scan} → r ≡ Good c → scanned_line s r ≡ line_read (read_line b s)
+  pub line_tells : (s : List ℕ) → LineOf b text s → {r : Scanned} {c : Scan} → r ≡ Some c → scanned_line s r ≡ line_read (read_line b s)
       → Told b text (take (c.label - c.from) (drop c.from s))
   line_tells s part {r} {c} is e =
       subst (λ (w : List ℕ). Told b text w) (sym (part_slice c.from c.label s))
       (λ filled. let (label, there) = line_told_lem b s is e filled in (label, part (slice c.from c.label s) there))
 
   -- the lines of the text one after the other
-  abbrev left_from : ℕ → List Line
-  left_from from = kept_lines (map (read_line b) (cut (drop from text)))
-
-  pub record Sifting (n long from m : ℕ) (sought : List ℕ) : Type 0 where
-    pub inside : from ≤ length text
+  pub record Sifting (n long : ℕ) (r : List ℕ) (m : ℕ) (sought : List ℕ) : Type 0 where
     pub few : m ≤ n
     pub size : length sought ≡ long
     pub found : Found b text (take m sought)
-    pub left : (w : List ℕ) → declares (left_from from) w ≡ true → declares (lines_in b text) w ≡ true
+    pub left : (w : List ℕ) → declares (left_in b r) w ≡ true → declares (lines_in b text) w ≡ true
 
-  pub sifting_none : (n : ℕ) (sought : List ℕ) → Sifting n (length sought) 0 0 sought
+  pub sifting_none : (n : ℕ) (sought : List ℕ) {r : List ℕ} → r ≡ text → Sifting n (length sought) r 0 sought
   unfolding lines_in
-  sifting_none n sought =
-      record { inside = omega arith; few = omega arith; size = refl; found = λ w is j l e. absurd (omega arith); left = λ w e. e }
+  sifting_none n sought same_text =
+      record {
+        few = omega arith;
+        size = refl;
+        found = λ w is j l e. absurd (omega arith);
+        left = λ w e. ap (λ (s : List ℕ). declares (left_in b s) w) (sym same_text) ∙ e;
+      }
 
-  module _ {n long from m : ℕ} {sought : List ℕ} (h : Sifting n long from m sought) (to : ℕ) (l : from < length text)
-      (ends : to ≡ from + line_length (drop from text)) where
-    abbrev its : Option Typed
-    its = read_line b (slice from to text)
-
-    here : (w : List ℕ) → (declares (kept_lines (its ∷ [])) w || declares (left_from to) w) ≡ true → declares (lines_in b text) w ≡ true
+  module _ {n long m : ℕ} {r sought : List ℕ} (h : Sifting n long r m sought) {x t : List ℕ} (first : First r x t) where
+    here : (w : List ℕ) → (declares (kept_lines (read_line b x ∷ [])) w || declares (left_in b t) w) ≡ true → declares (lines_in b text) w ≡ true
     here w e = h.left w
-        (ap (λ (ls : List (List ℕ)). declares (kept_lines (map (read_line b) ls)) w) (cut_from text from to l ends)
-        ∙ declares_cons b text w its (map (read_line b) (cut (drop to text))) ∙ e)
+        (ap (λ (ls : List (List ℕ)). declares (kept_lines (map (read_line b) ls)) w) first.cuts
+        ∙ declares_cons w (read_line b x) (map (read_line b) (cut t)) ∙ e)
 
-    line_of : LineOf b text (take (to - from) (drop from text))
-    line_of = subst (λ (s : List ℕ). LineOf b text s) (sym (part_slice from to text)) (λ w e. here w (ap (λ (t : Bool). t || declares (left_from to) w) e))
+    line_of : LineOf b text x
+    line_of w e = here w (ap (λ (u : Bool). u || declares (left_in b t) w) e)
 
-    later : (w : List ℕ) → declares (left_from to) w ≡ true → declares (lines_in b text) w ≡ true
-    later w e = here w (ap (λ (t : Bool). declares (kept_lines (its ∷ [])) w || t) e ∙ or_true (declares (kept_lines (its ∷ [])) w))
+    later : (w : List ℕ) → declares (left_in b t) w ≡ true → declares (lines_in b text) w ≡ true
+    later w e = here w (ap (λ (u : Bool). declares (kept_lines (read_line b x ∷ [])) w || u) e ∙ or_true (declares (kept_lines (read_line b x ∷ [])) w))
       where
         or_true : (t : Bool) → (t || true) ≡ true
         or_true true = refl
         or_true false = refl
 
-    pub sifting_more : {r : ℕ} {after : List ℕ} → m < n → Moved m sought r after
-        → ((t : List ℕ) → LineOf b t (take (to - from) (drop from text)) → Kept b t m sought r after) → Sifting n long to r after
+    pub sifting_more : {k : ℕ} {after : List ℕ} → m < n → Moved m sought k after
+        → ((s : List ℕ) → LineOf b s x → Kept b s m sought k after) → Sifting n long t k after
     sifting_more less moved kept =
-        let inside = line_inside text from to l ends in
         record {
-          inside = inside.1;
           few = omega (arith, moved.few);
           size = moved.long ∙ h.size;
           found = kept text line_of h.found;

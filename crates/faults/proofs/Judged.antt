@@ -1,22 +1,26 @@
 -- The refusal of a text, one line after the other. Assumes nothing.
-use Prim.Native.Nat.{ℕ, suc, ◌+◌, ◌≤◌, ◌<◌}
+use Prim.Native.Nat.{ℕ, suc, ◌+◌, ◌≤◌}
+use Rattle.std.specs.Prelude.{Result, Ok, Err}
+use Rattle.lines.specs.declared.ReadError.{ReadError}
 use native.Mathlib.Omega.{arith}
 use native.Mathlib.Numerals.{add-one}
-use mathlib.Core.Path.{◌≡◌, refl, ap, ap₂, sym, ◌∙◌}
+use mathlib.Core.Path.{◌≡◌, refl, ap, sym, ◌∙◌}
 use mathlib.Core.Bool.{cond}
 use mathlib.Core.List.{List, [], ◌∷◌, ◌++◌, map, append-nil}
 use mathlib.Core.Option.{Option, none, some}
 use borrow.Author.Tests.{ne_eqb, eq-eqb}
 use lib.Dec.{eqb}
 use lib.ListN.{length, take, drop, take-append-drop}
-use lib.Seq.{slice, take-add, drop-drop}
+use lib.Seq.{take-add, drop-drop}
 use Rattle.lines.specs.Grammar.{Line, Typed}
 use Rattle.lines.specs.Reading.{pieces_in, typed_of, read_line, cut, lines_of, read_lines}
 use Rattle.lines.specs.Program.{row_count, kept_lines, fault_of, no_refusal, lowest_fault, refusal_of, program}
+use Rattle.lines.specs.Program.{told_read, refusal_told}
 use Rattle.faults.specs.Checking.{line_read}
-use Rattle.faults.specs.Places.{line_length, size_of, lines_in, lines_before}
+use Rattle.faults.specs.Places.{size_of, lines_in, lines_before, line_judged}
+use Rattle.faults.proofs.Faults.{error_stays, rows_accepted}
 use Rattle.lines.proofs.Accepted.{faultless, fits_both}
-use Rattle.faults.proofs.Texting.{line_inside, cut_from, cut_none, kept_append}
+use Rattle.faults.proofs.Texting.{First, cut_none, kept_append}
 
 -- a line without a fault leaves at most 800 rows
 few_rows : (b lent : ℕ) (every earlier : List Line) (o : Option Typed) → fault_of b lent every earlier o ≡ 0 → row_count (earlier ++ kept_lines (o ∷ [])) ≤ 800
@@ -53,53 +57,51 @@ module _ (b lent : ℕ) (text : List ℕ) where
   abbrev whole : List (Option Typed)
   whole = map (read_line b) (cut text)
 
-  abbrev read_from : ℕ → List (Option Typed)
-  read_from from = map (read_line b) (cut (drop from text))
+  abbrev read_in : List ℕ → List (Option Typed)
+  read_in r = map (read_line b) (cut r)
 
-  pub record Judging (from lines count : ℕ) : Type 0 where
+  pub record Judging (r : List ℕ) (lines count : ℕ) : Type 0 where
     pub filled : length text ≡ 0 → ⊥
-    pub inside : from ≤ length text
-    pub few : lines ≤ from
-    pub left : drop lines whole ≡ read_from from
-    pub rest : lowest_fault b lent (lines_in b text) (lines_before b text lines) (suc lines) (read_from from) ≡ refusal_of b lent text
+    pub few : lines + length r ≤ length text
+    pub left : drop lines whole ≡ read_in r
+    pub rest : lowest_fault b lent (lines_in b text) (lines_before b text lines) (suc lines) (read_in r) ≡ refusal_of b lent text
     pub counted : count ≡ row_count (lines_before b text lines)
     pub small : count ≤ 800
 
-  pub judging_none : (length text ≡ 0 → ⊥) → Judging 0 0 1
+  pub judging_none : {r : List ℕ} → (length text ≡ 0 → ⊥) → r ≡ text → Judging r 0 1
   unfolding refusal_of lines_in lines_before kept_lines row_count
-  judging_none e =
+  judging_none e same_text =
       record {
         filled = e;
-        inside = omega arith;
-        few = omega arith;
-        left = refl;
-        rest = ap (λ (ts : List (Option Typed)). lowest_fault b lent (kept_lines ts) [] 1 ts) (sym (lines_cut b text e));
+        few = let long = ap length same_text in omega arith;
+        left = ap read_in (sym same_text);
+        rest = ap (λ (s : List ℕ). lowest_fault b lent (kept_lines whole) [] 1 (read_in s)) same_text
+            ∙ ap (λ (ts : List (Option Typed)). lowest_fault b lent (kept_lines ts) [] 1 ts) (sym (lines_cut b text e));
         counted = refl;
         small = omega arith;
       }
 
-  module _ {from lines count : ℕ} (h : Judging from lines count) where
-    pub judging_all : length text ≤ from → no_refusal ≡ refusal_of b lent text
+  module _ {r : List ℕ} {lines count : ℕ} (h : Judging r lines count) where
+    pub judging_all : length r ≡ 0 → no_refusal ≡ refusal_of b lent text
     unfolding lowest_fault
     judging_all l =
-        sym (ap (λ (ls : List (List ℕ)). lowest_fault b lent (lines_in b text) (lines_before b text lines) (suc lines) (map (read_line b) ls))
-        (cut_none text from l))
+        sym (ap (λ (ls : List (List ℕ)). lowest_fault b lent (lines_in b text) (lines_before b text lines) (suc lines) (map (read_line b) ls)) (cut_none r l))
         ∙ h.rest
 
-    pub judging_count : length text ≤ from → count ≡ row_count (program b text)
+    pub judging_count : length r ≡ 0 → count ≡ row_count (program b text)
     unfolding lines_before lines_in
     judging_count l =
-        let none_left : drop lines whole ≡ [] = h.left ∙ ap (map (read_line b)) (cut_none text from l) in
+        let none_left : drop lines whole ≡ [] = h.left ∙ ap (map (read_line b)) (cut_none r l) in
         let taken : take lines whole ≡ whole =
         sym (append-nil (take lines whole)) ∙ ap (λ (ts : List (Option Typed)). take lines whole ++ ts) (sym none_left) ∙ take-append-drop lines whole in
         h.counted ∙ ap (λ (ts : List (Option Typed)). row_count (kept_lines ts)) taken ∙ ap row_count (sym (program_lines b text h.filled))
 
-    module _ (to : ℕ) (l : from < length text) (ends : to ≡ from + line_length (drop from text)) where
+    module _ {x t : List ℕ} (first : First r x t) where
       abbrev its : Option Typed
-      its = read_line b (slice from to text)
+      its = read_line b x
 
-      here : read_from from ≡ its ∷ read_from to
-      here = ap (map (read_line b)) (cut_from text from to l ends)
+      here : read_in r ≡ its ∷ read_in t
+      here = ap (map (read_line b)) first.cuts
 
       before_more : lines_before b text (lines + 1) ≡ lines_before b text lines ++ kept_lines (its ∷ [])
       unfolding lines_before
@@ -110,15 +112,24 @@ module _ (b lent : ℕ) (text : List ℕ) where
       abbrev fault : ℕ
       fault = fault_of b lent (lines_in b text) (lines_before b text lines) its
 
-      fault_here : cond (eqb fault 0) (lowest_fault b lent (lines_in b text) (lines_before b text lines ++ kept_lines (its ∷ [])) (suc (suc lines)) (read_from to))
+      fault_here : cond (eqb fault 0) (lowest_fault b lent (lines_in b text) (lines_before b text lines ++ kept_lines (its ∷ [])) (suc (suc lines)) (read_in t))
           (record { number = fault; line = suc lines })
           ≡ refusal_of b lent text
       unfolding lowest_fault
       fault_here = sym (ap (lowest_fault b lent (lines_in b text) (lines_before b text lines) (suc lines)) here) ∙ h.rest
 
-      pub judging_stop : {n : ℕ} → n ≡ fault → (n ≡ 0 → ⊥) → record { number = n; line = lines + 1 } ≡ refusal_of b lent text
-      judging_stop e bad =
-          ap₂ (λ (x y : ℕ). record { number = x; line = y }) e (add-one lines) ∙ (rw (ne_eqb fault 0 (λ z. bad (e ∙ z))) at fault_here)
+      stop : (fault ≡ 0 → ⊥) → record { number = fault; line = lines + 1 } ≡ refusal_of b lent text
+      stop bad = ap (λ (n : ℕ). record { number = fault; line = n }) (add-one lines) ∙ (rw (ne_eqb fault 0 bad) at fault_here)
+
+      -- by what is told of the line
+      abbrev ToldHere : Result ℕ ReadError → Type 0
+      ToldHere a = told_read a ≡ line_judged b lent (lines_in b text) (lines_before b text lines) (lines + 1) its
+
+      pub judging_error : (e : ReadError) → ToldHere (Err e) → told_read (Err e) ≡ refusal_told (refusal_of b lent text) (row_count (program b text))
+      judging_error e told = error_stays e _ _ _ _ told (λ bad. stop bad)
+
+      pub judging_rows : (k : ℕ) → ToldHere (Ok k) → (fault ≡ 0) × (k ≡ size_of (line_read its))
+      judging_rows k told = rows_accepted k _ _ told
 
       module _ (good : fault ≡ 0) where
         counts : row_count (lines_before b text (lines + 1)) ≡ count + size_of (line_read its)
@@ -130,13 +141,13 @@ module _ (b lent : ℕ) (text : List ℕ) where
             let same_count = ap row_count before_more in
             omega (arith, counts)
 
-        pub judging_more : Judging to (lines + 1) (count + size_of (line_read its))
+        pub judging_more : Judging t (lines + 1) (count + size_of (line_read its))
         judging_more =
-            let inside = line_inside text from to l ends in
             let few = h.few in
+            let long = first.long in
+            let some = first.some in
             record {
               filled = h.filled;
-              inside = omega arith;
               few = omega arith;
               left = sym (drop-drop 1 lines whole) ∙ ap (drop 1) (h.left ∙ here);
               rest = rw (before_more, add-one lines) (rw (eq-eqb fault 0 good) at fault_here);

@@ -1,38 +1,74 @@
 -- Labels as numbers: two labels have the same number only if they are the same. Assumes nothing.
-use Prim.Native.Nat.{ℕ, zero, suc, ◌+◌, ◌*◌, ◌≤◌, ◌<◌}
+use Prim.Native.Nat.{ℕ, zero, suc, ◌+◌, ◌*◌, ◌≤◌, ◌<◌, ◌^◌}
 use native.Mathlib.Omega.{arith}
 use mathlib.Core.Path.{◌≡◌, refl, ap, ap₂, sym, subst, ◌∙◌}
 use mathlib.Core.Bool.{true, ◌&&◌, ◌||◌}
 use mathlib.Core.List.{List, [], ◌∷◌}
 use borrow.Author.Tests.{leb-true, lt-ltb, eq-eqb, ne_eqb}
 use lib.Dec.{eqb, leb}
-use lib.ListN.{length, get_or}
+use lib.ListN.{length, drop, get_or, drop_of_length-le}
+use lib.Seq.{drop-cons}
+use Rattle.std.proofs.Math.Nat.{pow-suc}
 use Rattle.word.proofs.Tests.{by_test, and_true}
 use Rattle.character.specs.Character.{digits, number, all_below}
 use Rattle.character.proofs.RoundTrip.{digits_number}
 use Rattle.lines.specs.Words.{same, all, is_name, is_digit, is_letter, is_label}
-use Rattle.lines.specs.Walking.{padded}
 use Rattle.lines.proofs.Lists.{true_false, same_eq, same_refl, all_first, all_others}
 use Rattle.lines.proofs.Lines.{label_parts}
-use Rattle.faults.specs.Names.{key_of}
+use Rattle.faults.specs.Names.{padded, key_of}
 
--- the number of a label by its six bytes
-six_bytes : (w : List ℕ) → padded 6 w ≡ get_or w 0 0 ∷ get_or w 1 0 ∷ get_or w 2 0 ∷ get_or w 3 0 ∷ get_or w 4 0 ∷ get_or w 5 0 ∷ []
+-- the number of a label, one of its six bytes after the other
+padded_long : (n : ℕ) (w : List ℕ) → length (padded n w) ≡ n
 unfolding padded
-six_bytes [] = refl
-six_bytes (a ∷ []) = refl
-six_bytes (a ∷ b ∷ []) = refl
-six_bytes (a ∷ b ∷ c ∷ []) = refl
-six_bytes (a ∷ b ∷ c ∷ d ∷ []) = refl
-six_bytes (a ∷ b ∷ c ∷ d ∷ e ∷ []) = refl
-six_bytes (a ∷ b ∷ c ∷ d ∷ e ∷ f ∷ w) = refl
+padded_long zero w = refl
+padded_long (suc n) [] = ap suc (padded_long n [])
+padded_long (suc n) (x ∷ w) = ap suc (padded_long n w)
 
-pub key_bytes : (w : List ℕ) (a b c d e f : ℕ) → a ≡ get_or w 0 0 → b ≡ get_or w 1 0 → c ≡ get_or w 2 0 → d ≡ get_or w 3 0 → e ≡ get_or w 4 0 → f ≡ get_or w 5 0
-    → ((((a * 256 + b) * 256 + c) * 256 + d) * 256 + e) * 256 + f ≡ key_of w
-unfolding key_of number
-key_bytes w a b c d e f p q r s t u =
-    let bytes : padded 6 w ≡ a ∷ b ∷ c ∷ d ∷ e ∷ f ∷ [] = six_bytes w ∙ sym (rw (p, q, r, s, t, u)) in
-    rw bytes (omega arith)
+padded_at : (n : ℕ) (w : List ℕ) (i : ℕ) → i < n → get_or (padded n w) i 0 ≡ get_or w i 0
+unfolding padded
+padded_at zero w i l = absurd (omega arith)
+padded_at (suc n) [] zero l = refl
+padded_at (suc n) [] (suc i) l = padded_at n [] i (omega arith)
+padded_at (suc n) (x ∷ w) zero l = refl
+padded_at (suc n) (x ∷ w) (suc i) l = padded_at n w i (omega arith)
+
+module _ (w : List ℕ) where
+  pub record Keying (i key : ℕ) : Type 0 where
+    pub few : key < 256 ^ i
+    pub rest : number 256 key (drop i (padded 6 w)) ≡ key_of w
+
+  pub keying_none : Keying 0 0
+  unfolding key_of
+  keying_none = record { few = omega arith; rest = refl }
+
+  module _ {i key : ℕ} (h : Keying i key) where
+    pub keying_small : i < 6 → key < 1099511627776
+    keying_small l = below i key l h.few
+      where
+        below : (i key : ℕ) → i < 6 → key < 256 ^ i → key < 1099511627776
+        below zero key l f = omega arith
+        below (suc zero) key l f = omega arith
+        below (suc (suc zero)) key l f = omega arith
+        below (suc (suc (suc zero))) key l f = omega arith
+        below (suc (suc (suc (suc zero)))) key l f = omega arith
+        below (suc (suc (suc (suc (suc zero))))) key l f = omega arith
+        below (suc (suc (suc (suc (suc (suc i)))))) key l f = absurd (omega arith)
+
+    pub keying_more : i < 6 → (x : ℕ) → x ≡ get_or w i 0 → x < 256 → Keying (i + 1) (key * 256 + x)
+    unfolding number
+    keying_more l x is small =
+        let one : i + 1 ≡ suc i = omega arith in
+        let long = padded_long 6 w in
+        let next : drop i (padded 6 w) ≡ x ∷ drop (suc i) (padded 6 w) =
+        drop-cons (padded 6 w) i 0 (omega arith) ∙ ap (λ (y : ℕ). y ∷ drop (suc i) (padded 6 w)) (padded_at 6 w i l ∙ sym is) in
+        record {
+          few = let less = h.few in let power : 256 ^ (i + 1) ≡ 256 ^ i * 256 = rw one (pow-suc 256 i) in omega arith;
+          rest = rw one (sym (ap (number 256 key) next) ∙ h.rest);
+        }
+
+    pub keying_all : 6 ≤ i → key ≡ key_of w
+    unfolding number
+    keying_all l = let long : length (padded 6 w) ≤ i = omega (arith, padded_long 6 w) in rw (drop_of_length-le (padded 6 w) long) at h.rest
 
 -- a name is neither zero nor above a byte
 name_byte : (x : ℕ) → is_name x ≡ true → (0 < x) × (x < 256)
@@ -52,12 +88,6 @@ unfolding padded all_below all
 padded_below zero w e = refl
 padded_below (suc n) [] e = padded_below n [] e
 padded_below (suc n) (x ∷ w) e = rw (lt-ltb x 256 (name_byte x (all_first is_name x w e)).1) (padded_below n w (all_others is_name x w e))
-
-padded_long : (n : ℕ) (w : List ℕ) → length (padded n w) ≡ n
-unfolding padded
-padded_long zero w = refl
-padded_long (suc n) [] = ap suc (padded_long n [])
-padded_long (suc n) (x ∷ w) = ap suc (padded_long n w)
 
 first_same : {x y : ℕ} {xs ys : List ℕ} → x ∷ xs ≡ y ∷ ys → x ≡ y
 first_same e = cc

@@ -6,7 +6,7 @@ use mathlib.Core.Path.{◌≡◌, refl, ap, ap₂, sym, ◌∙◌}
 use mathlib.Core.Bool.{Bool, true, false, not, ◌||◌, cond}
 use mathlib.Core.List.{List, [], ◌∷◌, ◌++◌}
 use mathlib.Core.Option.{Option, none, some}
-use borrow.Author.Tests.{le-leb, eqb-false, eq-eqb, ne_eqb, not-true, not-false}
+use borrow.Author.Tests.{le-leb, eqb-false}
 use lib.Dec.{eqb, leb}
 use lib.ListN.{length, drop, length-append}
 use lib.Seq.{slice}
@@ -14,6 +14,7 @@ use Rattle.word.proofs.Tests.{by_test, either_way, and_true}
 use Rattle.faults.specs.declared.Scan.{Scan}
 use Rattle.faults.specs.declared.Walk.{Walk}
 use Rattle.faults.specs.declared.Walk.TheVariants.{Start, Broken, Mode, Tests, Then, Operations, End}
+use Rattle.std.specs.Prelude.{Some}
 use Rattle.lines.specs.declared.Spot.TheVariants.{Paren}
 use Rattle.lines.specs.Words.{spelled, same, is_empty, all, mode_words, is_mode, is_done, is_label}
 use Rattle.lines.specs.Forms.{is_test, is_operation}
@@ -269,7 +270,7 @@ module _ (s : List ℕ) where
     word_placed (End c) h = tt
 
   -- a parenthesis after a state
-  module _ (before at close : ℕ) (l : before ≤ at) (m : at < close) (token : token_of s at (Paren close) ≡ token_at (behind is_blank (drop before s))) where
+  module _ (before at close : ℕ) (l : before ≤ at) (m : at < close) (token : token_of s at (Some (Paren close)) ≡ token_at (behind is_blank (drop before s))) where
     abbrev args : List (List ℕ)
     args = split (slice (at + 1) close s)
 
@@ -357,17 +358,12 @@ module _ (s : List ℕ) where
     paren_state b (End c) h e = sym (step_broke b (at_end (line_at s c)) (paren args) refl)
 
 -- a mode word by its place
-module _ (s : List ℕ) (from label at end : ℕ) (other : Walk) {mode : ℕ} (is : mode ≡ place_of (slice at end s) mode_words) where
-  pub mode_other : mode ≡ 5 → other ≡ mode_walk s from label at end other
+module _ (s : List ℕ) (from label at end : ℕ) (other : Walk) where
+  pub mode_other : is_mode (slice at end s) ≡ false → other ≡ mode_walk s from label at end other
   unfolding mode_walk
-  mode_other e =
-      let none : is_mode (slice at end s) ≡ false = not-true (is_mode (slice at end s))
-      (sym (no_mode (slice at end s)) ∙ eq-eqb (place_of (slice at end s) mode_words) 5 (sym is ∙ e)) in
-      rw none
+  mode_other e = rw e
 
-  pub mode_known : (mode ≡ 5 → ⊥) → entered_walk from label mode end ≡ mode_walk s from label at end other
+  pub mode_known : {mode : ℕ} → is_mode (slice at end s) ≡ true → mode ≡ place_of (slice at end s) mode_words
+      → entered_walk from label mode end ≡ mode_walk s from label at end other
   unfolding mode_walk
-  mode_known e =
-      let some : is_mode (slice at end s) ≡ true =
-      not-false (is_mode (slice at end s)) (sym (no_mode (slice at end s)) ∙ ne_eqb (place_of (slice at end s) mode_words) 5 (λ z. e (is ∙ z))) in
-      rw (some, is)
+  mode_known e is = rw (e, is)

@@ -17,7 +17,8 @@ use Rattle.lines.proofs.Lists.{true_false, and_both, all_append}
 use Rattle.lines.proofs.Lines.{label_parts}
 use Rattle.lines.proofs.Tables.{size_pos, count_pos}
 use Rattle.faults.specs.Places.{lines_in, lines_before, missing}
-use Rattle.faults.specs.Names.{key_of, beside, known_row, known_before, capped, label_row, Known, Found, Ready}
+use Rattle.faults.specs.Names.{key_of, beside, known_row, known_before, capped, label_row, has_row, Known, Found}
+use Rattle.faults.specs.declared.Label.{Label}
 use Rattle.faults.proofs.Texting.{kept_append}
 use Rattle.faults.proofs.Naming.{row_from, beside_append, beside_past}
 
@@ -44,10 +45,10 @@ row_before r (l ∷ ls) ms w =
     sum : (x y z : ℕ) → x + (y + z) ≡ x + y + z
     sum x y z = omega arith
 
-known_filled : (keys rows w : List ℕ) → (known_row keys rows w ≡ 0 → ⊥) → is_empty w ≡ false
+known_filled : (labels : List Label) (w : List ℕ) → (known_row labels w ≡ 0 → ⊥) → is_empty w ≡ false
 unfolding known_row is_label
-known_filled keys rows [] some = absurd (some refl)
-known_filled keys rows (x ∷ w) some = refl
+known_filled labels [] some = absurd (some refl)
+known_filled labels (x ∷ w) some = refl
 
 -- a label that some of the first lines declare has a row
 declared_row : (r : ℕ) (ls ms : List Line) (w : List ℕ) → declares ls w ≡ true → row_of (suc r) (ls ++ ms) w ≡ 0 → ⊥
@@ -134,118 +135,102 @@ module _ (b : ℕ) (text w : List ℕ) where
         there is some = some (far (let less = ltb-true (label_row b text w) count (row_tells some ∙ is) in omega arith))
 
     -- a label that lines before declare is one whose row is known and less
-    pub again_is : {keys rows : List ℕ} → Known b text keys rows → count ≤ 800
-        → known_before keys rows count w ≡ (not (is_empty w) && declares (lines_before b text lines) w)
+    pub again_is : {labels : List Label} → Known b text labels → count ≤ 800
+        → known_before labels count w ≡ (not (is_empty w) && declares (lines_before b text lines) w)
     unfolding known_before
-    again_is {keys} {rows} k few =
-        by_eqb (λ t. (not t && ltb (known_row keys rows w) count) ≡ (not (is_empty w) && declares (lines_before b text lines) w)) (known_row keys rows w) 0
+    again_is {labels} k few =
+        by_eqb (λ t. (not t && ltb (known_row labels w) count) ≡ (not (is_empty w) && declares (lines_before b text lines) w)) (known_row labels w) 0
         (λ z. unknown z) (λ some. known some)
       where
-        unknown : known_row keys rows w ≡ 0 → false ≡ (not (is_empty w) && declares (lines_before b text lines) w)
+        unknown : known_row labels w ≡ 0 → false ≡ (not (is_empty w) && declares (lines_before b text lines) w)
         unknown z =
             by_test (λ t. is_empty w ≡ t → false ≡ (not t && declares (lines_before b text lines) w)) (is_empty w) (λ _ _. refl)
             (λ _ f. sym (none_before few (k.near w f z))) refl
 
-        known : (known_row keys rows w ≡ 0 → ⊥) → ltb (known_row keys rows w) count ≡ (not (is_empty w) && declares (lines_before b text lines) w)
+        known : (known_row labels w ≡ 0 → ⊥) → ltb (known_row labels w) count ≡ (not (is_empty w) && declares (lines_before b text lines) w)
         known some =
-            rw (known_filled keys rows w some)
-            (capped_less (known_row keys rows w) (label_row b text w) count few (k.right w some)
-            ∙ row_tells (capped_some (known_row keys rows w) (label_row b text w) some (k.right w some)))
+            rw (known_filled labels w some)
+            (capped_less (known_row labels w) (label_row b text w) count few (k.right w some)
+            ∙ row_tells (capped_some (known_row labels w) (label_row b text w) some (k.right w some)))
 
 -- in a text without a refusal every row is found
-pub ready_row : {b : ℕ} {text keys rows : List ℕ} → Ready b text keys rows → (w : List ℕ) → is_empty w ≡ false → known_row keys rows w ≡ label_row b text w
-ready_row {b} {text} {keys} {rows} r w f =
+pub ready_row : {b : ℕ} {text : List ℕ} {labels : List Label} → Known b text labels → row_count (lines_in b text) ≤ 800 → (w : List ℕ)
+    → is_empty w ≡ false → known_row labels w ≡ label_row b text w
+ready_row {b} {text} {labels} known few w f =
     let below = row_below 1 (lines_in b text) w in
-    let few = r.few in
-    by_eqb (λ _. known_row keys rows w ≡ label_row b text w) (known_row keys rows w) 0 (λ z. z ∙ sym (r.known.near w f z (omega arith)))
-    (λ some. capped_near (known_row keys rows w) (label_row b text w) (omega arith) (r.known.right w some))
+    by_eqb (λ _. known_row labels w ≡ label_row b text w) (known_row labels w) 0 (λ z. z ∙ sym (known.near w f z (omega arith)))
+    (λ some. capped_near (known_row labels w) (label_row b text w) (omega arith) (known.right w some))
 
 -- one label more that lines declare, put after those that are known
-module _ {b : ℕ} {text xs rs : List ℕ} (k : Known b text xs rs) (many : 800 ≤ length xs) (long : length xs ≡ length rs) (key : ℕ)
+module _ {b : ℕ} {text : List ℕ} {xs : List Label} (k : Known b text xs) (many : 800 ≤ length xs) (key : ℕ)
     (there : (w : List ℕ) → is_label w ≡ true → key ≡ key_of w → declares (lines_in b text) w ≡ true) where
-  old : (w : List ℕ) → (known_row xs rs w ≡ 0 → ⊥) → known_row (xs ++ key ∷ []) (rs ++ 801 ∷ []) w ≡ known_row xs rs w
+  abbrev one : Label
+  one = record { key = key; row = 801 }
+
+  old : (w : List ℕ) → (known_row xs w ≡ 0 → ⊥) → known_row (xs ++ one ∷ []) w ≡ known_row xs w
   unfolding known_row
   old w =
-      by_test (λ t. (cond t (beside xs rs (key_of w)) 0 ≡ 0 → ⊥)
-      → cond t (beside (xs ++ key ∷ []) (rs ++ 801 ∷ []) (key_of w)) 0 ≡ cond t (beside xs rs (key_of w)) 0) (is_label w)
-      (λ _ some. beside_append xs (key ∷ []) rs (801 ∷ []) (key_of w) long some) (λ _ _. refl)
+      by_test (λ t. (cond t (beside xs (key_of w)) 0 ≡ 0 → ⊥) → cond t (beside (xs ++ one ∷ []) (key_of w)) 0 ≡ cond t (beside xs (key_of w)) 0) (is_label w)
+      (λ _ some. beside_append xs (one ∷ []) (key_of w) some) (λ _ _. refl)
 
-  still : (w : List ℕ) → known_row (xs ++ key ∷ []) (rs ++ 801 ∷ []) w ≡ 0 → known_row xs rs w ≡ 0
-  still w z = by_eqb (λ _. known_row xs rs w ≡ 0) (known_row xs rs w) 0 (λ e. e) (λ some. absurd (some (sym (old w some) ∙ z)))
+  still : (w : List ℕ) → known_row (xs ++ one ∷ []) w ≡ 0 → known_row xs w ≡ 0
+  still w z = by_eqb (λ _. known_row xs w ≡ 0) (known_row xs w) 0 (λ e. e) (λ some. absurd (some (sym (old w some) ∙ z)))
 
-  far : (w : List ℕ) → is_label w ≡ true → key ≡ key_of w → known_row xs rs w ≡ 0 → 800 < label_row b text w
+  far : (w : List ℕ) → is_label w ≡ true → key ≡ key_of w → known_row xs w ≡ 0 → 800 < label_row b text w
   far w is e z =
       by_leb (λ _. 800 < label_row b text w) (label_row b text w) 800
       (λ l. absurd (declared_some b text w (there w is e) (k.near w (not-true (is_empty w) (label_parts w is).filled) z l))) (λ l. l)
 
-  new : (w : List ℕ) → known_row xs rs w ≡ 0 → (known_row (xs ++ key ∷ []) (rs ++ 801 ∷ []) w ≡ 0 → ⊥)
-      → (800 < label_row b text w) × (known_row (xs ++ key ∷ []) (rs ++ 801 ∷ []) w ≡ 801)
+  new : (w : List ℕ) → known_row xs w ≡ 0 → (known_row (xs ++ one ∷ []) w ≡ 0 → ⊥) → (800 < label_row b text w) × (known_row (xs ++ one ∷ []) w ≡ 801)
   unfolding known_row beside
   new w none =
-      by_test (λ t. is_label w ≡ t → cond t (beside xs rs (key_of w)) 0 ≡ 0 → (cond t (beside (xs ++ key ∷ []) (rs ++ 801 ∷ []) (key_of w)) 0 ≡ 0 → ⊥)
-      → (800 < label_row b text w) × (cond t (beside (xs ++ key ∷ []) (rs ++ 801 ∷ []) (key_of w)) 0 ≡ 801)) (is_label w)
-      (λ _ is z some. by_eqb (λ t. beside (xs ++ key ∷ []) (rs ++ 801 ∷ []) (key_of w) ≡ cond t 801 0
-      → (800 < label_row b text w) × (beside (xs ++ key ∷ []) (rs ++ 801 ∷ []) (key_of w) ≡ 801)) key (key_of w)
-      (λ e f. (far w is e none, f)) (λ _ f. absurd (some f)) (beside_past xs (key ∷ []) rs (801 ∷ []) (key_of w) long k.some z))
+      by_test (λ t. is_label w ≡ t → cond t (beside xs (key_of w)) 0 ≡ 0 → (cond t (beside (xs ++ one ∷ []) (key_of w)) 0 ≡ 0 → ⊥)
+      → (800 < label_row b text w) × (cond t (beside (xs ++ one ∷ []) (key_of w)) 0 ≡ 801)) (is_label w)
+      (λ _ is z some. by_eqb (λ t. beside (xs ++ one ∷ []) (key_of w) ≡ cond t 801 0
+      → (800 < label_row b text w) × (beside (xs ++ one ∷ []) (key_of w) ≡ 801)) key (key_of w)
+      (λ e f. (far w is e none, f)) (λ _ f. absurd (some f)) (beside_past xs (one ∷ []) (key_of w) k.some z))
       (λ _ _ _ some. absurd (some refl)) refl none
 
-  pub known_more : Known b text (xs ++ key ∷ []) (rs ++ 801 ∷ [])
+  pub known_more : Known b text (xs ++ one ∷ [])
   unfolding all
   known_more =
-      let keys_long = length-append xs (key ∷ []) in
-      let rows_long = length-append rs (801 ∷ []) in
+      let long = length-append xs (one ∷ []) in
       record {
-        room = omega arith;
-        right = λ w some. by_eqb (λ _. capped (known_row (xs ++ key ∷ []) (rs ++ 801 ∷ []) w) ≡ capped (label_row b text w)) (known_row xs rs w) 0
+        right = λ w some. by_eqb (λ _. capped (known_row (xs ++ one ∷ []) w) ≡ capped (label_row b text w)) (known_row xs w) 0
             (λ none. let (past, is) = new w none some in ap capped is ∙ capped_far 801 (omega arith) ∙ sym (capped_far (label_row b text w) past))
             (λ found. ap capped (old w found) ∙ k.right w found);
-        some = all_append (ltb 0) rs (801 ∷ []) k.some (and_both (lt-ltb 0 801 (omega arith)) refl);
+        some = all_append has_row xs (one ∷ []) k.some (and_both (lt-ltb 0 801 (omega arith)) refl);
         near = λ w f z small. k.near w f (still w z) small;
         whole = λ few w f z. absurd (omega arith);
       }
 
 -- labels that are found, one after the other
-module _ (n : ℕ) (keys₀ rows₀ found : List ℕ) where
-  pub record Appending (keys rows : List ℕ) (k i : ℕ) : Type 0 where
+module _ (n : ℕ) (labels₀ : List Label) (found : List ℕ) where
+  pub record Appending (labels : List Label) (k i : ℕ) : Type 0 where
     pub many : 800 ≤ k
-    pub most : k ≤ length keys
+    pub most : k ≤ length labels
     pub inside : i ≤ length found
-    pub keys_long : length keys ≡ length keys₀
-    pub rows_long : length rows ≡ length rows₀
-    pub as_long : length keys₀ ≡ length rows₀
-    pub known : (b : ℕ) (text : List ℕ) → Known b text (take n keys₀) (take n rows₀) → Found b text found → Known b text (take k keys) (take k rows)
+    pub long : length labels ≡ length labels₀
+    pub known : (b : ℕ) (text : List ℕ) → Known b text (take n labels₀) → Found b text found → Known b text (take k labels)
 
-  pub appending_none : 800 ≤ n → n ≤ length keys₀ → length keys₀ ≡ length rows₀ → Appending keys₀ rows₀ n 0
-  appending_none many most e = record {
-    many = many;
-    most = most;
-    inside = omega arith;
-    keys_long = refl;
-    rows_long = refl;
-    as_long = e;
-    known = λ b text k f. k;
-  }
+  pub appending_none : 800 ≤ n → n ≤ length labels₀ → Appending labels₀ n 0
+  appending_none many most = record { many = many; most = most; inside = omega arith; long = refl; known = λ b text k f. k }
 
-  pub appending_more : {keys rows : List ℕ} {k i : ℕ} → Appending keys rows k i → k < length keys → i < length found
-      → Appending (set keys k (get_or found i 0)) (set rows k 801) (k + 1) (i + 1)
-  appending_more {keys} {rows} {k} {i} h room l =
+  pub appending_more : {labels : List Label} {k i : ℕ} → Appending labels k i → k < length labels → i < length found
+      → Appending (set labels k (record { key = get_or found i 0; row = 801 })) (k + 1) (i + 1)
+  appending_more {labels} {k} {i} h room l =
       let key = get_or found i 0 in
+      let its : Label = record { key = key; row = 801 } in
       let one : k + 1 ≡ suc k = omega arith in
-      let keys-set = length-set keys k key in
-      let rows-set = length-set rows k 801 in
-      let keys_long = h.keys_long in
-      let rows_long = h.rows_long in
-      let as_long = h.as_long in
+      let is-set = length-set labels k its in
+      let long = h.long in
       let many = h.many in
-      let keys_taken = length-take-le k keys (omega arith) in
-      let rows_taken = length-take-le k rows (omega arith) in
+      let taken = length-take-le k labels (omega arith) in
       record {
         many = omega arith;
         most = omega arith;
         inside = omega arith;
-        keys_long = omega arith;
-        rows_long = omega arith;
-        as_long = as_long;
-        known = λ b text known f. rw (one, take-suc-set keys k key (omega arith), take-suc-set rows k 801 (omega arith))
-            (known_more (h.known b text known f) (omega arith) (omega arith) key (λ w is e. f w is i l e));
+        long = omega arith;
+        known = λ b text known f. rw (one, take-suc-set labels k its (omega arith))
+            (known_more (h.known b text known f) (omega arith) key (λ w is e. f w is i l e));
       }

@@ -1,61 +1,33 @@
 -- The lines of a text by their places, and what is asked of each in turn. Assumes nothing.
-use Prim.Native.Nat.{ℕ, suc, ◌+◌, ◌-◌, ◌≤◌, ◌<◌}
+use Prim.Native.Nat.{ℕ, zero, suc, ◌+◌, ◌-◌, ◌≤◌, ◌<◌, min}
+use denote.Bor.{Bor}
+use Rattle.std.specs.Fn.{Mut, ComputesKey}
+use Rattle.std.specs.List.{IsFirstMatchOrLen}
 use native.Mathlib.Nat.{zero-add}
 use native.Mathlib.Omega.{arith}
 use mathlib.Core.Path.{◌≡◌, refl, ap, ap₂, sym, subst, ◌∙◌}
 use mathlib.Core.Bool.{Bool, true, false, ◌||◌, cond}
 use mathlib.Core.List.{List, [], ◌∷◌, ◌++◌, map}
 use mathlib.Core.Option.{Option, none, some}
-use borrow.Author.Tests.{eq-eqb, ne_eqb}
 use lib.Dec.{eqb}
-use lib.ListN.{length, take, drop, get_or, length-drop, drop_of_length-le}
-use lib.Seq.{slice, drop-cons, drop-drop, take-add, drop_at, length-take-le}
+use lib.ListN.{length, take, drop, length-append}
+use lib.Seq.{slice}
 use Rattle.word.proofs.Tests.{by_test, by_eqb}
-use Rattle.faults.specs.declared.Scanned.{Scanned}
-use Rattle.faults.specs.declared.Scanned.TheVariants.{Good, Bad}
+use Rattle.faults.specs.Checking.{Scanned}
+use Rattle.std.specs.Prelude.{Some, None}
 use Rattle.faults.specs.declared.Scan.{Scan}
 use Rattle.lines.specs.Words.{same, any}
 use Rattle.lines.specs.Grammar.{Line, Typed}
 use Rattle.lines.specs.Reading.{onto, cut, read_line}
 use Rattle.lines.specs.Program.{size, declares, kept_lines, row_count}
 use Rattle.faults.specs.Checking.{line_read, scanned_line, line_at, Placed, PlacedIn}
-use Rattle.faults.specs.Places.{line_length, size_of, lines_in}
+use Rattle.faults.specs.Places.{size_of, lines_in}
 use Rattle.lines.proofs.Parts.{part_slice}
 
--- where a line ends
-module _ (s : List ℕ) where
-  pub record Passing (at i : ℕ) : Type 0 where
-    pub inside : i ≤ length s
-    pub ending : i + line_length (drop i s) ≡ at + line_length (drop at s)
-
-  pub passing_none : (at : ℕ) → at ≤ length s → Passing at at
-  passing_none at h = record { inside = h; ending = refl }
-
-  next_byte : (i : ℕ) → i < length s → (get_or s i 0 ≡ 10 → ⊥) → line_length (drop i s) ≡ suc (line_length (drop (suc i) s))
-  unfolding line_length
-  next_byte i l e = rw (drop-cons s i 0 l, ne_eqb (get_or s i 0) 10 e)
-
-  last_byte : (i : ℕ) → i < length s → get_or s i 0 ≡ 10 → line_length (drop i s) ≡ 1
-  unfolding line_length
-  last_byte i l e = rw (drop-cons s i 0 l, eq-eqb (get_or s i 0) 10 e)
-
-  no_byte : (i : ℕ) → length s ≤ i → line_length (drop i s) ≡ 0
-  unfolding line_length
-  no_byte i l = rw (drop_of_length-le s l)
-
-  module _ {at i : ℕ} (h : Passing at i) where
-    pub passing_more : i < length s → (get_or s i 0 ≡ 10 → ⊥) → Passing at (i + 1)
-    passing_more l e =
-        let one : i + 1 ≡ suc i = omega arith in
-        let next = next_byte i l e in
-        let ending = h.ending in
-        record { inside = omega arith; ending = rw one (omega arith) }
-
-    pub passing_end : i < length s → get_or s i 0 ≡ 10 → i + 1 ≡ at + line_length (drop at s)
-    passing_end l e = let last = last_byte i l e in omega (arith, h.ending)
-
-    pub passing_all : length s ≤ i → i ≡ at + line_length (drop at s)
-    passing_all l = let none = no_byte i l in omega (arith, h.ending)
+-- the length of the first line, its byte 10 with it
+unfoldable line_length : List ℕ → ℕ
+line_length [] = 0
+line_length (x ∷ s) = cond (eqb x 10) 1 (suc (line_length s))
 
 line_short : (s : List ℕ) → line_length s ≤ length s
 unfolding line_length
@@ -76,29 +48,59 @@ cut_step x (y ∷ s) =
     ≡ take (cond t 1 (suc (line_length (y ∷ s)))) (x ∷ y ∷ s) ∷ cut (drop (cond t 1 (suc (line_length (y ∷ s)))) (x ∷ y ∷ s))) x 10
     (λ e. ap (λ (z : ℕ). (z ∷ []) ∷ cut (y ∷ s)) (sym e)) (λ _. ap (onto x) (cut_step y s))
 
-module _ (s : List ℕ) (from to : ℕ) (l : from < length s) (ends : to ≡ from + line_length (drop from s)) where
-  pub line_inside : (from < to) × (to ≤ length s)
-  line_inside =
-      let short = line_short (drop from s) in
-      let some = subst (λ (r : List ℕ). 1 ≤ line_length r) (sym (drop-cons s from 0 l)) (line_some (get_or s from 0) (drop (suc from) s)) in
-      (omega arith, omega (arith, length-drop from s))
+pub cut_filled : (r : List ℕ) → (length r ≡ 0 → ⊥) → 0 < length (cut r)
+cut_filled [] e = absurd (e refl)
+cut_filled (x ∷ r) e = rw (cut_step x r) (omega arith)
 
-  cut_here : (r : List ℕ) → 0 < length r → cut r ≡ take (line_length r) r ∷ cut (drop (line_length r) r)
-  cut_here [] h = absurd (omega arith)
-  cut_here (x ∷ r) h = cut_step x r
+-- a line at the front of what is left of a text, and what is left after it
+pub record First (r x t : List ℕ) : Type 0 where
+  pub some : 0 < length x
+  pub long : length r ≡ length x + length t
+  pub cuts : cut r ≡ x ∷ cut t
 
-  pub cut_from : cut (drop from s) ≡ slice from to s ∷ cut (drop to s)
-  cut_from =
-      let some : 0 < length (drop from s) = omega (arith, length-drop from s) in
-      let n = line_length (drop from s) in
-      let line : slice from to s ≡ take n (drop from s) =
-      rw ends (ap (drop from) (take-add from n s) ∙ drop_at (take from s) (take n (drop from s)) from (length-take-le from s (omega arith))) in
-      let rest : drop to s ≡ drop n (drop from s) = rw ends (sym (drop-drop n from s)) in
-      cut_here (drop from s) some ∙ ap₂ ◌∷◌ (sym line) (ap cut (sym rest))
-
-pub cut_none : (s : List ℕ) (from : ℕ) → length s ≤ from → cut (drop from s) ≡ []
+pub cut_none : (r : List ℕ) → length r ≡ 0 → cut r ≡ []
 unfolding cut
-cut_none s from l = rw (drop_of_length-le s l)
+cut_none [] e = refl
+cut_none (x ∷ r) e = absurd (omega arith)
+
+-- the first byte 10 ends the first line
+line_matched : (r : List ℕ) (i : ℕ) → IsFirstMatchOrLen (λ (x : ℕ). eqb x 10) r i → line_length r ≡ min (i + 1) (length r)
+unfolding line_length
+line_matched [] i m = omega arith
+line_matched (x ∷ r) zero m =
+    let ends : eqb x 10 ≡ true = m.1 (omega arith) 0 in
+    rw ends (omega arith)
+line_matched (x ∷ r) (suc i) m =
+    let goes : eqb x 10 ≡ false = m.0 0 0 (omega arith) (omega arith) in
+    let later = line_matched r i (λ k d l h. m.0 (suc k) d (omega arith) (omega arith), λ l d. m.1 (omega arith) d) in
+    rw goes (omega arith)
+
+pub first_line : {F : Type 0} {g : Mut F (Bor ℕ × Unit {0}) Bool} {f f' : F} {r x t : List ℕ}
+    → ((r ≡ x ++ t) × ((i : ℕ) × (length x ≡ min (i + 1) (length r))
+    × ((p : ℕ → Bool) → ComputesKey g p f → ComputesKey g p f' × IsFirstMatchOrLen p r i)) × (0 < length r))
+    → ComputesKey g (λ (y : ℕ). eqb y 10) f → First r x t
+first_line {F} {g} {f} {f'} {r} {x} {t} steps computes =
+    let (joined, (i, size, by_test), filled) = steps in
+    let matched = line_matched r i (by_test (λ (y : ℕ). eqb y 10) computes).1 in
+    let long : length r ≡ length x + length t = ap length joined ∙ length-append x t in
+    let size_of : line_length r ≡ length x = matched ∙ sym size in
+    record {
+      some = omega arith;
+      long = long;
+      cuts = cut_here r filled ∙ ap₂ ◌∷◌ (ap₂ take size_of joined ∙ take_front x t) (ap cut (ap₂ drop size_of joined ∙ drop_front x t));
+    }
+  where
+    cut_here : (r : List ℕ) → 0 < length r → cut r ≡ take (line_length r) r ∷ cut (drop (line_length r) r)
+    cut_here [] h = absurd (omega arith)
+    cut_here (x ∷ r) h = cut_step x r
+
+    take_front : (x t : List ℕ) → take (length x) (x ++ t) ≡ x
+    take_front [] t = refl
+    take_front (a ∷ x) t = ap (λ (l : List ℕ). a ∷ l) (take_front x t)
+
+    drop_front : (x t : List ℕ) → drop (length x) (x ++ t) ≡ t
+    drop_front [] t = refl
+    drop_front (a ∷ x) t = drop_front x t
 
 -- the lines kept, by the line that each reads as
 unfoldable pub on_line : Option Line → List Line → List Line
@@ -122,7 +124,7 @@ module _ (b : ℕ) (s w : List ℕ) where
   or_right true = refl
   or_right false = refl
 
-  declares_line : (r : Scanned) (c : Scan) → r ≡ Good c → scanned_line s r ≡ line_read (read_line b s)
+  declares_line : (r : Scanned) (c : Scan) → r ≡ Some c → scanned_line s r ≡ line_read (read_line b s)
       → same w (slice c.from c.label s) ≡ declares (kept_lines (read_line b s ∷ [])) w
   unfolding scanned_line line_at declares any on_line kept_lines
   declares_line r c is e =
@@ -130,56 +132,56 @@ module _ (b : ℕ) (s w : List ℕ) where
       sym (ap (λ (ls : List Line). declares ls w) (kept_cons (read_line b s) [] ∙ ap (λ (o : Option Line). on_line o []) line)
       ∙ or_right (same w (slice c.from c.label s)))
 
-  pub declares_part : {r : Scanned} {c : Scan} → r ≡ Good c → scanned_line s r ≡ line_read (read_line b s)
+  pub declares_part : {r : Scanned} {c : Scan} → r ≡ Some c → scanned_line s r ≡ line_read (read_line b s)
       → same w (take (c.label - c.from) (drop c.from s)) ≡ declares (kept_lines (read_line b s ∷ [])) w
   declares_part {r} {c} is e = ap (same w) (part_slice c.from c.label s) ∙ declares_line r c is e
 
-  pub declares_none : (r : Scanned) → r ≡ Bad → scanned_line s r ≡ line_read (read_line b s) → false ≡ declares (kept_lines (read_line b s ∷ [])) w
+  pub declares_none : (r : Scanned) → r ≡ None → scanned_line s r ≡ line_read (read_line b s) → false ≡ declares (kept_lines (read_line b s ∷ [])) w
   unfolding scanned_line declares any on_line kept_lines
   declares_none r is e =
       let line : line_read (read_line b s) ≡ none = sym e ∙ ap (scanned_line s) is in
       sym (ap (λ (ls : List Line). declares ls w) (kept_cons (read_line b s) [] ∙ ap (λ (o : Option Line). on_line o []) line))
 
 -- whether the lines declare a label, one line after the other
+pub declares_cons : (w : List ℕ) (o : Option Typed) (ts : List (Option Typed))
+    → declares (kept_lines (o ∷ ts)) w ≡ (declares (kept_lines (o ∷ [])) w || declares (kept_lines ts) w)
+unfolding declares kept_lines any
+declares_cons w none ts = refl
+declares_cons w (some t) ts = or_assoc (same w t.line.label) (any (λ (l : Line). same w l.label) (kept_lines ts))
+  where
+    or_assoc : (x y : Bool) → (x || y) ≡ ((x || false) || y)
+    or_assoc true y = refl
+    or_assoc false y = refl
+
+-- the lines that are left
+abbrev pub left_in : ℕ → List ℕ → List Line
+left_in b r = kept_lines (map (read_line b) (cut r))
+
 module _ (b : ℕ) (text w : List ℕ) where
-  abbrev left_from : ℕ → List Line
-  left_from from = kept_lines (map (read_line b) (cut (drop from text)))
+  pub record Sought (r : List ℕ) : Type 0 where
+    pub rest : declares (left_in b r) w ≡ declares (lines_in b text) w
 
-  pub record Sought (from : ℕ) : Type 0 where
-    pub inside : from ≤ length text
-    pub rest : declares (left_from from) w ≡ declares (lines_in b text) w
-
-  pub sought_none : Sought 0
+  pub sought_none : {r : List ℕ} → r ≡ text → Sought r
   unfolding lines_in
-  sought_none = record { inside = omega arith; rest = refl }
+  sought_none e = record { rest = ap (λ (s : List ℕ). declares (left_in b s) w) e }
 
-  pub declares_cons : (o : Option Typed) (ts : List (Option Typed))
-      → declares (kept_lines (o ∷ ts)) w ≡ (declares (kept_lines (o ∷ [])) w || declares (kept_lines ts) w)
-  unfolding declares kept_lines any
-  declares_cons none ts = refl
-  declares_cons (some t) ts = or_assoc (same w t.line.label) (any (λ (l : Line). same w l.label) (kept_lines ts))
-    where
-      or_assoc : (x y : Bool) → (x || y) ≡ ((x || false) || y)
-      or_assoc true y = refl
-      or_assoc false y = refl
-
-  module _ {from : ℕ} (h : Sought from) where
-    pub sought_all : length text ≤ from → false ≡ declares (lines_in b text) w
+  module _ {r : List ℕ} (h : Sought r) where
+    pub sought_all : length r ≡ 0 → false ≡ declares (lines_in b text) w
     unfolding declares kept_lines any
-    sought_all l = sym (ap (λ (ls : List (List ℕ)). declares (kept_lines (map (read_line b) ls)) w) (cut_none text from l)) ∙ h.rest
+    sought_all l = sym (ap (λ (ls : List (List ℕ)). declares (kept_lines (map (read_line b) ls)) w) (cut_none r l)) ∙ h.rest
 
-    module _ (to : ℕ) (l : from < length text) (ends : to ≡ from + line_length (drop from text)) where
-      here : (declares (kept_lines (read_line b (slice from to text) ∷ [])) w || declares (left_from to) w) ≡ declares (lines_in b text) w
+    module _ {x t : List ℕ} (first : First r x t) where
+      here : (declares (kept_lines (read_line b x ∷ [])) w || declares (left_in b t) w) ≡ declares (lines_in b text) w
       here =
-          sym (declares_cons (read_line b (slice from to text)) (map (read_line b) (cut (drop to text))))
-          ∙ ap (λ (ls : List (List ℕ)). declares (kept_lines (map (read_line b) ls)) w) (sym (cut_from text from to l ends))
+          sym (declares_cons w (read_line b x) (map (read_line b) (cut t)))
+          ∙ ap (λ (ls : List (List ℕ)). declares (kept_lines (map (read_line b) ls)) w) (sym first.cuts)
           ∙ h.rest
 
-      pub sought_here : declares (kept_lines (read_line b (slice from to text) ∷ [])) w ≡ true → true ≡ declares (lines_in b text) w
+      pub sought_here : declares (kept_lines (read_line b x ∷ [])) w ≡ true → true ≡ declares (lines_in b text) w
       sought_here is = rw is at here
 
-      pub sought_more : declares (kept_lines (read_line b (slice from to text) ∷ [])) w ≡ false → Sought to
-      sought_more is = record { inside = (line_inside text from to l ends).1; rest = rw is at here }
+      pub sought_more : declares (kept_lines (read_line b x ∷ [])) w ≡ false → Sought t
+      sought_more is = record { rest = rw is at here }
 
 pub count_cons : (o : Option Typed) (ts : List (Option Typed)) → row_count (kept_lines (o ∷ ts)) ≡ size_of (line_read o) + row_count (kept_lines ts)
 unfolding row_count kept_lines size_of line_read
@@ -188,7 +190,7 @@ count_cons (some t) ts = refl
 
 -- the rows of a line that was scanned
 module _ (b : ℕ) (s : List ℕ) where
-  pub size_line : {r : Scanned} {c : Scan} → r ≡ Good c → scanned_line s r ≡ line_read (read_line b s) → PlacedIn s r
+  pub size_line : {r : Scanned} {c : Scan} → r ≡ Some c → scanned_line s r ≡ line_read (read_line b s) → PlacedIn s r
       → 1 + c.tests + c.operations ≡ size_of (line_read (read_line b s))
   unfolding scanned_line size_of size line_at
   size_line {r} {c} is e p =
@@ -198,6 +200,6 @@ module _ (b : ℕ) (s : List ℕ) where
       let operations = placed.counted.operations in
       ap₂ (λ (n m : ℕ). 1 + n + m) (sym tests) (sym operations) ∙ sym (ap size_of line)
 
-  pub size_none : {r : Scanned} → r ≡ Bad → scanned_line s r ≡ line_read (read_line b s) → 0 ≡ size_of (line_read (read_line b s))
+  pub size_none : {r : Scanned} → r ≡ None → scanned_line s r ≡ line_read (read_line b s) → 0 ≡ size_of (line_read (read_line b s))
   unfolding scanned_line size_of
   size_none {r} is e = sym (ap size_of (sym e ∙ ap (scanned_line s) is))

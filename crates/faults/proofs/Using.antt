@@ -5,33 +5,33 @@ use native.Mathlib.Omega.{arith}
 use mathlib.Core.Path.{◌≡◌, refl, ap, ap₂, sym, subst, ◌∙◌}
 use mathlib.Core.Bool.{Bool, true, false, ◌||◌}
 use mathlib.Core.List.{List, [], ◌∷◌, ◌++◌}
-use mathlib.Core.Option.{none}
-use borrow.Author.Tests.{ne_eqb, lt-leb}
+use borrow.Author.Tests.{lt-leb}
 use lib.ListN.{length, drop}
 use lib.Seq.{slice}
 use Rattle.lines.specs.declared.Spot.{Spot}
-use Rattle.lines.specs.declared.Spot.TheVariants.{Word, Paren, Nothing}
+use Rattle.lines.specs.declared.Spot.TheVariants.{Word, Paren}
+use Rattle.std.specs.Prelude.{Option, Some, None}
 use Rattle.lines.specs.Words.{is_empty, all, any, is_done}
 use Rattle.lines.specs.Forms.{is_operation}
 use Rattle.lines.specs.Reading.{front, is_blank, split, token_at}
 use Rattle.lines.specs.Program.{called_in, too_long}
 use Rattle.lines.specs.Walking.{token_of, Within, told_spot, spot_told}
 use Rattle.faults.specs.Checking.{parens_on, parens_next, parens_in}
-use Rattle.lines.specs.Walking.{calls_in, calls_at}
-use Rattle.faults.specs.Places.{close_of, goes_to_of}
+use Rattle.lines.specs.Walking.{calls_in}
+use Rattle.faults.specs.Places.{goes_to_of}
 use Rattle.lines.proofs.Lists.{all_first, all_others}
 use Rattle.lines.proofs.Scanning.{drop_behind, end_inside}
 use Rattle.lines.proofs.Telling.{spot_is}
 
--- a call by its place
-module _ (p : List ℕ → Bool) (s : List ℕ) (n : ℕ) (calls : List (List ℕ)) (e : calls_at s n ≡ calls) where
-  pub no_call : n ≡ 0 → false ≡ any p calls
-  unfolding calls_at any
-  no_call z = ap (any p) (rw z at e)
+-- what an operation calls: nothing, or one label
+module _ (p : List ℕ → Bool) where
+  pub no_call : {calls : List (List ℕ)} → [] ≡ calls → false ≡ any p calls
+  unfolding any
+  no_call e = ap (any p) e
 
-  pub one_call : (n ≡ 0 → ⊥) → p (drop n s) ≡ any p calls
-  unfolding calls_at any
-  one_call z = sym (or_right (p (drop n s))) ∙ ap (any p) (rw (ne_eqb n 0 z) at e)
+  pub one_call : {w : List ℕ} {calls : List (List ℕ)} → w ∷ [] ≡ calls → p w ≡ any p calls
+  unfolding any
+  one_call {w} e = sym (or_right (p w)) ∙ ap (any p) e
     where
       or_right : (t : Bool) → (t || false) ≡ t
       or_right true = refl
@@ -73,27 +73,44 @@ module _ (q : List (List ℕ) → Bool) (s : List ℕ) where
       pub closes : close < length s
       pub found : parens_in left (drop at s) ≡ split (slice (start + 1) close s) ∷ parens_in (left - 1) (drop (close + 1) s)
 
-    next_token : (spot : Spot) → token_of s start spot ≡ token_at (drop start s)
+    next_token : (spot : Option Spot) → token_of s start spot ≡ token_at (drop start s)
         → parens_in left (drop at s) ≡ parens_next (parens_in (left - 1)) (token_of s start spot)
     unfolding parens_in
     next_token spot t =
         ap (λ (n : ℕ). parens_in n (drop at s)) one_less
         ∙ ap (parens_next (parens_in (left - 1))) (ap token_at (sym (rw begins (drop_behind is_blank s at))) ∙ sym t)
 
-    paren_here : (spot : Spot) → token_of s start spot ≡ token_at (drop start s) → Within s start spot → Here (close_of spot)
-    unfolding token_of close_of parens_next parens_on
-    paren_here Nothing t i = let none = ap length (next_token Nothing t) in let whole = h.whole in absurd (omega arith)
-    paren_here (Word end) t i = let none = ap length (next_token (Word end) t) in let whole = h.whole in absurd (omega arith)
-    paren_here (Paren close) t i =
+    -- the token is a parenthesis
+    paren_here : (spot : Option Spot) → token_of s start spot ≡ token_at (drop start s) → Within s start spot
+        → (close : ℕ) × ((spot ≡ Some (Paren close)) × Here close)
+    unfolding token_of parens_next parens_on
+    paren_here None t i = let none = ap length (next_token None t) in let whole = h.whole in absurd (omega arith)
+    paren_here (Some (Word end)) t i = let none = ap length (next_token (Some (Word end)) t) in let whole = h.whole in absurd (omega arith)
+    paren_here (Some (Paren close)) t i = (
+      close,
+      (
+        refl,
         record {
           opens = i.0;
           closes = i.1;
-          found = next_token (Paren close) t
+          found = next_token (Some (Paren close)) t
               ∙ ap₂ (λ (n m : ℕ). split (slice n close s) ∷ parens_in (left - 1) (drop m s)) (sym (add-one start)) (sym (add-one close));
-        }
+        },
+      ),
+    )
 
-    pub parens_close : {close : ℕ} (spot : Spot) → close ≡ close_of spot → told_spot spot ≡ spot_told s (token_at (drop start s)) → Here close
-    parens_close spot e told = let (t, i) = spot_is s start spot told in subst (λ (n : ℕ). Here n) (sym e) (paren_here spot t i)
+    pub parens_only : (spot : Option Spot) → told_spot spot ≡ spot_told s (token_at (drop start s)) → ((close : ℕ) → spot ≡ Some (Paren close) → ⊥) → ⊥
+    parens_only spot told other =
+        let (t, i) = spot_is s start spot told in
+        let (close, (is, k)) = paren_here spot t i in
+        other close is
+
+    pub parens_close : {close : ℕ} → told_spot (Some (Paren close)) ≡ spot_told s (token_at (drop start s)) → Here close
+    parens_close {close} told =
+        let (t, i) = spot_is s start (Some (Paren close)) told in
+        let (to, (is, k)) = paren_here (Some (Paren close)) t i in
+        let same_close : close ≡ to = cc in
+        subst (λ (n : ℕ). Here n) (sym same_close) k
 
     module _ {close : ℕ} (k : Here close) where
       pub parens_first : q (split (slice (start + 1) close s)) ≡ true

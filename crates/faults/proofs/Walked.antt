@@ -15,10 +15,10 @@ use Rattle.word.proofs.Tests.{by_eqb, either_way, and_false}
 use Rattle.faults.specs.declared.Scan.{Scan}
 use Rattle.faults.specs.declared.Walk.{Walk}
 use Rattle.faults.specs.declared.Walk.TheVariants.{Start, Broken, Mode, Tests, Then, Operations, End}
-use Rattle.faults.specs.declared.Scanned.{Scanned}
-use Rattle.faults.specs.declared.Scanned.TheVariants.{Good, Bad}
+use Rattle.faults.specs.Checking.{Scanned}
+use Rattle.std.specs.Prelude.{Some, None}
 use Rattle.lines.specs.declared.Spot.{Spot}
-use Rattle.lines.specs.declared.Spot.TheVariants.{Word, Paren, Nothing}
+use Rattle.lines.specs.declared.Spot.TheVariants.{Word, Paren}
 use Rattle.lines.specs.Words.{same, is_empty}
 use Rattle.lines.specs.Grammar.{Line, word, paren}
 use Rattle.lines.specs.Reading.{front, behind, is_blank, split, token_at, read_line}
@@ -26,9 +26,9 @@ use Rattle.lines.specs.Walking.{token_of, Within, State, at_start, finished}
 use Rattle.faults.specs.Checking.{so_far, proper, enough, only_if, line_from, in_column, line_read, parens_in, tests_at}
 use Rattle.faults.specs.Checking.{operations_at, line_at, scanned_line, state_at}
 use Rattle.faults.specs.Checking.{Placed, PlacedAt, PlacedIn, then_scan, go_scan, word_walk}
-use Rattle.faults.specs.Checking.{paren_walk, spot_walk, place_after, is_nothing, Few}
+use Rattle.faults.specs.Checking.{paren_walk, spot_walk, place_after, Few}
 use Rattle.faults.specs.Checking.{enough_at, column_at, end_scan, finish_walk}
-use Rattle.lines.proofs.Lists.{true_false, same_eq}
+use Rattle.lines.proofs.Lists.{same_eq}
 use Rattle.lines.proofs.Literals.{and_right}
 use Rattle.lines.proofs.Scanning.{drop_behind, end_inside}
 use Rattle.faults.proofs.Checked.{nothing_bad, checked_good}
@@ -36,7 +36,7 @@ use Rattle.faults.proofs.Onward.{pieces_of, line_last, line_none, line_more, rea
 use Rattle.faults.proofs.Taking.{word_state, word_placed, paren_state, paren_placed}
 
 paren_found : (s : List ℕ) (at close : ℕ)
-    → token_of s at (Paren close) ≡ some (record { token = paren (split (slice (at + 1) close s)); rest = drop (close + 1) s })
+    → token_of s at (Some (Paren close)) ≡ some (record { token = paren (split (slice (at + 1) close s)); rest = drop (close + 1) s })
 unfolding token_of
 paren_found s at close = rw (add-one at, add-one close)
 
@@ -81,16 +81,14 @@ module _ (b : ℕ) (s : List ℕ) where
     blanks_passed = rw begins (drop_behind is_blank s at)
 
     module _ (other : same (drop at s) (10 ∷ []) ≡ false) where
-      pub walked_bad : (spot : Spot) → is_nothing spot ≡ true → token_of s start spot ≡ token_at (drop start s) → none ≡ line_from b at_start (pieces_of s)
-      unfolding is_nothing token_of
-      walked_bad Nothing z t = sym (line_none b (state_at s k) (drop at s) other (ap token_at (sym blanks_passed) ∙ sym t)) ∙ h.rest
-      walked_bad (Word end) z t = absurd (true_false z refl)
-      walked_bad (Paren close) z t = absurd (true_false z refl)
+      pub walked_bad : token_of s start None ≡ token_at (drop start s) → none ≡ line_from b at_start (pieces_of s)
+      unfolding token_of
+      walked_bad t = sym (line_none b (state_at s k) (drop at s) other (ap token_at (sym blanks_passed) ∙ sym t)) ∙ h.rest
 
       shorter : (end : ℕ) → at < end → end ≤ length s → length (drop end s) < length (drop at s)
       shorter end l m = let one = length-drop end s in let two = length-drop at s in omega arith
 
-      word_taken : (end : ℕ) → token_of s start (Word end) ≡ token_at (drop start s) → (start < end) × (end ≤ length s) → Walked end (word_walk s k start end)
+      word_taken : (end : ℕ) → token_of s start (Some (Word end)) ≡ token_at (drop start s) → (start < end) × (end ≤ length s) → Walked end (word_walk s k start end)
       unfolding token_of
       word_taken end t (l, m) =
           let from = starts in
@@ -106,7 +104,7 @@ module _ (b : ℕ) (s : List ℕ) where
                 ∙ h.rest;
           }
 
-      paren_taken : (close : ℕ) → token_of s start (Paren close) ≡ token_at (drop start s) → (start < close) × (close < length s)
+      paren_taken : (close : ℕ) → token_of s start (Some (Paren close)) ≡ token_at (drop start s) → (start < close) × (close < length s)
           → Walked (close + 1) (paren_walk s b k start close)
       paren_taken close t (l, m) =
           let from = starts in
@@ -123,18 +121,16 @@ module _ (b : ℕ) (s : List ℕ) where
                 ∙ h.rest;
           }
 
-      pub walked_more : (spot : Spot) → is_nothing spot ≡ false → token_of s start spot ≡ token_at (drop start s) → Within s start spot
+      pub walked_more : (spot : Spot) → token_of s start (Some spot) ≡ token_at (drop start s) → Within s start (Some spot)
           → Walked (place_after spot) (spot_walk s b k start spot)
-      unfolding is_nothing place_after spot_walk
-      walked_more Nothing z t i = absurd (true_false refl z)
-      walked_more (Word end) z t i = word_taken end t i
-      walked_more (Paren close) z t i = paren_taken close t i
+      unfolding place_after spot_walk
+      walked_more (Word end) t i = word_taken end t i
+      walked_more (Paren close) t i = paren_taken close t i
 
-      pub place_later : (spot : Spot) → is_nothing spot ≡ false → Within s start spot → at < place_after spot
-      unfolding is_nothing place_after
-      place_later Nothing z i = absurd (true_false refl z)
-      place_later (Word end) z i = let from = starts in omega arith
-      place_later (Paren close) z i = let from = starts in omega arith
+      pub place_later : (spot : Spot) → Within s start (Some spot) → at < place_after spot
+      unfolding place_after
+      place_later (Word end) i = let from = starts in omega arith
+      place_later (Paren close) i = let from = starts in omega arith
 
   -- the line where a walk ends
   enough_at_lem : (c : Scan) → Placed s c → enough (line_at s c) ≡ enough_at c
@@ -149,7 +145,7 @@ module _ (b : ℕ) (s : List ℕ) where
   unfolding in_column column_at line_at
   column_at_lem c h = rw (empty_slice s c.from c.label h.counted.label)
 
-  scanned_cond : (t u : Bool) (c : Scan) → scanned_line s (cond (t && u) (Good c) Bad) ≡ cond t (cond u (some (line_at s c)) none) none
+  scanned_cond : (t u : Bool) (c : Scan) → scanned_line s (cond (t && u) (Some c) None) ≡ cond t (cond u (some (line_at s c)) none) none
   unfolding scanned_line
   scanned_cond true true c = refl
   scanned_cond true false c = refl
@@ -209,7 +205,7 @@ module _ (b : ℕ) (s : List ℕ) where
   unfolding only_if
   bad_column = refl
 
-  pub walked_none_left : none ≡ line_from b at_start (pieces_of s) → scanned_line s Bad ≡ line_read (read_line b s)
+  pub walked_none_left : none ≡ line_from b at_start (pieces_of s) → scanned_line s None ≡ line_read (read_line b s)
   unfolding scanned_line
   walked_none_left e = sym bad_column ∙ ap (only_if (in_column s)) e ∙ sym (read_line_lem b s)
 

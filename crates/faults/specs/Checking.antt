@@ -1,16 +1,15 @@
 -- A line read token by token, with what the grammar asks tested on the way, and the parts of a line by their places.
 -- `proofs/Checked.antt` has that the lines so read are those of `read_line`. Assumes nothing.
-use Rattle.std.specs.Prelude.{ℕ, zero, suc, ◌+◌, ◌≤◌, ◌<◌, ◌≡◌, Bool, true, false, not, ◌&&◌, ◌||◌, cond, List, [], ◌∷◌, map, eqb, leb, length, drop}
+use Rattle.std.specs.Prelude.{ℕ, zero, suc, ◌+◌, ◌≤◌, ◌<◌, ◌≡◌, Bool, not, ◌&&◌, ◌||◌, cond, List, [], ◌∷◌, map, eqb, leb, length, drop}
+use Rattle.std.specs.Prelude.{Some, None, Option as RustOption}
 use Rattle.std.proofs.Math.Option.{Option, none, some}
 use Rattle.std.proofs.Math.Seq.{slice}
 use Rattle.word.specs.Told.{Told, tells, gives, refuses}
 use Rattle.faults.specs.declared.Scan.{Scan}
 use Rattle.faults.specs.declared.Walk.{Walk}
 use Rattle.faults.specs.declared.Walk.TheVariants.{Start, Broken, Mode, Tests, Then, Operations, End}
-use Rattle.faults.specs.declared.Scanned.{Scanned}
-use Rattle.faults.specs.declared.Scanned.TheVariants.{Good, Bad}
 use Rattle.lines.specs.declared.Spot.{Spot}
-use Rattle.lines.specs.declared.Spot.TheVariants.{Word, Paren, Nothing}
+use Rattle.lines.specs.declared.Spot.TheVariants.{Word, Paren}
 use Rattle.lines.specs.Words.{spelled, same, is_empty, all, mode_words, is_mode, is_done, is_label}
 use Rattle.lines.specs.Forms.{is_test, is_operation}
 use Rattle.lines.specs.Grammar.{Line, Token, word, paren, Piece, Typed}
@@ -71,10 +70,14 @@ unfoldable pub typed_told : Option Typed → Told Line
 typed_told none = refuses 23
 typed_told (some t) = gives t.line
 
+-- what scanning a line answers: the places of its parts, or none where the line breaks the grammar
+abbrev pub Scanned : Type 0
+Scanned = RustOption Scan
+
 -- a scan in numbers: 0 and the places of the line's parts, or 23
 abbrev pub told_scanned : Scanned → Told Scan
-told_scanned (Good c) = gives c
-told_scanned Bad = refuses 23
+told_scanned (Some c) = gives c
+told_scanned None = refuses 23
 
 -- how far a line is read in numbers: 0, how far and the places so far, or 23 where it is broken. The papers give the steps no
 -- numbers: they are 1 to 5
@@ -127,8 +130,8 @@ module _ (s : List ℕ) where
       }
 
   unfoldable pub scanned_line : Scanned → Option Line
-  scanned_line Bad = none
-  scanned_line (Good c) = some (line_at c)
+  scanned_line None = none
+  scanned_line (Some c) = some (line_at c)
 
   -- what is told of the line at the places that are told
   unfoldable pub line_told : Told Scan → Told Line
@@ -283,20 +286,13 @@ module _ (s : List ℕ) where
   paren_walk b (End c) at close = Broken
 
   unfoldable pub spot_walk : ℕ → Walk → ℕ → Spot → Walk
-  spot_walk b w at Nothing = Broken
   spot_walk b w at (Word end) = word_walk w at end
   spot_walk b w at (Paren close) = paren_walk b w at close
 
 -- the place after a token
 unfoldable pub place_after : Spot → ℕ
-place_after Nothing = 0
 place_after (Word end) = end
 place_after (Paren close) = close + 1
-
-unfoldable pub is_nothing : Spot → Bool
-is_nothing Nothing = true
-is_nothing (Word end) = false
-is_nothing (Paren close) = false
 
 -- counts that one more fits
 abbrev pub Few : Walk → ℕ → Type 0
@@ -317,13 +313,13 @@ unfoldable pub column_at : List ℕ → Scan → Bool
 column_at s c = cond (eqb c.from c.label) (leb 1 (length (front is_blank s))) (eqb (length (front is_blank s)) 0)
 
 unfoldable pub end_scan : List ℕ → Scan → Scanned
-end_scan s c = cond (enough_at c && column_at s c) (Good c) Bad
+end_scan s c = cond (enough_at c && column_at s c) (Some c) None
 
 unfoldable pub finish_walk : List ℕ → Walk → Scanned
-finish_walk s Start = Bad
-finish_walk s Broken = Bad
-finish_walk s (Mode c) = Bad
+finish_walk s Start = None
+finish_walk s Broken = None
+finish_walk s (Mode c) = None
 finish_walk s (Tests c) = end_scan s (then_scan c 0)
-finish_walk s (Then c) = Bad
+finish_walk s (Then c) = None
 finish_walk s (Operations c) = end_scan s (go_scan c 0 0)
 finish_walk s (End c) = end_scan s c

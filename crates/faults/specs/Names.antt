@@ -1,35 +1,45 @@
 -- Labels kept as numbers beside the rows of the lines that declare them, so that the text need not be searched for each use.
 -- Assumes nothing.
-use Rattle.std.specs.Prelude.{ℕ, suc, ◌+◌, ◌≤◌, ◌<◌, ◌≡◌, Bool, true, false, not, ◌&&◌, cond, List, [], ◌∷◌, ◌++◌, eqb, leb, ltb, length, take, drop, get_or}
+use Rattle.std.specs.Prelude.{ℕ, zero, suc, ◌+◌, ◌≤◌, ◌<◌, ◌≡◌, Bool, true, false, not, ◌&&◌, cond, List, [], ◌∷◌, ◌++◌, eqb, leb, ltb, length, take, get_or}
 use Rattle.character.specs.Character.{number}
 use Rattle.lines.specs.Words.{is_empty, all, is_label}
 use Rattle.lines.specs.Grammar.{Line}
 use Rattle.lines.specs.Reading.{read_line}
-use Rattle.lines.specs.Program.{size, row_of, row_count, kept_lines, declares}
-use Rattle.lines.specs.Walking.{padded}
+use Rattle.lines.specs.Program.{size, row_of, kept_lines, declares}
+use Rattle.faults.specs.declared.Label.{Label}
 use Rattle.faults.specs.declared.Noted.{Noted}
 use Rattle.faults.specs.Checking.{line_read}
 use Rattle.faults.specs.Places.{lines_in, size_of}
+
+-- numbers, as many as are asked for: filled up with zeros, or cut
+unfoldable pub padded : ℕ → List ℕ → List ℕ
+padded zero xs = []
+padded (suc n) [] = 0 ∷ padded n []
+padded (suc n) (x ∷ xs) = x ∷ padded n xs
 
 -- a label as a number: its bytes in base 256, filled up to six with zeros
 unfoldable pub key_of : List ℕ → ℕ
 key_of w = number 256 0 (padded 6 w)
 
 -- the row beside the first number that is the one sought, 0 where there is none
-unfoldable pub beside : List ℕ → List ℕ → ℕ → ℕ
-beside [] rows key = 0
-beside (x ∷ xs) rows key = cond (eqb x key) (get_or rows 0 0) (beside xs (drop 1 rows) key)
+unfoldable pub beside : List Label → ℕ → ℕ
+beside [] key = 0
+beside (l ∷ ls) key = cond (eqb l.key key) l.row (beside ls key)
 
-unfoldable pub known_row : List ℕ → List ℕ → List ℕ → ℕ
-known_row keys rows w = cond (is_label w) (beside keys rows (key_of w)) 0
+unfoldable pub known_row : List Label → List ℕ → ℕ
+known_row labels w = cond (is_label w) (beside labels (key_of w)) 0
 
 -- the row of a label in a text
 abbrev pub label_row : ℕ → List ℕ → List ℕ → ℕ
 label_row b text w = row_of 1 (lines_in b text) w
 
 -- a label whose row is known and less than a number of rows
-unfoldable pub known_before : List ℕ → List ℕ → ℕ → List ℕ → Bool
-known_before keys rows count w = not (eqb (known_row keys rows w) 0) && ltb (known_row keys rows w) count
+unfoldable pub known_before : List Label → ℕ → List ℕ → Bool
+known_before labels count w = not (eqb (known_row labels w) 0) && ltb (known_row labels w) count
+
+-- whether a label has a row
+abbrev pub has_row : Label → Bool
+has_row l = ltb 0 l.row
 
 -- a row up to 800, 801 for any past it
 unfoldable pub capped : ℕ → ℕ
@@ -37,12 +47,11 @@ capped r = cond (leb r 800) r 801
 
 -- a row that is found is the label's, as far as 800; a label without one has no row up to 800, and none at all where fewer than 800
 -- are put by
-pub record Known (b : ℕ) (text keys rows : List ℕ) : Type 0 where
-  pub room : length keys ≤ length rows
-  pub right : (w : List ℕ) → (known_row keys rows w ≡ 0 → ⊥) → capped (known_row keys rows w) ≡ capped (label_row b text w)
-  pub some : all (ltb 0) rows ≡ true
-  pub near : (w : List ℕ) → is_empty w ≡ false → known_row keys rows w ≡ 0 → label_row b text w ≤ 800 → label_row b text w ≡ 0
-  pub whole : length keys < 800 → (w : List ℕ) → is_empty w ≡ false → known_row keys rows w ≡ 0 → label_row b text w ≡ 0
+pub record Known (b : ℕ) (text : List ℕ) (labels : List Label) : Type 0 where
+  pub right : (w : List ℕ) → (known_row labels w ≡ 0 → ⊥) → capped (known_row labels w) ≡ capped (label_row b text w)
+  pub some : all has_row labels ≡ true
+  pub near : (w : List ℕ) → is_empty w ≡ false → known_row labels w ≡ 0 → label_row b text w ≤ 800 → label_row b text w ≡ 0
+  pub whole : length labels < 800 → (w : List ℕ) → is_empty w ≡ false → known_row labels w ≡ 0 → label_row b text w ≡ 0
 
 -- numbers of labels that lines declare
 abbrev pub Found : ℕ → List ℕ → List ℕ → Type 0
@@ -64,38 +73,24 @@ Told b text w = is_empty w ≡ false → (is_label w ≡ true) × (declares (lin
 abbrev pub LineOf : ℕ → List ℕ → List ℕ → Type 0
 LineOf b text s = (w : List ℕ) → declares (kept_lines (read_line b s ∷ [])) w ≡ true → declares (lines_in b text) w ≡ true
 
--- what looking up a label asks for in a text without a refusal
-pub record Ready (b : ℕ) (text keys rows : List ℕ) : Type 0 where
-  pub width : b ≤ 48
-  pub known : Known b text keys rows
-  pub few : row_count (lines_in b text) ≤ 800
+-- the labels that lines declare, each beside the row of its line, given from r on
+unfoldable pub noted : List ℕ → ℕ → List Label
+noted w row = cond (is_empty w) [] (record { key = key_of w; row = row } ∷ [])
 
--- the numbers of the labels that lines declare, and the rows of these lines, given from r on
-unfoldable pub noted : List ℕ → ℕ → List ℕ
-noted w x = cond (is_empty w) [] (x ∷ [])
+unfoldable pub labels_of : ℕ → List Line → List Label
+labels_of r [] = []
+labels_of r (l ∷ ls) = noted l.label r ++ labels_of (r + size l) ls
 
-unfoldable pub keys_of : List Line → List ℕ
-keys_of [] = []
-keys_of (l ∷ ls) = noted l.label (key_of l.label) ++ keys_of ls
-
-unfoldable pub rows_of : ℕ → List Line → List ℕ
-rows_of r [] = []
-rows_of r (l ∷ ls) = noted l.label r ++ rows_of (r + size l) ls
-
--- a label put after the first n of both lists
-pub record Put (n : ℕ) (w : List ℕ) (row : ℕ) (keys rows keysAfter rows_after : List ℕ) (count : ℕ) : Type 0 where
-  pub keys_put : take count keysAfter ≡ take n keys ++ noted w (key_of w)
-  pub rows_put : take count rows_after ≡ take n rows ++ noted w row
-  pub keys_long : length keysAfter ≡ length keys
-  pub rows_long : length rows_after ≡ length rows
+-- a label put after the first n
+pub record Put (n : ℕ) (w : List ℕ) (row : ℕ) (labels after : List Label) (count : ℕ) : Type 0 where
+  pub put : take count after ≡ take n labels ++ noted w row
+  pub long : length after ≡ length labels
   pub few : count ≤ suc n
 
 -- a line's label put there: `before` rows stand before the line
-pub record PutLine (b : ℕ) (s : List ℕ) (n before : ℕ) (keys rows keysAfter rows_after : List ℕ) (r : Noted) : Type 0 where
-  pub keys_put : take r.count keysAfter ≡ take n keys ++ keys_of (kept_lines (read_line b s ∷ []))
-  pub rows_put : take r.count rows_after ≡ take n rows ++ rows_of (suc before) (kept_lines (read_line b s ∷ []))
-  pub keys_long : length keysAfter ≡ length keys
-  pub rows_long : length rows_after ≡ length rows
+pub record PutLine (b : ℕ) (s : List ℕ) (n before : ℕ) (labels after : List Label) (r : Noted) : Type 0 where
+  pub put : take r.count after ≡ take n labels ++ labels_of (suc before) (kept_lines (read_line b s ∷ []))
+  pub long : length after ≡ length labels
   pub few : r.count ≤ suc n
   pub sized : r.count ≤ n + r.size
   pub size_of_lem : r.size ≡ size_of (line_read (read_line b s))

@@ -34,11 +34,11 @@ pub enum Walk {
     End(Scan),
 }
 
-// A line that keeps the grammar, or not.
+// A label that is known: its number, and the row of its line.
 #[derive(Clone, Copy)]
-pub enum Scanned {
-    Good(Scan),
-    Bad,
+pub struct Label {
+    pub key: u64,
+    pub row: u64,
 }
 
 // How many labels are put by, and the rows of the line that was looked at.
@@ -46,19 +46,4 @@ pub enum Scanned {
 pub struct Noted {
     pub count: usize,
     pub size: u64,
-}
-
-// A line's fault, 0 where it has none, and its rows.
-#[derive(Clone, Copy)]
-pub struct Fault {
-    pub number: u64,
-    pub size: u64,
-}
-
-// The refusal of a text, 0 where there is none, the line of its fault, and the row count where there is no refusal.
-#[derive(Clone, Copy)]
-pub struct Verdict {
-    pub number: u64,
-    pub line: u64,
-    pub count: u64,
 }

@@ -4,10 +4,10 @@ ghost use Rattle.lines.specs.Words.{same};
 ghost use Rattle.lines.specs.Reading.{read_line};
 ghost use Rattle.lines.specs.Walking.{Within};
 ghost use Rattle.faults.specs.Checking.{entered_walk, go_walk, mode_walk, word_walk, operation_walk, paren_walk, spot_walk};
-ghost use Rattle.faults.specs.Checking.{place_after, is_nothing, Few, enough_at, column_at, end_scan, finish_walk};
+ghost use Rattle.faults.specs.Checking.{place_after, Few, enough_at, column_at, end_scan, finish_walk};
 ghost use Rattle.faults.specs.Checking.{told_walk, told_scanned, line_told, typed_told, PlacedTold};
 
-use crate::{Scan, Scanned, Walk};
+use crate::{Scan, Walk};
 use lines::{Spot, fitting, kinds, spots, words};
 use table::codes;
 
@@ -38,10 +38,9 @@ fn mode_step(s: &[u8], from: usize, label: usize, at: usize, end: usize, other: 
     requires { (at ≤ end) × (end ≤ length s.now) }
     ensures { told_walk result ≡ told_walk (mode_walk s.now from label at end other) }
 {
-    let mode = kinds::mode_of(&s[at..end]);
-    if mode == kinds::NO_MODE {
+    let Some(mode) = kinds::mode_of(&s[at..end]) else {
         return other;
-    }
+    };
     entered(from, label, mode, end)
 }
 
@@ -72,11 +71,12 @@ fn go_step(s: &[u8], c: Scan, at: usize, end: usize) -> Walk
     requires { (at ≤ end) × (end ≤ length s.now) }
     ensures { told_walk result ≡ told_walk (go_walk s.now c at end) }
 {
-    if words::is_same(&s[at..end], b"DONE") | kinds::is_label(&s[at..end]) {
-        let mut d = c;
-        d.goes = at;
-        d.ends = end;
-        return Walk::End(d);
+    if (&s[at..end] == b"DONE".as_slice()) | kinds::is_label(&s[at..end]) {
+        return Walk::End(Scan {
+            goes: at,
+            ends: end,
+            ..c
+        });
     }
     Walk::Broken
 }
@@ -86,12 +86,14 @@ fn test_step(s: &[u8], c: Scan, at: usize, end: usize) -> Walk
     requires { (at ≤ end) × (end ≤ length s.now) }
     ensures { told_walk result ≡ told_walk (word_walk s.now (Walk.Tests c) at end) }
 {
-    let mut d = c;
-    d.operation = end;
-    d.operations = 0;
-    d.goes = 0;
-    d.ends = 0;
-    if words::is_same(&s[at..end], b"THEN") {
+    let d = Scan {
+        operation: end,
+        operations: 0,
+        goes: 0,
+        ends: 0,
+        ..c
+    };
+    if &s[at..end] == b"THEN".as_slice() {
         return Walk::Then(d);
     }
     go_step(s, d, at, end)
@@ -122,11 +124,12 @@ fn operation_step(b: u64, s: &[u8], c: Scan, at: usize, close: usize) -> Walk
     if !fitting::is_operation(b, &s[from..close]) {
         return Walk::Broken;
     }
-    let mut d = c;
-    d.operations = c.operations + 1;
-    d.goes = 0;
-    d.ends = 0;
-    Walk::Operations(d)
+    Walk::Operations(Scan {
+        operations: c.operations + 1,
+        goes: 0,
+        ends: 0,
+        ..c
+    })
 }
 
 // One test more.
@@ -138,11 +141,12 @@ fn tested_step(b: u64, s: &[u8], c: Scan, at: usize, close: usize) -> Walk
     if !fitting::is_test(b, &s[from..close]) {
         return Walk::Broken;
     }
-    let mut d = c;
-    d.tests = c.tests + 1;
-    d.goes = 0;
-    d.ends = 0;
-    Walk::Tests(d)
+    Walk::Tests(Scan {
+        tests: c.tests + 1,
+        goes: 0,
+        ends: 0,
+        ..c
+    })
 }
 
 // A parenthesis.
@@ -163,35 +167,23 @@ fn paren_step(b: u64, s: &[u8], walk: Walk, at: usize, close: usize) -> Walk
 
 // A token.
 fn spot_step(b: u64, s: &[u8], walk: Walk, at: usize, spot: Spot) -> Walk
-    requires { (b ≤ 48) × (Few walk at × Within s.now at spot) }
+    requires { (b ≤ 48) × (Few walk at × Within s.now at (Some spot)) }
     ensures { told_walk result ≡ told_walk (spot_walk s.now b walk at spot) }
 {
     match spot {
         Spot::Word(end) => word_step(s, walk, at, end),
         Spot::Paren(close) => paren_step(b, s, walk, at, close),
-        Spot::Nothing => Walk::Broken,
     }
 }
 
 // The place after a token.
 fn place_after(s: &[u8], at: usize, spot: Spot) -> usize
-    requires { Within s.now at spot }
+    requires { Within s.now at (Some spot) }
     ensures { result ≡ place_after spot }
 {
     match spot {
         Spot::Word(end) => end,
         Spot::Paren(close) => close + 1,
-        Spot::Nothing => 0,
-    }
-}
-
-fn is_nothing(spot: Spot) -> bool
-    ensures { result ≡ is_nothing spot }
-{
-    match spot {
-        Spot::Word(_) => false,
-        Spot::Paren(_) => false,
-        Spot::Nothing => true,
     }
 }
 
@@ -229,36 +221,40 @@ fn in_column(s: &[u8], c: Scan) -> bool
 }
 
 // A line that ends here.
-fn end_scan(s: &[u8], c: Scan) -> Scanned
+fn end_scan(s: &[u8], c: Scan) -> Option<Scan>
     ensures { told_scanned result ≡ told_scanned (end_scan s.now c) }
 {
     if is_enough(c) & in_column(s, c) {
-        return Scanned::Good(c);
+        return Some(c);
     }
-    Scanned::Bad
+    None
 }
 
 // The line where a walk ends.
-fn finish(s: &[u8], walk: Walk) -> Scanned
+fn finish(s: &[u8], walk: Walk) -> Option<Scan>
     ensures { told_scanned result ≡ told_scanned (finish_walk s.now walk) }
 {
     match walk {
-        Walk::Start => Scanned::Bad,
-        Walk::Broken => Scanned::Bad,
-        Walk::Mode(_) => Scanned::Bad,
+        Walk::Start => None,
+        Walk::Broken => None,
+        Walk::Mode(_) => None,
         Walk::Tests(c) => {
-            let mut d = c;
-            d.operation = 0;
-            d.operations = 0;
-            d.goes = 0;
-            d.ends = 0;
+            let d = Scan {
+                operation: 0,
+                operations: 0,
+                goes: 0,
+                ends: 0,
+                ..c
+            };
             end_scan(s, d)
         }
-        Walk::Then(_) => Scanned::Bad,
+        Walk::Then(_) => None,
         Walk::Operations(c) => {
-            let mut d = c;
-            d.goes = 0;
-            d.ends = 0;
+            let d = Scan {
+                goes: 0,
+                ends: 0,
+                ..c
+            };
             end_scan(s, d)
         }
         Walk::End(c) => end_scan(s, c),
@@ -266,19 +262,17 @@ fn finish(s: &[u8], walk: Walk) -> Scanned
 }
 
 // The line.
-pub fn scan(b: u64, s: &[u8]) -> Scanned
+pub fn scan(b: u64, s: &[u8]) -> Option<Scan>
     requires { b ≤ 48 }
     ensures { (line_told s.now (told_scanned result) ≡ typed_told (read_line b s.now))
         × PlacedTold s.now (told_scanned result) }
 {
     let mut at: usize = 0;
     let mut walk = Walk::Start;
+    // No range to go over: where a token begins is known only where the one before it ended.
     while !at_end(s, at) {
         let start = words::blanks_end(s, at);
-        let spot = spots::token_at(s, start);
-        if is_nothing(spot) {
-            return Scanned::Bad;
-        }
+        let spot = spots::token_at(s, start)?;
         walk = spot_step(b, s, walk, start, spot);
         at = place_after(s, start, spot);
     }

@@ -3,36 +3,20 @@ ghost use Rattle.std.specs.Prelude.{◌≡◌, true, false, List, ℕ, suc, ◌+
 ghost use Rattle.faults.specs.Places.{missing};
 ghost use Rattle.faults.specs.Names.{Known, Found, Told, LineOf, Kept, Moved};
 
-use crate::{Scanned, labels, line, names};
+use crate::names::{Labels, key_of};
+use crate::{Label, line, names};
 use lines::{arguments, kinds, words};
 use table::rows;
 
 // The row put beside a label that is found: past the last, since nobody asks which it is.
 const PAST: u64 = 801;
 
-// The place of a number, their count where it is not there.
-fn place_of(keys: &[u64], key: u64) -> usize
-    ensures { (result ≤ length keys.now) × (result < length keys.now → get_or keys.now result 0 ≡ key) }
-{
-    let mut i = 0;
-    while i < keys.len() {
-        if keys[i] == key {
-            return i;
-        }
-        i += 1;
-    }
-    i
-}
-
 // Whether a label is one of those found.
 pub fn is_found(found: &[u64], w: &[u8]) -> bool
     ensures { (b : ℕ) (text : List ℕ) → Found b text found.now → result ≡ true
         → false ≡ missing b text w.now }
 {
-    if !kinds::is_label(w) {
-        return false;
-    }
-    place_of(found, names::key_of(w)) < found.len()
+    kinds::is_label(w) && found.contains(&key_of(w))
 }
 
 // Whether a word is one that an operation calls or a line goes to.
@@ -50,67 +34,7 @@ fn is_use(text: &[u8], from: usize, end: usize) -> bool
         return false;
     }
     let start = from - 4;
-    words::is_same(&text[start..from], b"(DO,")
-}
-
-// A label put after the first n that are sought, unless it is known or sought.
-fn want(keys: &[u64], rows: &[u64], sought: &mut [u64], n: usize, w: &[u8]) -> usize
-    requires { (length keys.now ≤ length rows.now) × (n < length sought.old) }
-    ensures { (result ≤ suc n) × (length sought.new ≡ length sought.old) }
-{
-    if !kinds::is_label(w) {
-        return n;
-    }
-    if names::known_row(keys, rows, w) != 0 {
-        return n;
-    }
-    let key = names::key_of(w);
-    if place_of(&sought[0..n], key) < n {
-        return n;
-    }
-    sought[n] = key;
-    n + 1
-}
-
-// A word put there if it is used.
-fn want_word(
-    text: &[u8],
-    from: usize,
-    end: usize,
-    keys: &[u64],
-    rows: &[u64],
-    sought: &mut [u64],
-    n: usize,
-) -> usize
-    requires { ((from ≤ end) × (end < length text.now)) × ((length keys.now ≤ length rows.now)
-        × (n < length sought.old)) }
-    ensures { (result ≤ suc n) × (length sought.new ≡ length sought.old) }
-{
-    if !is_use(text, from, end) {
-        return n;
-    }
-    want(keys, rows, sought, n, &text[from..end])
-}
-
-// The labels that a text uses and that are not known, as many as there is room for: how many.
-fn gather(text: &[u8], keys: &[u64], rows: &[u64], sought: &mut [u64]) -> usize
-    requires { length keys.now ≤ length rows.now }
-    ensures { (result ≤ length sought.new) × (length sought.new ≡ length sought.old) }
-{
-    let mut from = 0;
-    let mut n = 0;
-    while from < text.len() {
-        if sought.len() <= n {
-            return n;
-        }
-        let end = words::word_end(text, from);
-        if text.len() <= end {
-            return n;
-        }
-        n = want_word(text, from, end, keys, rows, sought, n);
-        from = end + 1;
-    }
-    n
+    &text[start..from] == b"(DO,".as_slice()
 }
 
 // A line's label put after the first m of those sought, if it is the one at a place past them: how many are put by then.
@@ -122,7 +46,7 @@ fn settle(sought: &mut [u64], m: usize, i: usize, w: &[u8]) -> usize
     if w.len() == 0 {
         return m;
     }
-    let key = names::key_of(w);
+    let key = key_of(w);
     if sought[i] != key {
         return m;
     }
@@ -141,17 +65,16 @@ fn seek_line(b: u64, s: &[u8], sought: &mut [u64], m: usize, n: usize) -> usize
     if (end == 0) | (s.len() - end < 8) {
         return m;
     }
-    let i = m + place_of(&sought[m..n], names::key_of(&s[0..end]));
-    if n <= i {
+    let key = key_of(&s[0..end]);
+    let Some(i) = sought[m..n].iter().position(|x| *x == key) else {
         return m;
-    }
-    let scanned = line::scan(b, s);
-    let Scanned::Good(c) = scanned else {
+    };
+    let Some(c) = line::scan(b, s) else {
         return m;
     };
     let from = c.from;
     let to = c.label;
-    settle(sought, m, i, &s[from..to])
+    settle(sought, m, m + i, &s[from..to])
 }
 
 // Those of the first n labels sought that lines declare, put first: how many.
@@ -161,96 +84,124 @@ fn seek(b: u64, text: &[u8], sought: &mut [u64], n: usize) -> usize
         × ((length sought.new ≡ length sought.old)
         × Found b text.now (take result sought.new)) }
 {
-    let mut from = 0;
     let mut m = 0;
-    while from < text.len() {
+    for s in text.split_inclusive(|x| *x == b'\n') {
         if n <= m {
             return m;
         }
-        let to = labels::line_end(text, from);
-        m = seek_line(b, &text[from..to], sought, m, n);
-        from = to;
+        m = seek_line(b, s, sought, m, n);
     }
     m
 }
 
-// The labels that a part of a text uses, that are not known and that lines of the text declare, as many as there is room for:
-// how many.
-pub fn resolve(
-    b: u64,
-    text: &[u8],
-    part: &[u8],
-    keys: &[u64],
-    rows: &[u64],
-    found: &mut [u64],
-) -> usize
-    requires { (b ≤ 48) × (length keys.now ≤ length rows.now) }
-    ensures { (result ≤ length found.new)
-        × ((length found.new ≡ length found.old)
-        × Found b text.now (take result found.new)) }
-{
-    let n = gather(part, keys, rows, found);
-    seek(b, text, found, n)
-}
+impl Labels<'_> {
+    // A label put after the first n that are sought, unless it is known or sought.
+    fn want(&self, sought: &mut [u64], n: usize, w: &[u8]) -> usize
+        requires { n < length sought.old }
+        ensures { (result ≤ suc n) × (length sought.new ≡ length sought.old) }
+    {
+        if !kinds::is_label(w) {
+            return n;
+        }
+        if self.row_of(w) != 0 {
+            return n;
+        }
+        let key = key_of(w);
+        if sought[0..n].contains(&key) {
+            return n;
+        }
+        sought[n] = key;
+        n + 1
+    }
 
-// Whether an operation, by what stands inside it, calls a label that is neither known nor found.
-fn is_new(keys: &[u64], rows: &[u64], found: &[u64], s: &[u8]) -> bool
-    requires { (length keys.now ≤ length rows.now) × (length s.now + 1 < 2 ^ 64) }
-{
-    if keys.len() < rows::MOST {
-        return false;
+    // A word put there if it is used.
+    fn want_word(&self, part: &[u8], from: usize, end: usize, sought: &mut [u64], n: usize) -> usize
+        requires { ((from ≤ end) × (end < length part.now)) × (n < length sought.old) }
+        ensures { (result ≤ suc n) × (length sought.new ≡ length sought.old) }
+    {
+        if !is_use(part, from, end) {
+            return n;
+        }
+        self.want(sought, n, &part[from..end])
     }
-    let n = arguments::call_at(s);
-    if n == 0 {
-        return false;
-    }
-    if names::known_row(keys, rows, &s[n..]) != 0 {
-        return false;
-    }
-    !is_found(found, &s[n..])
-}
 
-// The labels found, and others from an operation on where it calls one that is not among them. The operation closes at a place
-// of its line's part.
-pub fn renew(
-    b: u64,
-    text: &[u8],
-    part: &[u8],
-    close: usize,
-    keys: &[u64],
-    rows: &[u64],
-    found: &mut [u64],
-    n: usize,
-) -> usize
-    requires { ((b ≤ 48) × (length keys.now ≤ length rows.now)) × ((1 ≤ close) × ((close < length part.now)
-        × (n ≤ length found.old))) }
-    ensures { (result ≤ length found.new)
-        × ((length found.new ≡ length found.old)
-        × Kept b text.now n found.old result found.new) }
-{
-    if !is_new(keys, rows, &found[0..n], &part[1..close]) {
-        return n;
+    // The labels that a part of the text uses and that are not known, as many as there is room for: how many.
+    fn gather(&self, part: &[u8], sought: &mut [u64]) -> usize
+        ensures { (result ≤ length sought.new) × (length sought.new ≡ length sought.old) }
+    {
+        let mut from = 0;
+        let mut n = 0;
+        // No range to go over: a word begins past the end of the one before it.
+        while from < part.len() {
+            if sought.len() <= n {
+                return n;
+            }
+            let end = words::word_end(part, from);
+            if part.len() <= end {
+                return n;
+            }
+            n = self.want_word(part, from, end, sought, n);
+            from = end + 1;
+        }
+        n
     }
-    resolve(b, text, part, keys, rows, found)
+
+    // The labels that a part of the text uses, that are not known and that lines of the text declare, as many as there is room
+    // for: how many.
+    pub fn resolve(&self, part: &[u8], found: &mut [u64]) -> usize
+        ensures { (result ≤ length found.new)
+            × ((length found.new ≡ length found.old)
+            × Found self.now.b self.now.text.now (take result found.new)) }
+    {
+        let n = self.gather(part, found);
+        seek(self.b, self.text, found, n)
+    }
+
+    // Whether an operation, by what stands inside it, calls a label that is neither known nor found.
+    fn is_new(&self, found: &[u64], s: &[u8]) -> bool {
+        if self.known.len() < rows::MOST {
+            return false;
+        }
+        let Some(label) = arguments::called(s) else {
+            return false;
+        };
+        if self.row_of(label) != 0 {
+            return false;
+        }
+        !is_found(found, label)
+    }
+
+    // The labels found, and others from an operation on where it calls one that is not among them. The operation closes at a
+    // place of its line's part.
+    pub fn renew(&self, part: &[u8], close: usize, found: &mut [u64], n: usize) -> usize
+        requires { (1 ≤ close) × ((close < length part.now) × (n ≤ length found.old)) }
+        ensures { (result ≤ length found.new)
+            × ((length found.new ≡ length found.old)
+            × Kept self.now.b self.now.text.now n found.old result found.new) }
+    {
+        if !self.is_new(&found[0..n], &part[1..close]) {
+            return n;
+        }
+        self.resolve(part, found)
+    }
 }
 
 // Labels that are found put after those that are known, as many as there is room for: how many then.
-fn append(keys: &mut [u64], rows: &mut [u64], n: usize, found: &[u64]) -> usize
-    requires { (800 ≤ n) × ((n ≤ length keys.old) × (length keys.old ≡ length rows.old)) }
-    ensures { ((result ≤ length keys.new) × (result ≤ length rows.new)) × ((b : ℕ) (text : List ℕ)
-        → Known b text (take n keys.old) (take n rows.old) → Found b text found.now
-        → Known b text (take result keys.new) (take result rows.new)) }
+fn append(room: &mut [Label], n: usize, found: &[u64]) -> usize
+    requires { (800 ≤ n) × (n ≤ length room.old) }
+    ensures { (result ≤ length room.new) × ((b : ℕ) (text : List ℕ)
+        → Known b text (take n room.old) → Found b text found.now → Known b text (take result room.new)) }
 {
     let mut k = n;
-    let mut i = 0;
-    while i < found.len() {
-        if keys.len() <= k {
+    for key in found {
+        if room.len() <= k {
             return k;
         }
-        keys[k] = found[i];
-        rows[k] = PAST;
+        room[k] = Label {
+            key: *key,
+            row: PAST,
+        };
         k += 1;
-        i += 1;
     }
     k
 }
@@ -261,17 +212,17 @@ pub fn no_labels() -> [u64; rows::MOST] {
 }
 
 // The labels of a text's lines, the first 800 of them, and of the others those that the text uses first: how many.
-pub fn learn(b: u64, text: &[u8], keys: &mut [u64], rows: &mut [u64]) -> usize
-    requires { (b ≤ 48) × ((800 ≤ length keys.old) × (length keys.old ≡ length rows.old)) }
-    ensures { (result ≤ length keys.new)
-        × ((result ≤ length rows.new) × Known b text.now (take result keys.new)
-        (take result rows.new)) }
+pub fn learn(b: u64, text: &[u8], room: &mut [Label]) -> usize
+    requires { (b ≤ 48) × (800 ≤ length room.old) }
+    ensures { (result ≤ length room.new) × Known b text.now (take result room.new) }
 {
-    let n = names::collect(b, text, keys, rows);
+    let n = names::collect(b, text, room);
     if n < rows::MOST {
         return n;
     }
     let mut found = no_labels();
-    let m = resolve(b, text, text, &keys[0..n], &rows[0..n], &mut found);
-    append(keys, rows, n, &found[0..m])
+    let known = &room[0..n];
+    let labels = Labels { b, text, known };
+    let m = labels.resolve(text, &mut found);
+    append(room, n, &found[0..m])
 }

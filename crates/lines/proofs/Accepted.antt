@@ -10,7 +10,7 @@ use borrow.Author.Tests.{not-true, not-false, leb-true, le-leb, ne_eqb}
 use lib.Dec.{eqb, leb}
 use lib.ListN.{length}
 use Rattle.word.proofs.Tests.{by_test, by_eqb, and_true}
-use Rattle.table.specs.declared.TableCheck.TheVariants.{Lowest}
+use Rattle.std.specs.Prelude.{Ok}
 use Rattle.table.specs.Table.{checked}
 use Rattle.lines.specs.Words.{is_empty, all, any}
 use Rattle.lines.specs.Grammar.{Line, Typed, is_line, is_typed, written_text}
@@ -197,7 +197,7 @@ accepted b lent text e =
     }
 
 -- its table passes the table check
-pub accepted_passes : (b lent : ℕ) (text : List ℕ) → 10 ≤ b → (refusal_of b lent text).number ≡ 0 → checked b (table_of b (program b text)) ≡ Lowest 0
+pub accepted_passes : (b lent : ℕ) (text : List ℕ) → 10 ≤ b → (refusal_of b lent text).number ≡ 0 → checked b (table_of b (program b text)) ≡ Ok 0
 accepted_passes b lent text wide e =
     let a = accepted b lent text e in
     table_passes b wide (program b text) a.short a.labels a.more

@@ -1,17 +1,16 @@
 -- The labels that operations call: only DO, with two arguments, has one. Assumes nothing.
-use Prim.Native.Nat.{ℕ, suc, ◌+◌}
-use native.Mathlib.Omega.{arith}
+use Prim.Native.Nat.{ℕ, suc}
 use mathlib.Core.Path.{◌≡◌, refl, ap, sym, ◌∙◌}
 use mathlib.Core.Bool.{Bool, true, false, not, ◌&&◌, ◌||◌, cond}
 use mathlib.Core.List.{List, [], ◌∷◌}
 use borrow.Author.Tests.{eq-eqb, ne_eqb, not-true}
 use lib.Dec.{eqb}
-use lib.ListN.{length, drop}
+use lib.ListN.{length}
 use Rattle.word.proofs.Tests.{by_test, and_true}
 use Rattle.lines.specs.Words.{spelled, same, all, any, Kind, itself, symbol, is_kind, is_symbol, is_label, is_field}
 use Rattle.lines.specs.Forms.{Form, operation_forms, expanded, are_kinds, fits, form_of, is_argument, is_operation}
 use Rattle.lines.specs.Forms.{symbols_in}
-use Rattle.lines.specs.Walking.{calls_in, calls_at}
+use Rattle.lines.specs.Walking.{calls_in}
 use Rattle.lines.proofs.Lists.{true_false, all_first, all_others}
 use Rattle.lines.proofs.Literals.{and_right}
 use Rattle.lines.proofs.Moving.{keep, kept, any_kept, point_form, pointing, none_other, only_pointing}
@@ -116,12 +115,3 @@ module _ (b : ℕ) where
       let fitting = (and_true (all is_argument x) (any (fits b (expanded x)) operation_forms) e).1 in
       let label : is_label w ≡ true = sym (any_do w) ∙ ap (λ (ws : List (List ℕ)). any (fits b ws) operation_forms) (sym is) ∙ fitting in
       rw (is, do_form_lem w label)
-
--- by the place where the label begins
-pub calls_at_none : (s : List ℕ) → calls_at s 0 ≡ []
-unfolding calls_at
-calls_at_none s = refl
-
-pub calls_at_lem : (s : List ℕ) (n : ℕ) → calls_at s (n + 1) ≡ drop (n + 1) s ∷ []
-unfolding calls_at
-calls_at_lem s n = rw (ne_eqb (n + 1) 0 (λ (z : n + 1 ≡ 0). omega arith))

@@ -1,5 +1,6 @@
 -- Laws that the proofs of the functions cite.
 pub mod Lists
+pub mod Library
 pub mod Pieces
 pub mod Tokens
 pub mod Lines
@@ -14,8 +15,7 @@ pub mod Scanning
 pub mod Telling
 pub mod Literals
 pub mod Parts
-pub mod Coding
 pub mod Moving
 pub mod Calling
-pub mod Meant
+pub mod Matching
 pub mod Picking

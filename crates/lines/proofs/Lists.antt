@@ -34,12 +34,6 @@ same_eq [] (y ∷ w) e = absurd (true_false e refl)
 same_eq (x ∷ v) [] e = absurd (true_false e refl)
 same_eq (x ∷ v) (y ∷ w) e = let (h, t) = and_true (eqb x y) (same v w) e in ap₂ ◌∷◌ (eqb-true x y h) (same_eq v w t)
 
-pub shorter_differs : (v w : List ℕ) → length v < length w → false ≡ same v w
-unfolding same
-shorter_differs v [] h = absurd (omega arith)
-shorter_differs [] (y ∷ w) h = refl
-shorter_differs (x ∷ v) (y ∷ w) h = rw (← shorter_differs v w (omega arith)) (sym (and_false (eqb x y)))
-
 pub same_refl : (w : List ℕ) → same w w ≡ true
 unfolding same
 same_refl [] = refl

@@ -1,29 +1,28 @@
--- How a loop reads a number literal, and how one compares a word with the bytes of a number. Assumes nothing.
-use Prim.Native.Nat.{ℕ, zero, suc, ◌+◌, ◌-◌, ◌*◌, ◌/◌, ◌%◌, ◌^◌, ◌≤◌, ◌<◌}
-use native.Mathlib.Nat.{mul-le-mul_left, div-lt_iff_lt-mul, pow-suc, pow-le-pow_right}
+-- How a loop reads a number literal, and the place of a mode word. Assumes nothing.
+use Prim.Native.Nat.{ℕ, suc, ◌+◌, ◌-◌, ◌*◌, ◌^◌, ◌≤◌, ◌<◌}
+use native.Mathlib.Nat.{mul-le-mul_left, pow-le-pow_right}
 use lib.Pow.{pow_pos}
 use native.Mathlib.Omega.{arith}
-use mathlib.Core.Path.{◌≡◌, refl, ap, ap₂, sym, ◌∙◌}
+use mathlib.Core.Path.{◌≡◌, refl, ap, sym, ◌∙◌}
 use mathlib.Core.Bool.{Bool, true, false, not, ◌&&◌, ◌||◌, cond}
-use mathlib.Core.List.{List, [], ◌∷◌, ◌++◌, map}
-use borrow.Author.Tests.{eq-eqb, ne_eqb, lt-ltb, le-ltb, leb-true}
-use lib.Dec.{eqb, ltb, leb, eqb-zero-suc, eqb-suc-zero, eqb-suc-suc}
-use lib.ListN.{length, take, drop, get_or}
-use lib.Seq.{drop-cons, drop-length, take-suc, take-length, length-take-le}
+use mathlib.Core.List.{List, [], ◌∷◌, map}
+use borrow.Author.Tests.{lt-ltb, le-ltb, leb-true}
+use lib.Dec.{eqb, ltb, leb, eqb-zero-suc, eqb-suc-suc}
+use lib.ListN.{length, drop, get_or}
+use lib.Seq.{drop-cons, drop-length}
 use Rattle.word.proofs.Tests.{by_test, and_true, and_false}
 use Rattle.character.specs.Character.{number}
-use Rattle.lines.specs.Words.{same, is_empty, all, any, is_digit, is_octal_digit, literal, is_decimal, is_octal, mode_words, is_mode}
+use Rattle.lines.specs.Words.{same, is_empty, all, any, mode_words, is_mode, is_digit, is_octal_digit, literal, is_decimal, is_octal}
 use Rattle.lines.specs.Reading.{place_of}
-use Rattle.lines.specs.Walking.{is_digit_of, is_number, bytes_in, bytes_of}
+use Rattle.lines.specs.Walking.{is_digit_of, is_number}
 
 pub and_right : (t : Bool) → (t && true) ≡ t
 and_right true = refl
 and_right false = refl
 
--- a word has a byte
-pub some_bytes : (w : List ℕ) → ltb 0 (length w) ≡ not (is_empty w)
-some_bytes [] = refl
-some_bytes (x ∷ w) = lt-ltb 0 (suc (length w)) (omega arith)
+pub and_assoc : (r s t : Bool) → ((r && s) && t) ≡ (r && (s && t))
+and_assoc true s t = refl
+and_assoc false s t = refl
 
 -- a word is none of some words exactly when its place is their number
 pub no_place : (w : List ℕ) (vs : List (List ℕ)) → eqb (place_of w vs) (length vs) ≡ not (any (same w) vs)
@@ -117,7 +116,7 @@ module _ (base limit : ℕ) (w : List ℕ) where
   unfolding number
   number_nothing v = refl
 
-  pub valued_all : {v i : ℕ} → Valued v i → length w ≤ i → ltb 0 (length w) ≡ is_number base limit w
+  pub valued_all : {v i : ℕ} → Valued v i → length w ≤ i → not (is_empty w) ≡ is_number base limit w
   unfolding is_number
   valued_all {v} {i} h l =
       let inside = h.inside in
@@ -126,7 +125,7 @@ module _ (base limit : ℕ) (w : List ℕ) where
       let every : all (is_digit_of base) w ≡ true = sym h.digits ∙ ap (all (is_digit_of base)) gone ∙ all_nothing in
       let is : literal base w ≡ v = sym h.value ∙ ap (λ (s : List ℕ). number base v (map digit_of s)) gone ∙ number_nothing v in
       let below : ltb (literal base w) limit ≡ true = rw is (lt-ltb v limit h.small) in
-      rw (every, below) (some_bytes w ∙ sym (and_right (not (is_empty w))))
+      rw (every, below) (sym (and_right (not (is_empty w))))
 
 pub decimal_number : (b : ℕ) (w : List ℕ) → is_decimal b w ≡ is_number 10 (2 ^ b) w
 unfolding is_decimal is_number is_digit is_digit_of
@@ -142,97 +141,3 @@ some_numbers b = pow_pos b
 
 pub wide_enough : (b : ℕ) → b ≤ 48 → 2 ^ b ≤ 2 ^ 48
 wide_enough b h = pow-le-pow_right (omega arith) h
-
--- words compared from their ends
-nil_snoc : (w : List ℕ) (y : ℕ) → same [] (w ++ y ∷ []) ≡ false
-unfolding same
-nil_snoc [] y = refl
-nil_snoc (x ∷ w) y = refl
-
-snoc_nil : (v : List ℕ) (x : ℕ) → same (v ++ x ∷ []) [] ≡ false
-unfolding same
-snoc_nil [] x = refl
-snoc_nil (y ∷ v) x = refl
-
-pub and_assoc : (r s t : Bool) → ((r && s) && t) ≡ (r && (s && t))
-and_assoc true s t = refl
-and_assoc false s t = refl
-
-same_snoc : (v w : List ℕ) (x y : ℕ) → same (v ++ x ∷ []) (w ++ y ∷ []) ≡ (same v w && eqb x y)
-unfolding same
-same_snoc [] [] x y = and_right (eqb x y)
-same_snoc [] (z ∷ w) x y = rw (nil_snoc w y) (and_false (eqb x z))
-same_snoc (z ∷ v) [] x y = rw (snoc_nil v x) (and_false (eqb z y))
-same_snoc (z ∷ v) (u ∷ w) x y = rw (same_snoc v w x y) (sym (and_assoc (eqb z u) (same v w) (eqb x y)))
-
--- the bytes of a number: fuel for each is enough
-bytes_fuel : (k n : ℕ) → n < 256 ^ k → bytes_in k n ≡ bytes_in (suc k) n
-unfolding bytes_in
-bytes_fuel zero n h =
-    let none : n ≡ 0 = omega arith in
-    rw none
-bytes_fuel (suc k) n h =
-    let less : n / 256 < 256 ^ k = (div-lt_iff_lt-mul {k = 256} {x = n} {y = 256 ^ k} (omega arith)).1 (rw pow-suc at h) in
-    by_test (λ t. cond t [] (bytes_in k (n / 256) ++ n % 256 ∷ []) ≡ cond t [] (bytes_in (suc k) (n / 256) ++ n % 256 ∷ [])) (eqb n 0)
-    (λ _. refl) (λ _. ap (λ (l : List ℕ). l ++ n % 256 ∷ []) (bytes_fuel k (n / 256) less))
-
-bytes_more : (n : ℕ) → 0 < n → n < 2 ^ 64 → bytes_of n ≡ bytes_of (n / 256) ++ n % 256 ∷ []
-unfolding bytes_of bytes_in
-bytes_more n pos h =
-    let other : eqb n 0 ≡ false = ne_eqb n 0 (λ (z : n ≡ 0). omega arith) in
-    let less : n / 256 < 256 ^ 7 = omega arith in
-    rw (other, bytes_fuel 7 (n / 256) less)
-
-pub bytes_none : bytes_of 0 ≡ []
-unfolding bytes_of bytes_in
-bytes_none = refl
-
-module _ (kind : ℕ) (w : List ℕ) where
-  -- the bytes from i on are those of the number, which are left of them
-  pub record Spelt (k i : ℕ) : Type 0 where
-    pub inside : i ≤ length w
-    pub fits : k < 2 ^ 64
-    pub rest : same (bytes_of k) (take i w) ≡ same (bytes_of kind) w
-
-  pub spelt_none : kind < 2 ^ 64 → Spelt kind (length w)
-  spelt_none h = record { inside = omega arith; fits = h; rest = rw (take-length w) }
-
-  turn : (k i : ℕ) → 0 < k → k < 2 ^ 64 → i < length w → same (bytes_of k) (take (suc i) w) ≡ (same (bytes_of (k / 256)) (take i w) && eqb (k % 256) (get_or w i 0))
-  turn k i pos f l = rw (bytes_more k pos f, take-suc w i 0 l) (same_snoc (bytes_of (k / 256)) (take i w) (k % 256) (get_or w i 0))
-
-  module _ {k i : ℕ} (h : Spelt k i) (pos : 0 < k) where
-    pub spelt_short : i ≡ 0 → false ≡ same (bytes_of kind) w
-    spelt_short z = sym (ap₂ same (bytes_more k pos h.fits) (ap (λ (j : ℕ). take j w) z) ∙ snoc_nil (bytes_of (k / 256)) (k % 256)) ∙ h.rest
-
-    module _ (more : 1 ≤ i) where
-      one : suc (i - 1) ≡ i
-      one = omega arith
-
-      pub spelt_more : get_or w (i - 1) 0 ≡ k % 256 → Spelt (k / 256) (i - 1)
-      spelt_more e =
-          let inside = h.inside in
-          let fits = h.fits in
-          let here = rw one at (turn k (i - 1) pos fits (omega arith)) in
-          record {
-            inside = omega arith;
-            fits = omega arith;
-            rest = sym (here ∙ rw (eq-eqb (k % 256) (get_or w (i - 1) 0) (sym e)) (and_right (same (bytes_of (k / 256)) (take (i - 1) w)))) ∙ h.rest;
-          }
-
-      pub spelt_not : (get_or w (i - 1) 0 ≡ k % 256 → ⊥) → false ≡ same (bytes_of kind) w
-      spelt_not e =
-          let inside = h.inside in
-          let here = rw one at (turn k (i - 1) pos h.fits (omega arith)) in
-          sym (here ∙ rw (ne_eqb (k % 256) (get_or w (i - 1) 0) (λ (z : k % 256 ≡ get_or w (i - 1) 0). e (sym z)))
-          (and_false (same (bytes_of (k / 256)) (take (i - 1) w)))) ∙ h.rest
-
-  same_nil : (v : List ℕ) → same [] v ≡ eqb (length v) 0
-  unfolding same
-  same_nil [] = refl
-  same_nil (x ∷ v) = sym (eqb-suc-zero (length v))
-
-  pub spelt_all : {k i : ℕ} → Spelt k i → k ≤ 0 → eqb i 0 ≡ same (bytes_of kind) w
-  spelt_all {k} {i} h z =
-      let none : k ≡ 0 = omega arith in
-      let size : length (take i w) ≡ i = length-take-le i w h.inside in
-      sym (ap (λ (n : ℕ). eqb n 0) size) ∙ sym (same_nil (take i w)) ∙ sym (ap (λ (v : List ℕ). same v (take i w)) (ap bytes_of none ∙ bytes_none)) ∙ h.rest

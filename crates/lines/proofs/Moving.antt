@@ -1,17 +1,15 @@
 -- (a, Δ), written out as (a, P, aΔ), fits an operation exactly when a and aΔ are field designators. Assumes nothing.
-use Prim.Native.Nat.{ℕ, ◌+◌, ◌-◌, ◌≤◌, ◌<◌}
+use Prim.Native.Nat.{ℕ, ◌-◌, ◌≤◌, ◌<◌}
 use native.Mathlib.Omega.{arith}
 use mathlib.Core.Path.{◌≡◌, refl, ap, sym, ◌∙◌}
 use mathlib.Core.Bool.{Bool, true, false, ◌&&◌, ◌||◌}
 use mathlib.Core.List.{List, [], ◌∷◌, ◌++◌}
-use borrow.Author.Tests.{le-leb, lt-leb, leb-true, ne_eqb}
+use borrow.Author.Tests.{le-leb, lt-leb, leb-true}
 use lib.Dec.{leb}
-use lib.ListN.{length, take, drop, length-append}
+use lib.ListN.{length, length-append}
 use Rattle.word.proofs.Tests.{by_test, by_leb, and_true, and_false}
 use Rattle.lines.specs.Words.{spelled, same, all, any, is_name, is_letter, starts_with, is_field, Kind, field, itself, is_kind}
-use Rattle.lines.specs.Forms.{Form, operation_forms, are_kinds, expanded, fits}
-use Rattle.lines.specs.Reading.{split}
-use Rattle.lines.specs.Walking.{expanded_at}
+use Rattle.lines.specs.Forms.{Form, operation_forms, are_kinds, fits}
 use Rattle.lines.proofs.Lists.{true_false}
 use Rattle.lines.proofs.Literals.{and_right, and_assoc}
 
@@ -109,15 +107,3 @@ module _ (a names : List ℕ) where
 
   pub moved : is_field a ≡ true → (leb (length names) (6 - length a) && all is_name names) ≡ (is_field a && is_field (a ++ names))
   moved e = rw e (sym (longer e))
-
--- names at a place, written out
-module _ (b : ℕ) (s : List ℕ) (n : ℕ) where
-  pub fits_plain : n ≡ 0 → expanded_at s n ≡ expanded (split s) → any (fits b (split s)) operation_forms ≡ any (fits b (expanded (split s))) operation_forms
-  unfolding expanded_at
-  fits_plain z e = ap (λ (ws : List (List ℕ)). any (fits b ws) operation_forms) (rw z at e)
-
-  pub fits_moved : (n ≡ 0 → ⊥) → expanded_at s n ≡ expanded (split s)
-      → (is_field (take (n - 1) s) && is_field (take (n - 1) s ++ drop n s)) ≡ any (fits b (expanded (split s))) operation_forms
-  unfolding expanded_at
-  fits_moved z e =
-      sym (any_moved b (take (n - 1) s) (take (n - 1) s ++ drop n s)) ∙ ap (λ (ws : List (List ℕ)). any (fits b ws) operation_forms) (rw (ne_eqb n 0 z) at e)

@@ -11,8 +11,7 @@ use lib.ListN.{length, drop, replicate, length-append}
 use lib.Seq.{drop-drop}
 use Rattle.word.proofs.Tests.{by_test, and_true}
 use Rattle.table.specs.declared.Row.{Row}
-use Rattle.table.specs.declared.TableCheck.TheVariants.{Lowest}
-use Rattle.table.specs.declared.Operand.TheVariants.{Line}
+use Rattle.std.specs.Prelude.{Ok}
 use Rattle.table.specs.Row.{length_fits, rows, pair_at, as_row, row_at}
 use Rattle.table.specs.Operands.{test_shape}
 use Rattle.table.specs.Table.{chained, shape_of, shaped, well_formed_as, well_formed, lowest_from, checked, names_rows, complete}
@@ -353,7 +352,7 @@ module _ (b : ℕ) (wide : 10 ≤ b) (ls : List grammar.Line) (short : row_count
       and_both (and_both (le-leb 20 (length table) (omega arith)) (le-leb (length table) 8000 (omega arith))) (eq-eqb (length table % 10) 0 (omega arith))
 
   -- such lines make a table that passes the check, provided there is a line
-  pub table_passes : all (keeps_labels b ls) ls ≡ true → 2 ≤ row_count ls → checked b (table_of b ls) ≡ Lowest 0
+  pub table_passes : all (keeps_labels b ls) ls ≡ true → 2 ≤ row_count ls → checked b (table_of b ls) ≡ Ok 0
   unfolding checked table_of
   table_passes e more =
       let rws = rows_from b (row_of 1 ls) 1 ls in

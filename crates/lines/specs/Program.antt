@@ -1,13 +1,14 @@
 -- What a text of typed lines becomes: rows, labels, the faults of its lines, the answer and the lent table. Document 02, tickets 3
 -- and 9. Assumes nothing.
 use Rattle.std.specs.Prelude.{ℕ, suc, ◌+◌, ◌*◌, Bool, not, ◌&&◌, ◌||◌, cond, List, [], ◌∷◌, ◌++◌, eqb, leb, length, drop, replicate}
+use Rattle.std.specs.Prelude.{Result, Ok, Err}
 use Rattle.std.proofs.Math.Option.{Option, none, some}
 use Rattle.word.specs.Word.{is_width}
 use Rattle.word.specs.Told.{Told, tells, gives, refuses}
 use Rattle.table.specs.declared.Row.{Row}
 use Rattle.table.specs.Row.{done}
-use Rattle.lines.specs.declared.Read.{Read}
-use Rattle.lines.specs.declared.Read.TheVariants.{Rows, NoWidth, BadLine, BadLabel, TooLong}
+use Rattle.lines.specs.declared.ReadError.{ReadError}
+use Rattle.lines.specs.declared.ReadError.TheVariants.{NoWidth, BadLine, BadLabel, TooLong}
 use Rattle.lines.specs.Words.{same, is_empty, any, is_done, absent_pair}
 use Rattle.lines.specs.Forms.{test_forms, operation_forms, expanded, form_of, symbols_in, row_in}
 use Rattle.lines.specs.Grammar.{Line, Typed}
@@ -139,32 +140,32 @@ program b text = kept_lines (read_lines b text)
 
 -- what the call answers and what it leaves in the lent table: a refused call writes nothing, and numbers past the last row stay
 pub record Left : Type 0 where
-  pub answer : Read
+  pub answer : Result ℕ ReadError
   pub table : List ℕ
 
-unfoldable pub refused : Refusal → Read
+unfoldable pub refused : Refusal → ReadError
 refused r = cond (eqb r.number 23) (BadLine r.line) (cond (eqb r.number 24) (BadLabel r.line) (TooLong r.line))
 
 unfoldable pub reading : ℕ → List ℕ → List ℕ → Left
 reading b text lent =
     cond (eqb (refusal_of b (length lent) text).number 0)
     (record {
-      answer = Rows (row_count (program b text));
+      answer = Ok (row_count (program b text));
       table = table_of b (program b text) ++ drop (10 * row_count (program b text)) lent;
     })
-    (record { answer = refused (refusal_of b (length lent) text); table = lent })
+    (record { answer = Err (refused (refusal_of b (length lent) text)); table = lent })
 
 -- the call at a width: 31, before anything else, where that is none
 unfoldable pub read_at : ℕ → List ℕ → List ℕ → Left
-read_at b text lent = cond (is_width b) (reading b text lent) (record { answer = NoWidth; table = lent })
+read_at b text lent = cond (is_width b) (reading b text lent) (record { answer = Err NoWidth; table = lent })
 
 -- its answer in numbers: the row count, or the refusal with the line of its fault
-unfoldable pub told_read : Read → Told ℕ
-told_read (Rows n) = gives n
-told_read NoWidth = refuses 31
-told_read (BadLine line) = tells 23 (line ∷ [])
-told_read (BadLabel line) = tells 24 (line ∷ [])
-told_read (TooLong line) = tells 25 (line ∷ [])
+unfoldable pub told_read : Result ℕ ReadError → Told ℕ
+told_read (Ok n) = gives n
+told_read (Err NoWidth) = refuses 31
+told_read (Err (BadLine line)) = tells 23 (line ∷ [])
+told_read (Err (BadLabel line)) = tells 24 (line ∷ [])
+told_read (Err (TooLong line)) = tells 25 (line ∷ [])
 
 -- what the call tells: 31, or the refusal of the lowest line with a fault, or the row count
 unfoldable pub refusal_told : Refusal → ℕ → Told ℕ

@@ -1,17 +1,22 @@
--- What the contracts of inner functions name besides: the tokens of a text by their places, a line read token by token, and
--- Table II as numbers.
--- `proofs/Walking.antt` has that the latter is `line_of`. Assumes nothing.
-use Rattle.std.specs.Prelude.{ℕ, zero, suc, ◌+◌, ◌-◌, ◌/◌, ◌%◌, ◌≤◌, ◌<◌, Bool, not, ◌&&◌, cond, List, [], ◌∷◌, ◌++◌, map, eqb, leb, ltb, length, take, drop}
+-- What the contracts of inner functions name besides: the tokens of a text by their places, a line read token by token, which
+-- `proofs/Walking.antt` of crate faults has to be `line_of`, and Table II as the code has it. Assumes nothing.
+use Rattle.std.specs.Prelude.{ℕ, suc, ◌+◌, ◌-◌, ◌≤◌, ◌<◌, Bool, not, ◌&&◌, cond}
+use Rattle.std.specs.Prelude.{List, [], ◌∷◌, ◌++◌, map, eqb, leb, ltb, length, drop}
+use Rattle.std.specs.Prelude.{Option as RustOption, Some, None}
 use Rattle.std.proofs.Math.Option.{Option, none, some}
 use Rattle.std.proofs.Math.Seq.{slice}
 use Rattle.word.specs.Told.{Told, tells}
 use Rattle.lines.specs.declared.Spot.{Spot}
-use Rattle.lines.specs.declared.Spot.TheVariants.{Word, Paren, Nothing}
-use Rattle.character.specs.Character.{number}
+use Rattle.lines.specs.declared.Spot.TheVariants.{Word, Paren}
+use Rattle.lines.specs.declared.Kind.{Kind as RustKind}
+use Rattle.lines.specs.declared.Kind.TheVariants as rust
+use Rattle.lines.specs.declared.Kind.TheVariants.{Field, Decimal, Octal, Hollerith, FieldOrDecimal, FieldOrOctal}
+use Rattle.lines.specs.declared.Kind.TheVariants.{Name, Definition, Symbol}
+use Rattle.lines.specs.declared.Form.{Form as RustForm}
 use Rattle.lines.specs.Words.{spelled, same, is_empty, all, literal, mode_words, is_mode, Kind, itself, field, decimal, octal}
 use Rattle.lines.specs.Words.{hollerith}
 use Rattle.lines.specs.Words.{field_or_decimal, field_or_octal, name, definition, symbol}
-use Rattle.lines.specs.Forms.{Form, test_forms, operation_forms, fits, expanded, form_of, symbols_in}
+use Rattle.lines.specs.Forms.{Form, test_forms, operation_forms, expanded, form_of, symbols_in}
 use Rattle.lines.specs.Grammar.{Line, Token, word, paren}
 use Rattle.lines.specs.Reading.{split, Found, place_of}
 
@@ -61,23 +66,24 @@ finished (in_operations label mode tests operations) =
 finished (at_end l) = some l
 
 -- a token found at a place of a text: where its word ends, or where its parenthesis closes
-unfoldable pub token_of : List ℕ → ℕ → Spot → Option Found
-token_of text at Nothing = none
-token_of text at (Word end) = some (record { token = word (slice at end text); rest = drop end text })
-token_of text at (Paren close) = some (record { token = paren (split (slice (suc at) close text)); rest = drop (suc close) text })
+unfoldable pub token_of : List ℕ → ℕ → RustOption Spot → Option Found
+token_of text at None = none
+token_of text at (Some (Word end)) = some (record { token = word (slice at end text); rest = drop end text })
+token_of text at (Some (Paren close)) =
+    some (record { token = paren (split (slice (suc at) close text)); rest = drop (suc close) text })
 
 -- a token ends within the text
-abbrev pub Within : List ℕ → ℕ → Spot → Type 0
-Within text at Nothing = Unit {0}
-Within text at (Word end) = (at < end) × (end ≤ length text)
-Within text at (Paren close) = (at < close) × (close < length text)
+abbrev pub Within : List ℕ → ℕ → RustOption Spot → Type 0
+Within text at None = Unit {0}
+Within text at (Some (Word end)) = (at < end) × (end ≤ length text)
+Within text at (Some (Paren close)) = (at < close) × (close < length text)
 
 -- a token's place in numbers: 1 and where a word ends, 2 and where a parenthesis closes, no values for neither. The papers give
 -- these cases no number
-unfoldable pub told_spot : Spot → Told ℕ
-told_spot Nothing = tells 0 []
-told_spot (Word end) = tells 0 (1 ∷ end ∷ [])
-told_spot (Paren close) = tells 0 (2 ∷ close ∷ [])
+unfoldable pub told_spot : RustOption Spot → Told ℕ
+told_spot None = tells 0 []
+told_spot (Some (Word end)) = tells 0 (1 ∷ end ∷ [])
+told_spot (Some (Paren close)) = tells 0 (2 ∷ close ∷ [])
 
 -- what is told of a token of a text by the bytes that follow it
 unfoldable pub place_told : List ℕ → Token → List ℕ → Told ℕ
@@ -88,19 +94,28 @@ unfoldable pub spot_told : List ℕ → Option Found → Told ℕ
 spot_told text none = tells 0 []
 spot_told text (some f) = place_told text f.token f.rest
 
--- Table II as numbers, eight for each form: its code, the kinds of up to four arguments, and for each of three pairs the argument
--- that it comes from, counted from 1; 0 where there is none. A word itself is its bytes in base 256
-unfoldable pub kind_number : Kind → ℕ
-kind_number field = 1
-kind_number decimal = 2
-kind_number octal = 3
-kind_number hollerith = 4
-kind_number field_or_decimal = 5
-kind_number field_or_octal = 6
-kind_number name = 7
-kind_number definition = 8
-kind_number symbol = 9
-kind_number (itself v) = number 256 0 v
+-- a kind and a form of Table II, as the code has them
+unfoldable pub kind_of : RustKind → Kind
+kind_of (rust.Word v) = itself v.now
+kind_of Field = field
+kind_of Decimal = decimal
+kind_of Octal = octal
+kind_of Hollerith = hollerith
+kind_of FieldOrDecimal = field_or_decimal
+kind_of FieldOrOctal = field_or_octal
+kind_of Name = name
+kind_of Definition = definition
+kind_of Symbol = symbol
+
+unfoldable pub as_form : RustForm → Form
+as_form f = record { code = f.code; arguments = map kind_of f.arguments.now; operands = f.operands.now }
+
+-- each operand of a form is one of its arguments
+unfoldable pub within : Form → Bool
+within f = all (λ (i : ℕ). ltb i (length f.arguments)) f.operands
+
+unfoldable pub forms_of : Bool → List Form
+forms_of tests = cond tests test_forms operation_forms
 
 -- a number literal in base 10 or 8, below a limit
 unfoldable pub is_digit_of : ℕ → ℕ → Bool
@@ -109,61 +124,18 @@ is_digit_of base x = leb 48 x && leb x (47 + base)
 unfoldable pub is_number : ℕ → ℕ → List ℕ → Bool
 is_number base limit w = not (is_empty w) && (all (is_digit_of base) w && ltb (literal base w) limit)
 
--- the bytes of a number below 2 ^ 64 in base 256, without leading zeros
-unfoldable pub bytes_in : ℕ → ℕ → List ℕ
-bytes_in zero n = []
-bytes_in (suc k) n = cond (eqb n 0) [] (bytes_in k (n / 256) ++ n % 256 ∷ [])
+-- the arguments where they are two
+unfoldable pub two_of : List (List ℕ) → RustOption (List ℕ × List ℕ)
+two_of [] = None
+two_of (x ∷ []) = None
+two_of (x ∷ y ∷ []) = Some (x, y)
+two_of (x ∷ y ∷ z ∷ ws) = None
 
-unfoldable pub bytes_of : ℕ → List ℕ
-bytes_of = bytes_in 8
+-- the arguments written out, for a field and its names: none where there is nothing to write out
+unfoldable pub expanded_by : RustOption (List ℕ × List ℕ) → List (List ℕ) → List (List ℕ)
+expanded_by None ws = ws
+expanded_by (Some p) ws = p.0 ∷ spelled "P" ∷ (p.0 ++ p.1) ∷ []
 
--- the kind of a number: `proofs/Coding.antt` has that the numbers of Table II are those of its kinds
-unfoldable pub kind_of : ℕ → Kind
-kind_of n =
-    cond (eqb n 1) field
-    (cond (eqb n 2) decimal
-    (cond (eqb n 3) octal
-    (cond (eqb n 4) hollerith
-    (cond (eqb n 5) field_or_decimal
-    (cond (eqb n 6) field_or_octal
-    (cond (eqb n 7) name (cond (eqb n 8) definition (cond (eqb n 9) symbol (itself (bytes_of n))))))))))
-
-unfoldable pub padded : ℕ → List ℕ → List ℕ
-padded zero xs = []
-padded (suc n) [] = 0 ∷ padded n []
-padded (suc n) (x ∷ xs) = x ∷ padded n xs
-
-unfoldable pub coded : List Form → List ℕ
-coded [] = []
-coded (f ∷ fs) = (f.code ∷ padded 4 (map kind_number f.arguments)) ++ (padded 3 (map suc f.operands) ++ coded fs)
-
--- what these numbers say: the kinds up to the first 0
-unfoldable pub kinds_of : List ℕ → List Kind
-kinds_of [] = []
-kinds_of (n ∷ ns) = cond (eqb n 0) [] (kind_of n ∷ kinds_of ns)
-
-unfoldable pub forms_of : Bool → List Form
-forms_of tests = cond tests test_forms operation_forms
-
--- the place of the first form that fits, the number of forms where none does
-unfoldable pub form_place : ℕ → List (List ℕ) → List Form → ℕ
-form_place b args [] = 0
-form_place b args (form ∷ forms) = cond (fits b args form) 0 (suc (form_place b args forms))
-
--- bytes other than a comma; the arguments from a place on, none where the place is past the end
-abbrev pub is_part : ℕ → Bool
-is_part x = not (eqb x 44)
-
-unfoldable pub parts_from : List ℕ → ℕ → List (List ℕ)
-parts_from s at = cond (leb at (length s)) (split (drop at s)) []
-
--- the arguments written out, for names that begin at a place: 0 where there is nothing to write out
-unfoldable pub expanded_at : List ℕ → ℕ → List (List ℕ)
-expanded_at s n = cond (eqb n 0) (split s) (take (n - 1) s ∷ spelled "P" ∷ (take (n - 1) s ++ drop n s) ∷ [])
-
--- the labels that an operation calls, as `called_in` has them, and by the place where one begins
+-- the labels that an operation calls, as `called_in` has them
 unfoldable pub calls_in : ℕ → List (List ℕ) → List (List ℕ)
 calls_in b x = symbols_in (form_of b (expanded x) operation_forms).arguments (expanded x)
-
-unfoldable pub calls_at : List ℕ → ℕ → List (List ℕ)
-calls_at s n = cond (eqb n 0) [] (drop n s ∷ [])

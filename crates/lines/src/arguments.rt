@@ -1,101 +1,64 @@
 // The arguments of a parenthesis: what stands inside it, split at commas. Each function is lent the inside.
-ghost use Rattle.std.specs.Prelude.{◌≡◌, true, ℕ, ◌+◌, ◌^◌, ◌≤◌, ◌<◌, length, drop, get_or, []};
-ghost use Rattle.std.proofs.Math.Seq.{slice};
+ghost use Rattle.std.specs.Prelude.{◌≡◌, true, ℕ, option_map, option_to_list, slice_get};
 ghost use Rattle.lines.specs.Words.{all};
 ghost use Rattle.lines.specs.Forms.{is_argument, is_operation, expanded};
-ghost use Rattle.lines.specs.Reading.{front, split};
-ghost use Rattle.lines.specs.Walking.{is_part, expanded_at};
-ghost use Rattle.lines.specs.Walking.{calls_at, calls_in};
+ghost use Rattle.lines.specs.Reading.{split};
+ghost use Rattle.lines.specs.Walking.{two_of, expanded_by, calls_in};
 
-use crate::{Part, words};
-
-// Where the argument from a place on ends.
-pub fn comma_end(s: &[u8], at: usize) -> usize
-    requires { at ≤ length s.now }
-    ensures { result ≡ at + length (front is_part (drop at s.now)) }
-{
-    let mut i = at;
-    while i < s.len() {
-        if s[i] == b',' {
-            return i;
-        }
-        i += 1;
-    }
-    i
-}
+use crate::words;
 
 // An argument: one or more characters.
 fn is_argument(w: &[u8]) -> bool
     ensures { result ≡ is_argument w.now }
 {
-    (0 < w.len()) & words::all_characters(w)
+    !w.is_empty() & words::all_characters(w)
 }
 
 // Whether all are arguments.
 pub fn all_arguments(s: &[u8]) -> bool
-    requires { length s.now + 1 < 2 ^ 64 }
     ensures { result ≡ all is_argument (split s.now) }
 {
-    let mut at = 0;
-    while at <= s.len() {
-        let end = comma_end(s, at);
-        if !is_argument(&s[at..end]) {
-            return false;
-        }
-        at = end + 1;
-    }
-    true
-}
-
-// Where the names begin in (a, Δ), which stands for (a, P, aΔ); 0 for other arguments.
-pub fn names_at(s: &[u8]) -> usize
-    requires { length s.now + 1 < 2 ^ 64 }
-    ensures { (result ≤ length s.now) × (expanded_at s.now result ≡ expanded (split s.now)) }
-{
-    let first = comma_end(s, 0);
-    if s.len() <= first {
-        return 0;
-    }
-    if comma_end(s, first + 1) < s.len() {
-        return 0;
-    }
-    if words::is_same(&s[0..first], b"DO") {
-        return 0;
-    }
-    first + 1
-}
-
-// Where the label begins that an operation calls; 0 where it calls none.
-pub fn call_at(s: &[u8]) -> usize
-    requires { length s.now + 1 < 2 ^ 64 }
-    ensures { (result ≤ length s.now) × ((b : ℕ) → is_operation b (split s.now) ≡ true
-        → calls_at s.now result ≡ calls_in b (split s.now)) }
-{
-    let first = comma_end(s, 0);
-    if s.len() <= first {
-        return 0;
-    }
-    if comma_end(s, first + 1) < s.len() {
-        return 0;
-    }
-    if !words::is_same(&s[0..first], b"DO") {
-        return 0;
-    }
-    first + 1
+    s.split(|x| *x == b',').all(|w| is_argument(w))
 }
 
 // An argument by its number.
-pub fn argument_at(s: &[u8], i: usize) -> Part
-    requires { (length s.now + 1 < 2 ^ 64) × (i < length (split s.now)) }
-    ensures { (result.from ≤ result.to) × ((result.to ≤ length s.now)
-        × (slice result.from result.to s.now ≡ get_or (split s.now) i [])) }
+pub fn argument_at(s: &[u8], i: usize) -> Option<&[u8]>
+    ensures { option_map (λ w. w.now) result ≡ slice_get (split s.now) i }
 {
-    let mut left = i;
-    let mut at = 0;
-    while 0 < left {
-        at = comma_end(s, at) + 1;
-        left -= 1;
+    s.split(|x| *x == b',').nth(i)
+}
+
+// The arguments where they are two.
+fn both(s: &[u8]) -> Option<(&[u8], &[u8])>
+    ensures { option_map (λ p. (p.0.now, p.1.now)) result ≡ two_of (split s.now) }
+{
+    let first = argument_at(s, 0)?;
+    let second = argument_at(s, 1)?;
+    match argument_at(s, 2) {
+        Some(_) => None,
+        None => Some((first, second)),
     }
-    let to = comma_end(s, at);
-    Part { from: at, to }
+}
+
+// The field and the names of (a, Δ), which stands for (a, P, aΔ).
+pub fn moved(s: &[u8]) -> Option<(&[u8], &[u8])>
+    ensures { expanded_by (option_map (λ p. (p.0.now, p.1.now)) result) (split s.now) ≡ expanded (split s.now) }
+{
+    let (a, names) = both(s)?;
+    if a == b"DO".as_slice() {
+        return None;
+    }
+    Some((a, names))
+}
+
+// The label that an operation calls.
+pub fn called(s: &[u8]) -> Option<&[u8]>
+    ensures { (b : ℕ) → is_operation b (split s.now) ≡ true
+        → option_to_list (option_map (λ w. w.now) result) ≡ calls_in b (split s.now) }
+{
+    let (word, label) = both(s)?;
+    if word != b"DO".as_slice() {
+        return None;
+    }
+    Some(label)
 }

@@ -11,14 +11,14 @@ use lib.Seq.{drop-cons, length-take-le}
 use Rattle.word.specs.Word.{is_width}
 use Rattle.word.proofs.Tests.{by_test, by_eqb}
 use Rattle.octets.specs.Octets.{bytes_of}
-use Rattle.lines.specs.declared.Read.{Read}
-use Rattle.lines.specs.declared.Read.TheVariants.{Rows, NoWidth, BadLine, BadLabel, TooLong}
+use Rattle.std.specs.Prelude.{Result, Ok, Err}
+use Rattle.lines.specs.declared.ReadError.{ReadError}
 use Rattle.word.specs.Told.{tells, gives, refuses}
 use Rattle.lines.specs.Program.{row_count, Refusal, refusal_of, program, Left, read_at, told_read, refusal_told, read_told}
 use Rattle.lines.proofs.Accepted.{accepted}
 use Rattle.typed.specs.Putting.{put_at}
 use Rattle.typed.proofs.Putting.{put_nothing, put_put, put_long}
-use Rattle.tourtext.specs.Translation.{filed, fault_line, width_line, tour_read, file_by, file_of, printed_by, printed_of}
+use Rattle.tourtext.specs.Translation.{filed, tour_read, file_by, file_of, printed_by, printed_of, refusal_line}
 use Rattle.tour.specs.Put.{put_before}
 use Rattle.tour.proofs.Putting.{put_none}
 
@@ -98,7 +98,7 @@ few b text n =
     its = refusal_of b 8000 text
 
 -- what the call answers tells the file and the line
-module _ (b : ℕ) (text : List ℕ) {answer : Read} {table : List ℕ} (e : record { answer = answer; table = table } ≡ read_at b text (replicate 8000 0)) where
+module _ (b : ℕ) (text : List ℕ) {answer : Result ℕ ReadError} {table : List ℕ} (e : record { answer = answer; table = table } ≡ read_at b text (replicate 8000 0)) where
   pub file_is : file_by answer table ≡ file_of b text
   unfolding file_of tour_read
   file_is = ap (λ (l : Left). file_by l.answer l.table) e
@@ -108,10 +108,10 @@ module _ (b : ℕ) (text : List ℕ) {answer : Read} {table : List ℕ} (e : rec
   printed_is = ap (λ (l : Left). printed_by l.answer) e
 
   -- by the answer
-  module _ {n : ℕ} (is : answer ≡ Rows n) where
+  module _ {n : ℕ} (is : answer ≡ Ok n) where
     pub rows_file : filed (take (10 * n) table) ≡ file_of b text
     unfolding file_by
-    rows_file = sym (ap (λ (r : Read). file_by r table) is) ∙ file_is
+    rows_file = sym (ap (λ (r : Result ℕ ReadError). file_by r table) is) ∙ file_is
 
     pub rows_printed : [] ≡ printed_of b text
     unfolding printed_by
@@ -121,38 +121,14 @@ module _ (b : ℕ) (text : List ℕ) {answer : Read} {table : List ℕ} (e : rec
     unfolding told_read
     rows_few m = few b text n (sym (ap told_read is) ∙ m)
 
-  pub width_file : answer ≡ NoWidth → [] ≡ file_of b text
-  unfolding file_by
-  width_file is = sym (ap (λ (r : Read). file_by r table) is) ∙ file_is
-
-  pub width_printed : answer ≡ NoWidth → width_line ≡ printed_of b text
-  unfolding printed_by
-  width_printed is = sym (ap printed_by is) ∙ printed_is
-
-  module _ {line : ℕ} where
-    pub line_file : answer ≡ BadLine line → [] ≡ file_of b text
+  module _ {error : ReadError} (is : answer ≡ Err error) where
+    pub error_file : [] ≡ file_of b text
     unfolding file_by
-    line_file is = sym (ap (λ (r : Read). file_by r table) is) ∙ file_is
+    error_file = sym (ap (λ (r : Result ℕ ReadError). file_by r table) is) ∙ file_is
 
-    pub label_file : answer ≡ BadLabel line → [] ≡ file_of b text
-    unfolding file_by
-    label_file is = sym (ap (λ (r : Read). file_by r table) is) ∙ file_is
-
-    pub long_file : answer ≡ TooLong line → [] ≡ file_of b text
-    unfolding file_by
-    long_file is = sym (ap (λ (r : Read). file_by r table) is) ∙ file_is
-
-    pub line_printed : answer ≡ BadLine line → fault_line 23 line ≡ printed_of b text
+    pub error_printed : refusal_line error ≡ printed_of b text
     unfolding printed_by
-    line_printed is = sym (ap printed_by is) ∙ printed_is
-
-    pub label_printed : answer ≡ BadLabel line → fault_line 24 line ≡ printed_of b text
-    unfolding printed_by
-    label_printed is = sym (ap printed_by is) ∙ printed_is
-
-    pub long_printed : answer ≡ TooLong line → fault_line 25 line ≡ printed_of b text
-    unfolding printed_by
-    long_printed is = sym (ap printed_by is) ∙ printed_is
+    error_printed = sym (ap printed_by is) ∙ printed_is
 
 -- what is left of the buffers, by what is written and printed
 pub record Translating (b : ℕ) (text tab printed tabAfter printedAfter : List ℕ) (bytes start : ℕ) : Type 0 where

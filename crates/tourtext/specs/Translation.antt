@@ -2,8 +2,9 @@
 -- Assumes nothing.
 use Rattle.std.specs.Prelude.{ℕ, ◌*◌, cond, List, [], ◌∷◌, ◌++◌, eqb, take, replicate}
 use Rattle.octets.specs.Octets.{bytes_of}
-use Rattle.lines.specs.declared.Read.{Read}
-use Rattle.lines.specs.declared.Read.TheVariants.{Rows, NoWidth, BadLine, BadLabel, TooLong}
+use Rattle.std.specs.Prelude.{Result, Ok, Err}
+use Rattle.lines.specs.declared.ReadError.{ReadError}
+use Rattle.lines.specs.declared.ReadError.TheVariants.{NoWidth, BadLine, BadLabel, TooLong}
 use Rattle.lines.specs.Words.{spelled}
 use Rattle.lines.specs.Program.{Left, read_at}
 use Rattle.tour.specs.Tour.{newline, blank, decimal}
@@ -33,23 +34,23 @@ unfoldable pub tour_read : ℕ → List ℕ → Left
 tour_read b text = read_at b text (replicate 8000 0)
 
 -- the bytes of tour.tab, none where the text has a fault; it is written only where there are some
-unfoldable pub file_by : Read → List ℕ → List ℕ
-file_by (Rows n) table = filed (take (10 * n) table)
-file_by NoWidth table = []
-file_by (BadLine line) table = []
-file_by (BadLabel line) table = []
-file_by (TooLong line) table = []
+unfoldable pub file_by : Result ℕ ReadError → List ℕ → List ℕ
+file_by (Ok n) table = filed (take (10 * n) table)
+file_by (Err e) table = []
 
 unfoldable pub file_of : ℕ → List ℕ → List ℕ
 file_of b text = file_by (tour_read b text).answer (tour_read b text).table
 
 -- what is printed: a line where the text has a fault
-unfoldable pub printed_by : Read → List ℕ
-printed_by (Rows n) = []
-printed_by NoWidth = width_line
-printed_by (BadLine line) = fault_line 23 line
-printed_by (BadLabel line) = fault_line 24 line
-printed_by (TooLong line) = fault_line 25 line
+unfoldable pub refusal_line : ReadError → List ℕ
+refusal_line NoWidth = width_line
+refusal_line (BadLine line) = fault_line 23 line
+refusal_line (BadLabel line) = fault_line 24 line
+refusal_line (TooLong line) = fault_line 25 line
+
+unfoldable pub printed_by : Result ℕ ReadError → List ℕ
+printed_by (Ok n) = []
+printed_by (Err e) = refusal_line e
 
 unfoldable pub printed_of : ℕ → List ℕ → List ℕ
 printed_of b text = printed_by (tour_read b text).answer

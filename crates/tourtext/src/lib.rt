@@ -3,9 +3,9 @@
 
 ghost use Rattle.std.specs.Prelude.{◌≡◌, ◌++◌, ◌+◌, ◌*◌, ◌≤◌, length, take, drop};
 ghost use Rattle.tour.specs.Put.{put_before};
-ghost use Rattle.tourtext.specs.Translation.{filed, meaning, fault_line, width_line, file_of, printed_of};
+ghost use Rattle.tourtext.specs.Translation.{filed, meaning, fault_line, width_line, refusal_line, file_of, printed_of};
 
-use lines::{BAD_LABEL, BAD_LINE, Read, TOO_LONG};
+use lines::{BAD_LABEL, BAD_LINE, ReadError, TOO_LONG};
 use octets::put_number;
 use table::rows::ALL;
 use tour::numbers::BYTES;
@@ -27,10 +27,8 @@ fn put_table(table: &[u64], tab: &mut [u8])
     requires { 8 * length table.now ≤ length tab.old }
     ensures { tab.new ≡ filed table.now ++ drop (8 * length table.now) tab.old }
 {
-    let mut i = 0;
-    while i < table.len() {
+    for i in 0..table.len() {
         put_number(tab, 8 * i, 8, table[i]);
-        i += 1;
     }
 }
 
@@ -102,6 +100,19 @@ fn no_width(printed: &mut [u8; LINE]) -> Translated
     Translated { bytes: 0, start }
 }
 
+// Nothing for the file, and why the text is not read.
+fn refused(printed: &mut [u8; LINE], error: ReadError) -> Translated
+    ensures bytes_value { (result.bytes ≡ 0) × (result.start + length (refusal_line error) ≡ 128) }
+    ensures printed_after { printed.new ≡ put_before 128 (refusal_line error) printed.old }
+{
+    match error {
+        ReadError::NoWidth => no_width(printed),
+        ReadError::BadLine(line) => fault(printed, BAD_LINE, line),
+        ReadError::BadLabel(line) => fault(printed, BAD_LABEL, line),
+        ReadError::TooLong(line) => fault(printed, TOO_LONG, line),
+    }
+}
+
 // Reads a text for words of b bits: the bytes of tour.tab at the start of tab, and what is printed at the end of printed.
 pub fn translate(b: u64, text: &[u8], tab: &mut [u8; BYTES], printed: &mut [u8; LINE]) -> Translated
     ensures bytes_value { (result.bytes ≡ length (file_of b text.now))
@@ -112,12 +123,8 @@ pub fn translate(b: u64, text: &[u8], tab: &mut [u8; BYTES], printed: &mut [u8; 
     ensures within { result.bytes ≤ length tab.new }
 {
     let mut table = [0u64; ALL];
-    let answer = read(b, text, &mut table);
-    match answer {
-        Read::Rows(rows) => put_rows(&table, tab, rows),
-        Read::NoWidth => no_width(printed),
-        Read::BadLine(line) => fault(printed, BAD_LINE, line),
-        Read::BadLabel(line) => fault(printed, BAD_LABEL, line),
-        Read::TooLong(line) => fault(printed, TOO_LONG, line),
+    match read(b, text, &mut table) {
+        Ok(rows) => put_rows(&table, tab, rows),
+        Err(error) => refused(printed, error),
     }
 }

@@ -18,15 +18,16 @@ use Rattle.lines.specs.Forms.{operand_at}
 use Rattle.lines.specs.Grammar.{Line, Typed}
 use Rattle.lines.specs.Reading.{front, behind, is_blank, split, token_at, read_line}
 use Rattle.lines.specs.Program.{chained_rows, test_row, operation_row, go_to_row, line_row}
-use Rattle.lines.specs.Walking.{expanded_at, forms_of}
+use Rattle.lines.specs.Walking.{forms_of}
 use Rattle.lines.proofs.Lists.{none_some, some_same}
 use Rattle.lines.proofs.Lines.{line_sound, parts, spacing}
 use Rattle.lines.proofs.Moving.{any_moved}
 use Rattle.lines.proofs.Calling.{moved_form}
+use Rattle.lines.proofs.Parts.{part_slice}
 use Rattle.lines.proofs.Tables.{chained_length}
 use Rattle.faults.specs.declared.Scan.{Scan}
-use Rattle.faults.specs.declared.Scanned.{Scanned}
-use Rattle.faults.specs.declared.Scanned.TheVariants.{Good, Bad}
+use Rattle.faults.specs.Checking.{Scanned}
+use Rattle.std.specs.Prelude.{Some, None}
 use Rattle.faults.specs.Checking.{parens_in, parens_next, tests_at, operations_at, line_at, line_read, scanned_line, PlacedIn}
 use Rattle.faults.specs.Places.{size_of}
 use Rattle.faults.proofs.Using.{Parens, Here, parens_none, parens_more}
@@ -37,33 +38,27 @@ use Rattle.typed.specs.Putting.{Laid}
 use Rattle.typed.proofs.Putting.{rows_none, rows_long, rows_rows}
 
 -- an operation as it is written, and with names written out
-module _ (b next : ℕ) (at : List ℕ → ℕ) (s : List ℕ) where
-  pub plain_row : {n : ℕ} → n ≡ 0 → expanded_at s n ≡ expanded (split s)
-      → row_in at 3 next (form_of b (split s) (forms_of false)) (split s) ≡ operation_row b at next (split s)
-  unfolding expanded_at operation_row forms_of
-  plain_row {n} z e = ap (λ (args : List (List ℕ)). row_in at 3 next (form_of b args operation_forms) args)
-      (subst (λ (k : ℕ). expanded_at s k ≡ expanded (split s)) z e)
+module _ (b next : ℕ) (at : List ℕ → ℕ) (ws : List (List ℕ)) where
+  pub plain_row : ws ≡ expanded ws → row_in at 3 next (form_of b ws (forms_of false)) ws ≡ operation_row b at next ws
+  unfolding operation_row forms_of
+  plain_row e = ap (λ (args : List (List ℕ)). row_in at 3 next (form_of b args operation_forms) args) e
 
-  pub plain_fits : {n : ℕ} → n ≡ 0 → expanded_at s n ≡ expanded (split s) → is_operation b (split s) ≡ true → any (fits b (split s)) (forms_of false) ≡ true
-  unfolding expanded_at is_operation forms_of
-  plain_fits {n} z e is =
-      ap (λ (args : List (List ℕ)). any (fits b args) operation_forms) (subst (λ (k : ℕ). expanded_at s k ≡ expanded (split s)) z e)
-      ∙ (and_true (all is_argument (split s)) (any (fits b (expanded (split s))) operation_forms) is).1
+  pub plain_fits : ws ≡ expanded ws → is_operation b ws ≡ true → any (fits b ws) (forms_of false) ≡ true
+  unfolding is_operation forms_of
+  plain_fits e is =
+      ap (λ (args : List (List ℕ)). any (fits b args) operation_forms) e
+      ∙ (and_true (all is_argument ws) (any (fits b (expanded ws)) operation_forms) is).1
 
-  module _ {n : ℕ} (names : n ≡ 0 → ⊥) (e : expanded_at s n ≡ expanded (split s)) (is : is_operation b (split s) ≡ true) where
-    written_out : expanded (split s) ≡ take (n - 1) s ∷ spelled "P" ∷ (take (n - 1) s ++ drop n s) ∷ []
-    unfolding expanded_at
-    written_out = sym e ∙ rw (ne_eqb n 0 names)
-
-    pub moved_fields : (is_field (take (n - 1) s) && is_field (take (n - 1) s ++ drop n s)) ≡ true
+  module _ (a names : List ℕ) (e : a ∷ spelled "P" ∷ (a ++ names) ∷ [] ≡ expanded ws) (is : is_operation b ws ≡ true) where
+    pub moved_fields : (is_field a && is_field (a ++ names)) ≡ true
     unfolding is_operation
     moved_fields =
-        sym (any_moved b (take (n - 1) s) (take (n - 1) s ++ drop n s)) ∙ ap (λ (args : List (List ℕ)). any (fits b args) operation_forms) (sym written_out)
-        ∙ (and_true (all is_argument (split s)) (any (fits b (expanded (split s))) operation_forms) is).1
+        sym (any_moved b a (a ++ names)) ∙ ap (λ (args : List (List ℕ)). any (fits b args) operation_forms) e
+        ∙ (and_true (all is_argument ws) (any (fits b (expanded ws)) operation_forms) is).1
 
-    pub moved_is : moved_row next (take (n - 1) s) (drop n s) ≡ operation_row b at next (split s)
+    pub moved_is : moved_row next a names ≡ operation_row b at next ws
     unfolding moved_row operation_row row_in name_in gives_name pairs_of operand_at pair_of
-    moved_is = rw (written_out, moved_form b (take (n - 1) s) (take (n - 1) s ++ drop n s) moved_fields)
+    moved_is = rw (← e, moved_form b a (a ++ names) moved_fields)
 
 -- tests and operations
 pub group_test : (b : ℕ) (at : List ℕ → ℕ) (tests : Bool) (next : ℕ) (x : List (List ℕ)) → tests ≡ true → test_row b at next x ≡ group_row b at tests next x
@@ -202,6 +197,11 @@ module _ (b : ℕ) (at : List ℕ → ℕ) (s : List ℕ) (c : Scan) (laid : Lai
       ∙ ap (λ (n : ℕ). cond (is_empty (operations_at s c)) 0 (row + 1 + n)) (sym counts.tests) in
       rw (first, second, g)
 
+  -- the row made of what the calls answer
+  pub made_is : {made : Row} {tests others go : ℕ} → made ≡ line_numbers next c.mode tests others go → tests ≡ cond (eqb c.tests 0) 0 (row + 1)
+      → others ≡ cond (eqb c.operations 0) 0 (row + 1 + c.tests) → go ≡ go_to_row b at (take (c.ends - c.goes) (drop c.goes s)) → made ≡ line_row b at row next l
+  made_is m e f g = m ∙ line_is e f (g ∙ ap (go_to_row b at) (part_slice c.goes c.ends s))
+
   pub tests_grouped : (table : List ℕ) → 10 * (row + (1 + c.tests + c.operations)) ≤ length table → Grouped b s test_group table
   unfolding tests_at is_group
   tests_grouped table room = record { whole = laid.placed.counted.tests; proper = laid.tests; room = omega arith }
@@ -286,7 +286,7 @@ module _ (b : ℕ) (s : List ℕ) where
   parts_of l (some t) e f =
       subst (λ (m : Line). all (is_test b) m.tests ≡ true) (some_same f) (parts b t.line (spacing b t (line_sound b s t e).typed).line).tests
 
-  pub laid_good : {r : Scanned} {c : Scan} → r ≡ Good c → scanned_line s r ≡ line_read (read_line b s) → PlacedIn s r → Laid b s c
+  pub laid_good : {r : Scanned} {c : Scan} → r ≡ Some c → scanned_line s r ≡ line_read (read_line b s) → PlacedIn s r → Laid b s c
   unfolding scanned_line line_at
   laid_good {r} {c} is e placed =
       record {
@@ -296,12 +296,12 @@ module _ (b : ℕ) (s : List ℕ) where
       }
 
   module _ (at : List ℕ → ℕ) (row : ℕ) (last : Bool) where
-    pub read_bad : {r : Scanned} (table : List ℕ) → r ≡ Bad → scanned_line s r ≡ line_read (read_line b s)
+    pub read_bad : {r : Scanned} (table : List ℕ) → r ≡ None → scanned_line s r ≡ line_read (read_line b s)
         → table ≡ put_rows row (read_rows b at row last (line_read (read_line b s))) table
     unfolding scanned_line read_rows
     read_bad table is e = rw (sym e ∙ ap (scanned_line s) is) (sym (rows_none row table))
 
-    pub read_good : {r : Scanned} {c : Scan} (next : ℕ) → r ≡ Good c → scanned_line s r ≡ line_read (read_line b s)
+    pub read_good : {r : Scanned} {c : Scan} (next : ℕ) → r ≡ Some c → scanned_line s r ≡ line_read (read_line b s)
         → 1 + c.tests + c.operations ≡ size_of (line_read (read_line b s))
         → next ≡ cond last 0 (row + (1 + c.tests + c.operations)) → line_rows b at row next (line_at s c) ≡ read_rows b at row last (line_read (read_line b s))
     unfolding scanned_line read_rows size_of

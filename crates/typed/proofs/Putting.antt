@@ -3,9 +3,9 @@ use Prim.Native.Nat.{ℕ, ◌+◌, ◌-◌, ◌*◌, ◌≤◌}
 use native.Mathlib.Nat.{add-zero}
 use native.Mathlib.Omega.{arith}
 use mathlib.Core.Path.{◌≡◌, refl, ap, ap₂, sym, ◌∙◌}
-use mathlib.Core.List.{List, [], ◌∷◌, ◌++◌, append_assoc, append-nil}
-use lib.ListN.{length, take, drop, length-append, length-drop, take-append-drop, drop_of_length-le}
-use lib.Seq.{length-take-le, take_at, drop_at, drop-drop, sets, sets-eq}
+use mathlib.Core.List.{List, [], ◌∷◌, ◌++◌, append_assoc}
+use lib.ListN.{length, take, drop, length-append, length-drop, take-append-drop}
+use lib.Seq.{length-take-le, take_at, drop_at, drop-drop}
 use Rattle.table.specs.declared.Row.{Row}
 use Rattle.lines.specs.Program.{numbers_of, flat}
 use Rattle.lines.proofs.Tables.{flat_length}
@@ -58,11 +58,7 @@ module _ (r : ℕ) (rs qs : List Row) (table : List ℕ) where
       let place : 10 * (r + length rs) ≡ 10 * r + length (flat rs) = omega (arith, flat_length rs) in
       rw (place, flat_append rs qs) (put_put (10 * r) (flat rs) (flat qs) table (omega (arith, flat_length rs, flat_length qs)))
 
--- ten numbers, and a row
-pub ten_put : (l vs : List ℕ) → length l ≡ 10 → length vs ≡ 10 → sets l 0 vs ≡ vs
-ten_put l vs e f =
-    sets-eq vs l 0 (omega arith) ∙ ap (λ (r : List ℕ). vs ++ r) (drop_of_length-le l {i = 0 + length vs} (omega arith)) ∙ append-nil vs
-
+-- a row
 pub row_put : (row : ℕ) (made : Row) (l ys : List ℕ) → ys ≡ numbers_of made
     → take (10 * row) l ++ (ys ++ drop (10 * row + 10 - 10 * row) (drop (10 * row) l)) ≡ put_rows row (made ∷ []) l
 unfolding put_rows put_at flat numbers_of

@@ -2,20 +2,20 @@
 #![tactic(auto)]
 
 ghost use Rattle.std.specs.Prelude.{◌≡◌, ◌≤◌, length};
-ghost use Rattle.lines.specs.Program.{reading, refused, read_at, told_read, read_told};
-ghost use Rattle.faults.specs.Names.{Known};
+ghost use Rattle.lines.specs.Program.{reading, read_at, told_read, read_told};
 ghost use Rattle.typed.specs.Putting.{reading_told};
 
 pub mod pairs;
 pub mod values;
 pub mod writing;
 
-use faults::judging::judge;
+use faults::Label;
+use faults::names::Labels;
 use faults::seeking::learn;
-use lines::{BAD_LABEL, BAD_LINE, Read};
+use lines::ReadError;
 use table::rows;
+use values::Ready;
 use word::is_width;
-use writing::put_text;
 
 // Tests or operations of a line: where they begin, how many they are, and the row of the first.
 #[derive(Clone, Copy)]
@@ -26,69 +26,53 @@ pub struct Group {
     pub row: usize,
 }
 
-// The answer that a refusal gives.
-fn refuse(number: u64, line: u64) -> Read
-    ensures { told_read result ≡ told_read (refused (record { number = number; line = line })) }
-{
-    if number == BAD_LINE {
-        return Read::BadLine(line);
-    }
-    if number == BAD_LABEL {
-        return Read::BadLabel(line);
-    }
-    Read::TooLong(line)
-}
-
 // Room for the labels of a text: for those of its first lines, and as many that it uses.
 const LABELS: usize = 2 * rows::MOST;
 
-fn no_labels() -> [u64; LABELS] {
-    [0; LABELS]
+fn no_labels() -> [Label; LABELS] {
+    [Label { key: 0, row: 0 }; LABELS]
 }
 
-// Reads a text whose labels are put by.
-fn read_known(b: u64, text: &[u8], keys: &[u64], rows: &[u64], table: &mut [u64]) -> Read
-    requires { (b ≤ 48) × Known b text.now keys.now rows.now }
-    ensures { (told_read result ≡ reading_told b text.now table.old)
-        × (table.new ≡ (reading b text.now table.old).table) }
+// Reads a text some of whose labels are known.
+fn read_known(labels: &Labels<'_>, table: &mut [u64]) -> Result<u64, ReadError>
+    ensures { (told_read result ≡ reading_told labels.now.b labels.now.text.now table.old)
+        × (table.new ≡ (reading labels.now.b labels.now.text.now table.old).table) }
 {
-    let verdict = judge(b, text, keys, rows, table.len() as u64);
-    let number = verdict.number;
-    if number != 0 {
-        return refuse(number, verdict.line);
-    }
-    put_text(b, text, keys, rows, table);
-    Read::Rows(verdict.count)
+    let count = labels.judge(table.len() as u64)?;
+    let ready = Ready { labels: *labels };
+    ready.put_text(table);
+    Ok(count)
 }
 
 // Reads a text, with room for its labels.
-fn read_with(b: u64, text: &[u8], keys: &mut [u64], rows: &mut [u64], table: &mut [u64]) -> Read
-    requires { (b ≤ 48) × ((800 ≤ length keys.old) × (length keys.old ≡ length rows.old)) }
+fn read_with(b: u64, text: &[u8], room: &mut [Label], table: &mut [u64]) -> Result<u64, ReadError>
+    requires { (b ≤ 48) × (800 ≤ length room.old) }
     ensures { (told_read result ≡ reading_told b text.now table.old)
         × (table.new ≡ (reading b text.now table.old).table) }
 {
-    let n = learn(b, text, keys, rows);
-    read_known(b, text, &keys[0..n], &rows[0..n], table)
+    let n = learn(b, text, room);
+    let known = &room[0..n];
+    let labels = Labels { b, text, known };
+    read_known(&labels, table)
 }
 
 // Reads a text whose words have b bits.
-pub fn read_at(b: u64, text: &[u8], table: &mut [u64]) -> Read
+pub fn read_at(b: u64, text: &[u8], table: &mut [u64]) -> Result<u64, ReadError>
     requires { b ≤ 48 }
     ensures { (told_read result ≡ reading_told b text.now table.old)
         × (table.new ≡ (reading b text.now table.old).table) }
 {
-    let mut keys = no_labels();
-    let mut rows = no_labels();
-    read_with(b, text, &mut keys, &mut rows, table)
+    let mut room = no_labels();
+    read_with(b, text, &mut room, table)
 }
 
 // Reads a text into the lent table, for words of b bits: refusals 31, 23, 24, 25.
-pub fn read(b: u64, text: &[u8], table: &mut [u64]) -> Read
+pub fn read(b: u64, text: &[u8], table: &mut [u64]) -> Result<u64, ReadError>
     ensures table_after { record { answer = result; table = table.new } ≡ read_at b text.now table.old }
     ensures numbered { told_read result ≡ read_told b text.now table.old }
 {
     if !is_width(b) {
-        return Read::NoWidth;
+        return Err(ReadError::NoWidth);
     }
     read_at(b, text, table)
 }

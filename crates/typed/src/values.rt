@@ -4,10 +4,11 @@ ghost use Rattle.character.specs.Character.{code_of};
 ghost use Rattle.lines.specs.Words.{name_number, last_byte_of, is_label, is_field, is_kind, field_pair, literal_pair, pair_of};
 ghost use Rattle.lines.specs.Walking.{kind_of};
 ghost use Rattle.typed.specs.Values.{base_of, digit_as, value_from};
-ghost use Rattle.faults.specs.Names.{label_row, Ready};
+ghost use Rattle.lines.specs.Program.{row_count};
+ghost use Rattle.faults.specs.Places.{lines_in};
 
-use faults::names;
-use lines::kinds;
+use faults::names::Labels;
+use lines::{Kind, kinds};
 use table::{Pair, codes};
 
 // The name numbers of A, J and S, at which the six-bit codes leave a gap.
@@ -33,13 +34,6 @@ const PERIOD: u64 = b'.' as u64;
 
 const BEFORE_LETTERS: u64 = b'A' as u64 - A;
 
-// A difference, 0 where it would be less.
-fn less(x: u64, y: u64) -> u64
-    ensures { result ≡ x - y }
-{
-    if x < y { 0 } else { x - y }
-}
-
 // The name number of a byte.
 pub fn name_number(x: u64) -> u64
     ensures { (result ≡ name_number x) × (result ≤ x) }
@@ -47,7 +41,7 @@ pub fn name_number(x: u64) -> u64
     if (ZERO <= x) & (x <= NINE) {
         x - ZERO
     } else {
-        less(x, BEFORE_LETTERS)
+        x.saturating_sub(BEFORE_LETTERS)
     }
 }
 
@@ -68,54 +62,40 @@ fn code_of(n: u64) -> u64
     n + FROM_S
 }
 
-// A byte as a number.
-pub fn wide(x: u8) -> u64
-    ensures { (result ≡ x) × (result < 256) }
-{
-    x as u64
-}
-
-// The digit of a byte, by the number of a kind.
-fn digit_as(kind: u64, x: u8) -> u64
+// The digit of a byte in a word of a kind.
+fn digit_as(kind: Kind, x: u8) -> u64
     ensures { result ≡ digit_as kind x }
 {
-    let n = wide(x);
-    if kind == kinds::FIELD {
-        return name_number(n) + 1;
+    let n = u64::from(x);
+    match kind {
+        Kind::Field => name_number(n) + 1,
+        Kind::Hollerith if n == PERIOD => 0o33,
+        Kind::Hollerith => code_of(name_number(n)),
+        _ => n.saturating_sub(ZERO),
     }
-    if kind == kinds::HOLLERITH {
-        if n == PERIOD {
-            return 0o33;
-        }
-        return code_of(name_number(n));
-    }
-    less(n, ZERO)
 }
 
 // The base of a kind.
-fn base_of(kind: u64) -> u64
+#[tactic(auto, unfolding(crate::specs::Values::base_of))]
+fn base_of(kind: Kind) -> u64
     ensures { result ≡ base_of kind }
 {
-    if kind == kinds::DECIMAL {
-        return 10;
+    match kind {
+        Kind::Decimal => 10,
+        Kind::Octal => 8,
+        _ => 64,
     }
-    if kind == kinds::OCTAL {
-        return 8;
-    }
-    64
 }
 
 // The value of bytes after those that make a number.
-pub fn value_from(kind: u64, before: u64, w: &[u8]) -> u64
+pub fn value_from(kind: Kind, before: u64, w: &[u8]) -> u64
     requires { value_from kind before w.now < 2 ^ 48 }
     ensures { result ≡ value_from kind before w.now }
 {
     let base = base_of(kind);
     let mut v = before;
-    let mut i = 0;
-    while i < w.len() {
-        v = v * base + digit_as(kind, w[i]);
-        i += 1;
+    for x in w {
+        v = v * base + digit_as(kind, *x);
     }
     v
 }
@@ -124,14 +104,11 @@ pub fn value_from(kind: u64, before: u64, w: &[u8]) -> u64
 pub fn last_byte(w: &[u8]) -> u8
     ensures { result ≡ last_byte_of w.now }
 {
-    if w.len() == 0 {
-        return 0;
-    }
-    w[w.len() - 1]
+    w.last().copied().unwrap_or(0)
 }
 
 // A pair with the value of a word.
-fn valued(form: u64, kind: u64, w: &[u8]) -> Pair
+fn valued(form: u64, kind: Kind, w: &[u8]) -> Pair
     requires { value_from kind 0 w.now < 2 ^ 48 }
     ensures { (result.form ≡ form) × (result.value ≡ value_from kind 0 w.now) }
 {
@@ -140,27 +117,15 @@ fn valued(form: u64, kind: u64, w: &[u8]) -> Pair
 }
 
 // The pair of a field designator or a literal.
-fn either(kind: u64, w: &[u8]) -> Pair
+fn either(kind: Kind, w: &[u8]) -> Pair
     requires { is_field w.now ≡ false → value_from kind 0 w.now < 2 ^ 48 }
     ensures { result ≡ cond (is_field w.now) (field_pair w.now)
         (literal_pair (value_from kind 0 w.now)) }
 {
     if kinds::is_field(w) {
-        valued(codes::REFERENCE, kinds::FIELD, w)
+        valued(codes::REFERENCE, Kind::Field, w)
     } else {
         valued(codes::LITERAL, kind, w)
-    }
-}
-
-// The pair of a label: its row.
-fn labelled(b: u64, text: &[u8], keys: &[u64], rows: &[u64], w: &[u8]) -> Pair
-    requires { Ready b text.now keys.now rows.now × (is_label w.now ≡ true) }
-    ensures { result ≡ literal_pair (label_row b text.now w.now) }
-{
-    let value = names::known_row(keys, rows, w);
-    Pair {
-        form: codes::LITERAL,
-        value,
     }
 }
 
@@ -171,21 +136,44 @@ fn plain(form: u64) -> Pair
     Pair { form, value: 0 }
 }
 
-// The pair that an argument becomes, by the number of its kind.
-pub fn pair_of(b: u64, text: &[u8], keys: &[u64], rows: &[u64], kind: u64, w: &[u8]) -> Pair
-    requires { Ready b text.now keys.now rows.now × (is_kind b (kind_of kind) w.now ≡ true) }
-    ensures { result ≡ pair_of (label_row b text.now) (kind_of kind) w.now }
-{
-    match kind {
-        kinds::FIELD => valued(codes::REFERENCE, kinds::FIELD, w),
-        kinds::DECIMAL => valued(codes::LITERAL, kinds::DECIMAL, w),
-        kinds::OCTAL => valued(codes::LITERAL, kinds::OCTAL, w),
-        kinds::HOLLERITH => valued(codes::LITERAL, kinds::HOLLERITH, w),
-        kinds::FIELD_OR_DECIMAL => either(kinds::DECIMAL, w),
-        kinds::FIELD_OR_OCTAL => either(kinds::OCTAL, w),
-        kinds::FIELD_NAME => plain(codes::ABSENT),
-        kinds::DEFINITION => plain(codes::ABSENT),
-        kinds::LABEL => labelled(b, text, keys, rows, w),
-        _ => plain(codes::LITERAL),
+// A text without a refusal, and its labels.
+#[derive(Clone, Copy)]
+pub struct Ready<'a> {
+    pub labels: Labels<'a>,
+    pub ghost few: { row_count (lines_in labels.b labels.text.now) ≤ 800 },
+}
+
+impl Ready<'_> {
+    ghost use Rattle.typed.specs.Looking.{row_at};
+
+    // The pair of a label: its row.
+    fn labelled(&self, w: &[u8]) -> Pair
+        requires { is_label w.now ≡ true }
+        ensures { result ≡ literal_pair (row_at self.now w.now) }
+    {
+        let value = self.labels.row_of(w);
+        Pair {
+            form: codes::LITERAL,
+            value,
+        }
+    }
+
+    // The pair that an argument of a kind becomes.
+    pub fn pair_of(&self, kind: Kind, w: &[u8]) -> Pair
+        requires { is_kind self.now.labels.b (kind_of kind) w.now ≡ true }
+        ensures { result ≡ pair_of (row_at self.now) (kind_of kind) w.now }
+    {
+        match kind {
+            Kind::Word(_) => plain(codes::LITERAL),
+            Kind::Field => valued(codes::REFERENCE, Kind::Field, w),
+            Kind::Decimal => valued(codes::LITERAL, Kind::Decimal, w),
+            Kind::Octal => valued(codes::LITERAL, Kind::Octal, w),
+            Kind::Hollerith => valued(codes::LITERAL, Kind::Hollerith, w),
+            Kind::FieldOrDecimal => either(Kind::Decimal, w),
+            Kind::FieldOrOctal => either(Kind::Octal, w),
+            Kind::Name => plain(codes::ABSENT),
+            Kind::Definition => plain(codes::ABSENT),
+            Kind::Symbol => self.labelled(w),
+        }
     }
 }

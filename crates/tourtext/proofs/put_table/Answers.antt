@@ -1,5 +1,4 @@
 -- `tourtext::put_table` meets its contract. The loop's invariant: the numbers left, put from here on, give the whole. Assumes nothing.
-use Prim.Native.Nat.{◌-◌}
 use native.Mathlib.Omega.{arith}
 use Rattle.tourtext.proofs.Filing.{filing_none, filing_all, filing_more}
 use Rattle.tourtext.proofs.put_table.Goals as goal
@@ -17,9 +16,6 @@ offset_bounds-table-i c = omega (arith, c.loop-i.invariant.room, c.loop-i-test.t
 pub put_number-requires : goal.put_number-requires
 put_number-requires c =
     omega (arith, c.loop-i.invariant.room, c.loop-i.invariant.long, c.loop-i-test.true)
-
-pub overflow_add-i : goal.overflow_add-i
-overflow_add-i c = omega (arith, c.loop-i-test.true)
 
 pub loop-i-preserved : goal.loop-i-preserved
 loop-i-preserved c =

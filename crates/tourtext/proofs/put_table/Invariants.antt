@@ -1,4 +1,4 @@
-use Prim.Native.Nat.{◌*◌, ◌-◌}
+use Prim.Native.Nat.{◌*◌}
 use mathlib.Core.List.{◌++◌}
 use lib.ListN.{length, drop}
 use Rattle.tourtext.specs.Translation.{filed}
@@ -8,6 +8,3 @@ use Rattle.tourtext.proofs.put_table.Given as goal
 abbrev pub invariant-loop-i : goal.invariant-loop-i
 invariant-loop-i l =
     Filing l.table (filed l.table ++ drop (8 * length l.table) l.initial.tab) (length l.initial.tab) l.i l.tab
-
-abbrev pub decreases-loop-i : goal.decreases-loop-i
-decreases-loop-i l = length l.table - l.i

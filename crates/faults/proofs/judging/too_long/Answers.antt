@@ -3,7 +3,6 @@
 use mathlib.Core.Path.{refl}
 use Rattle.lines.specs.Program.{too_long}
 use Rattle.faults.proofs.Using.{too_many}
-use borrow.Author.Rules.{rules}
 use Rattle.faults.proofs.judging.too_long.Goals as goal
 
 pub returns-then-size-gt-MOST : goal.returns-then-size-gt-MOST

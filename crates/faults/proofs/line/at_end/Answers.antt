@@ -2,7 +2,6 @@
 -- (`last_byte`). Assumes nothing.
 use native.Mathlib.Omega.{arith}
 use Rattle.faults.proofs.Walked.{not_last, last_byte}
-use borrow.Author.Rules.{rules}
 use Rattle.faults.proofs.line.at_end.Goals as goal
 
 pub returns-then-s-at-ne1 : goal.returns-then-s-at-ne1

@@ -2,7 +2,6 @@
 use mathlib.Core.Path.{sym, ap₂, ◌∙◌}
 use mathlib.Core.Bool.{◌&&◌}
 use Rattle.faults.specs.Checking.{end_scan}
-use borrow.Author.Rules.{rules}
 use Rattle.faults.proofs.line.end_scan.Goals as goal
 
 pub returns-then-is_enough-in_column : goal.returns-then-is_enough-in_column

@@ -5,7 +5,6 @@ use Rattle.word.proofs.Tests.{known_true, known_false}
 use Rattle.lines.specs.Words.{is_label}
 use Rattle.faults.specs.Checking.{word_walk}
 use Rattle.lines.proofs.Parts.{part_slice}
-use borrow.Author.Rules.{rules}
 use Rattle.faults.proofs.line.first_step.Goals as goal
 
 pub returns-then-not-is_label : goal.returns-then-not-is_label

@@ -4,7 +4,6 @@ use native.Mathlib.Nat.{zero-add}
 use mathlib.Core.Path.{◌∙◌}
 use borrow.Author.Tests.{eq-eqb, ne_eqb}
 use Rattle.faults.specs.Checking.{column_at}
-use borrow.Author.Rules.{rules}
 use Rattle.faults.proofs.line.in_column.Goals as goal
 
 pub returns-then-c : goal.returns-then-c

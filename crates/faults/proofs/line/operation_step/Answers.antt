@@ -1,7 +1,6 @@
 -- `faults::line::operation_step` meets its contract. Each branch is one case of the definition: what stands inside (`part_slice`) is an
 -- operation or not. Assumes nothing.
 use Prim.Native.Nat.{◌+◌}
-use native.Mathlib.Omega.{arith}
 use mathlib.Core.Path.{sym, ap, ◌∙◌}
 use mathlib.Core.List.{List}
 use Prim.Native.Nat.{ℕ}
@@ -9,13 +8,8 @@ use Rattle.word.proofs.Tests.{known_true, known_false}
 use Rattle.lines.specs.Forms.{is_operation}
 use Rattle.lines.specs.Reading.{split}
 use Rattle.faults.specs.Checking.{operation_walk}
-use Rattle.lines.proofs.Parts.{part_slice, part_short}
-use borrow.Author.Rules.{rules}
+use Rattle.lines.proofs.Parts.{part_slice}
 use Rattle.faults.proofs.line.operation_step.Goals as goal
-
-pub is_operation-requires : goal.is_operation-requires
-is_operation-requires c =
-    (c.requires.0, part_short (c.args.at + 1) c.args.close c.args.s.now c.requires.1.1.1 (omega arith))
 
 pub returns-then-not-is_operation : goal.returns-then-not-is_operation
 unfolding operation_walk

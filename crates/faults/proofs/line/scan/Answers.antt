@@ -1,14 +1,10 @@
 -- `faults::line::scan` meets its contract. The loop's invariant: what is left, read from the walk so far, is the line. Assumes nothing.
-use Prim.Native.Nat.{◌-◌}
 use native.Mathlib.Omega.{arith}
-use mathlib.Core.Path.{sym, ◌∙◌}
 use Rattle.word.proofs.Tests.{known_true, known_false}
-use lib.ListN.{length}
-use Rattle.faults.proofs.Walked.{Walked, walked_none, starts, few_placed, walked_bad, walked_none_left, walked_more}
+use Rattle.faults.proofs.Walked.{walked_none, starts, few_placed, walked_bad, walked_none_left, walked_more}
 use Rattle.faults.proofs.Walked.{place_later, walked_all}
 use Rattle.lines.proofs.Telling.{spot_is}
 use Rattle.faults.proofs.Answers.{same_walk, scan_tells}
-use borrow.Author.Rules.{rules}
 use Rattle.faults.proofs.line.scan.Goals as goal
 
 pub loop-start-init : goal.loop-start-init
@@ -20,15 +16,14 @@ at_end-requires c = c.loop-start.invariant.inside
 pub blanks_end-start-requires : goal.blanks_end-start-requires
 blanks_end-start-requires c = c.loop-start.invariant.inside
 
-pub token_at-spot-requires : goal.token_at-spot-requires
-token_at-spot-requires c = (starts _ _ c.loop-start.invariant _ c.blanks_end-start.ensures).1
+pub token_at-requires : goal.token_at-requires
+token_at-requires c = (starts _ _ c.loop-start.invariant _ c.blanks_end-start.ensures).1
 
-pub returns-then-is_nothing : goal.returns-then-is_nothing
-returns-then-is_nothing c = (
+pub returns-in_err-spot : goal.returns-in_err-spot
+returns-in_err-spot c = rw c.from_residual.ensures (
   scan_tells _ _ _ (walked_none_left _ _
       (walked_bad c.args.b c.args.s.now c.loop-start.invariant c.blanks_end-start.result c.blanks_end-start.ensures
-      (known_false c.at_end.ensures c.loop-start-test.true-raw) _ (sym c.is_nothing.ensures ∙ c.if-is_nothing.true)
-      (spot_is _ _ _ c.token_at-spot.ensures).0)),
+      (known_false c.at_end.ensures c.loop-start-test.true-raw) (spot_is _ _ _ c.in_err-spot.ensures).0)),
   tt,
 )
 
@@ -38,30 +33,27 @@ spot_step-walk-requires c = (
   (
     few_placed c.args.s.now c.loop-start.walk _ _ (starts _ _ c.loop-start.invariant _ c.blanks_end-start.ensures).0
         c.loop-start.invariant.placed,
-    (spot_is _ _ _ c.token_at-spot.ensures).1,
+    (spot_is _ _ _ c.in_ok-spot.ensures).1,
   ),
 )
 
 pub place_after-at-requires : goal.place_after-at-requires
-place_after-at-requires c = (spot_is _ _ _ c.token_at-spot.ensures).1
+place_after-at-requires c = (spot_is _ _ _ c.in_ok-spot.ensures).1
 
 pub loop-start-smaller : goal.loop-start-smaller
 loop-start-smaller c =
-    let token = spot_is _ _ _ c.token_at-spot.ensures in
+    let token = spot_is _ _ _ c.in_ok-spot.ensures in
     let more = walked_more c.args.b c.args.s.now c.loop-start.invariant c.blanks_end-start.result
-    c.blanks_end-start.ensures (known_false c.at_end.ensures c.loop-start-test.true-raw) _
-    (sym c.is_nothing.ensures ∙ c.if-is_nothing.false) token.0 token.1 in
+    c.blanks_end-start.ensures (known_false c.at_end.ensures c.loop-start-test.true-raw) _ token.0 token.1 in
     let later = place_later c.args.b c.args.s.now c.loop-start.invariant c.blanks_end-start.result
-    c.blanks_end-start.ensures (known_false c.at_end.ensures c.loop-start-test.true-raw) _
-    (sym c.is_nothing.ensures ∙ c.if-is_nothing.false) token.1 in
+    c.blanks_end-start.ensures (known_false c.at_end.ensures c.loop-start-test.true-raw) _ token.1 in
     omega (arith, more.inside, c.place_after-at.ensures)
 
 pub loop-start-preserved : goal.loop-start-preserved
 loop-start-preserved c =
-    let token = spot_is _ _ _ c.token_at-spot.ensures in
+    let token = spot_is _ _ _ c.in_ok-spot.ensures in
     let more = walked_more c.args.b c.args.s.now c.loop-start.invariant c.blanks_end-start.result
-    c.blanks_end-start.ensures (known_false c.at_end.ensures c.loop-start-test.true-raw) _
-    (sym c.is_nothing.ensures ∙ c.if-is_nothing.false) token.0 token.1 in
+    c.blanks_end-start.ensures (known_false c.at_end.ensures c.loop-start-test.true-raw) _ token.0 token.1 in
     rw (c.place_after-at.ensures, same_walk c.spot_step-walk.ensures) more
 
 pub returns : goal.returns

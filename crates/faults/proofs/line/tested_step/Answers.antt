@@ -1,7 +1,6 @@
 -- `faults::line::tested_step` meets its contract. Each branch is one case of the definition: what stands inside (`part_slice`) is a test or
 -- not. Assumes nothing.
 use Prim.Native.Nat.{◌+◌}
-use native.Mathlib.Omega.{arith}
 use mathlib.Core.Path.{sym, ap, ◌∙◌}
 use mathlib.Core.List.{List}
 use Prim.Native.Nat.{ℕ}
@@ -9,13 +8,8 @@ use Rattle.word.proofs.Tests.{known_true, known_false}
 use Rattle.lines.specs.Forms.{is_test}
 use Rattle.lines.specs.Reading.{split}
 use Rattle.faults.specs.Checking.{paren_walk}
-use Rattle.lines.proofs.Parts.{part_slice, part_short}
-use borrow.Author.Rules.{rules}
+use Rattle.lines.proofs.Parts.{part_slice}
 use Rattle.faults.proofs.line.tested_step.Goals as goal
-
-pub is_test-requires : goal.is_test-requires
-is_test-requires c =
-    (c.requires.0, part_short (c.args.at + 1) c.args.close c.args.s.now c.requires.1.1.1 (omega arith))
 
 pub returns-then-not-is_test : goal.returns-then-not-is_test
 unfolding paren_walk

@@ -1,13 +1,7 @@
-use Prim.Native.Nat.{◌-◌}
-use native.Mathlib.Omega.{arith}
 use lib.ListN.{length}
-use Rattle.faults.proofs.Texting.{line_inside}
-use Rattle.faults.proofs.Naming.{Collecting, collecting_none, collecting_known, collecting_fits, collecting_more}
-use borrow.Author.Rules.{rules}
+use Rattle.std.specs.Slice.Iter.{split_inclusive_rest}
+use Rattle.faults.proofs.Naming.{Collecting}
 use Rattle.faults.proofs.names.collect.Given as goal
 
-abbrev pub invariant-loop-from : goal.invariant-loop-from
-invariant-loop-from l = Collecting l.b l.text l.keys l.rows (length l.initial.keys) l.from l.n l.before
-
-abbrev pub decreases-loop-from : goal.decreases-loop-from
-decreases-loop-from l = length l.text - l.from
+abbrev pub invariant-loop-s : goal.invariant-loop-s
+invariant-loop-s l = Collecting l.b l.text l.room (length l.initial.room) (split_inclusive_rest l.s-iterator) l.n l.before

@@ -1,20 +1,15 @@
 -- `faults::names::row_beside` meets its contract. The loop's invariant: the number is not among those passed. Assumes nothing.
-use Prim.Native.Nat.{◌-◌}
-use lib.ListN.{length}
-use Rattle.faults.proofs.Naming.{Seeking, seeking_none, seeking_found, seeking_more, seeking_all}
-use borrow.Author.Rules.{rules}
+use Rattle.faults.proofs.Naming.{seeking_none, seeking_found, seeking_more, seeking_all}
 use Rattle.faults.proofs.names.row_beside.Goals as goal
 
-pub loop-i-init : goal.loop-i-init
-loop-i-init c = seeking_none _ _ _
+pub loop-label-init : goal.loop-label-init
+loop-label-init c = seeking_none _ _
 
-pub returns-then-keys-i : goal.returns-then-keys-i
-returns-then-keys-i c =
-    seeking_found _ _ _ c.loop-i.invariant c.requires c.loop-i-test.true c.if-keys-i.true
+pub returns-then-label-key : goal.returns-then-label-key
+returns-then-label-key c = seeking_found _ _ c.loop-label.invariant _ c.loop-label-test.true c.if-label-key.true
 
-pub loop-i-preserved : goal.loop-i-preserved
-loop-i-preserved c =
-    seeking_more _ _ _ c.loop-i.invariant c.requires c.loop-i-test.true c.if-keys-i.false
+pub loop-label-preserved : goal.loop-label-preserved
+loop-label-preserved c = seeking_more _ _ c.loop-label.invariant _ c.loop-label-test.true c.if-label-key.false
 
 pub returns : goal.returns
-returns c = seeking_all _ _ _ c.loop-i.invariant c.requires c.loop-i-test.false
+returns c = seeking_all _ _ c.loop-label.invariant c.loop-label-test.false

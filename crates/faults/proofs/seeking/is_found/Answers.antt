@@ -1,21 +1,11 @@
--- `faults::seeking::is_found` meets its contract: a label whose key is among those found is declared (`found_there`); where the answer is
+-- `faults::seeking::is_found` meets its contract: a label whose key is among those found is declared (`found_among`); where the answer is
 -- no, nothing is promised. Assumes nothing.
-use mathlib.Core.Path.{◌∙◌}
-use borrow.Author.Tests.{ltb-true}
-use Rattle.word.proofs.Tests.{known_true}
-use lib.ListN.{length}
-use Rattle.lines.proofs.Lists.{true_false}
-use Rattle.faults.proofs.Finding.{found_there}
-use mathlib.Core.Path.{refl}
-use borrow.Author.Rules.{rules}
+use Rattle.std.proofs.lemmas.Bool.Decides.{when_true}
+use mathlib.Core.Path.{sym, ◌∙◌}
+use Rattle.faults.proofs.Finding.{found_among}
 use Rattle.faults.proofs.seeking.is_found.Goals as goal
 
-pub returns-then-not-is_label : goal.returns-then-not-is_label
-returns-then-not-is_label c = λ b text f e. absurd (true_false e refl)
-
-pub returns : goal.returns
-returns c = λ b text f e.
-    let less = ltb-true c.place_of.result (length c.args.found.now) e in
-    found_there b text c.args.found.now f c.args.w.now (known_true c.is_label.ensures c.if-not-is_label.false-raw)
-    c.place_of.result less
-    (c.place_of.ensures.1 less ∙ c.key_of.ensures)
+pub returns-then-is_label : goal.returns-then-is_label
+returns-then-is_label c = λ b text f e.
+    found_among b text c.args.found.now c.args.w.now c.key_of.result (when_true _ _ e c.contains.ensures.cases) c.key_of.ensures
+    (sym c.is_label.ensures ∙ c.if-is_label.true) f

@@ -1,13 +1,7 @@
-use Prim.Native.Nat.{◌-◌}
-use native.Mathlib.Omega.{arith}
 use lib.ListN.{length}
-use Rattle.faults.proofs.Texting.{line_inside}
-use Rattle.faults.proofs.Finding.{Sifting, sifting_none, sifting_more}
-use borrow.Author.Rules.{rules}
+use Rattle.std.specs.Slice.Iter.{split_inclusive_rest}
+use Rattle.faults.proofs.Finding.{Sifting}
 use Rattle.faults.proofs.seeking.seek.Given as goal
 
-abbrev pub invariant-loop-from : goal.invariant-loop-from
-invariant-loop-from l = Sifting l.b l.text l.n (length l.initial.sought) l.from l.m l.sought
-
-abbrev pub decreases-loop-from : goal.decreases-loop-from
-decreases-loop-from l = length l.text - l.from
+abbrev pub invariant-loop-s : goal.invariant-loop-s
+invariant-loop-s l = Sifting l.b l.text l.n (length l.initial.sought) (split_inclusive_rest l.s-iterator) l.m l.sought

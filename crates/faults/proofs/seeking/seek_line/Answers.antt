@@ -1,13 +1,10 @@
 -- `faults::seeking::seek_line` meets its contract: by the scan. Assumes nothing.
 use native.Mathlib.Omega.{arith}
-use mathlib.Core.Path.{refl, subst}
-use Rattle.faults.specs.declared.Scanned.{Scanned}
-use Rattle.faults.specs.Checking.{PlacedIn}
+use mathlib.Core.Path.{refl}
 use Rattle.lines.specs.Words.{is_name}
 use Rattle.lines.proofs.Scanning.{end_inside}
 use Rattle.faults.proofs.Finding.{line_tells}
 use Rattle.faults.proofs.Answers.{scan_is}
-use borrow.Author.Rules.{rules}
 use Rattle.faults.proofs.seeking.seek_line.Goals as goal
 
 pub overflow_sub-s : goal.overflow_sub-s
@@ -28,30 +25,27 @@ pub slice_bounds-key_of-end : goal.slice_bounds-key_of-end
 slice_bounds-key_of-end c =
     let inside = end_inside is_name c.args.s.now 0 (omega arith) in omega (arith, c.word_end-end.ensures)
 
-pub returns-then-n-i : goal.returns-then-n-i
-returns-then-n-i c = (record { few = omega arith; long = refl }, λ text part f. f)
+pub returns-in_default-scan : goal.returns-in_default-scan
+returns-in_default-scan c = (record { few = omega arith; long = refl }, λ text part f. f)
 
 pub returns-in_default : goal.returns-in_default
 returns-in_default c = (record { few = omega arith; long = refl }, λ text part f. f)
 
 pub slice_bounds-settle-count : goal.slice_bounds-settle-count
 slice_bounds-settle-count c =
-    let label = (subst (λ (r : Scanned). PlacedIn c.args.s.now r) c.in-Good.is
-    c.scan-scanned.ensures.1).counted.label in omega arith
+    let label = c.in-Some-scan.ensures.1.counted.label in omega arith
 
 pub slice_bounds-settle-start : goal.slice_bounds-settle-start
 slice_bounds-settle-start c =
-    let label = (subst (λ (r : Scanned). PlacedIn c.args.s.now r) c.in-Good.is
-    c.scan-scanned.ensures.1).counted.label in omega arith
+    let label = c.in-Some-scan.ensures.1.counted.label in omega arith
 
 pub slice_bounds-settle-end : goal.slice_bounds-settle-end
 slice_bounds-settle-end c =
-    let label = (subst (λ (r : Scanned). PlacedIn c.args.s.now r) c.in-Good.is
-    c.scan-scanned.ensures.1).counted.label in omega arith
+    let label = c.in-Some-scan.ensures.1.counted.label in omega arith
 
 pub returns : goal.returns
 returns c = (
   c.settle.ensures.0,
   λ text part. c.settle.ensures.1 c.args.b text (line_tells c.args.b text
-      c.args.s.now part c.in-Good.is (scan_is _ _ _ c.scan-scanned.ensures.0)),
+      c.args.s.now part c.in-Some-scan.is (scan_is _ _ _ c.scan.ensures.0)),
 )

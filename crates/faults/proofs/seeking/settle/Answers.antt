@@ -5,7 +5,6 @@ use mathlib.Core.Path.{refl}
 use lib.ListN.{length-set}
 use Rattle.faults.proofs.Using.{filled_word}
 use Rattle.faults.proofs.Finding.{found_settled}
-use borrow.Author.Rules.{rules}
 use Rattle.faults.proofs.seeking.settle.Goals as goal
 
 pub returns-then-w-eq0 : goal.returns-then-w-eq0

@@ -1,43 +1,17 @@
--- `lines::arguments::all_arguments` meets its contract. The loop's invariant: those passed are arguments. Assumes nothing.
-use Prim.Native.Nat.{◌-◌}
-use native.Mathlib.Omega.{arith}
-use mathlib.Core.Path.{sym, ap, ◌∙◌}
-use Rattle.word.proofs.Tests.{known_true, known_false}
+-- `lines::arguments::all_arguments` meets its contract: the library's parts are those of the specs. Assumes nothing.
+use mathlib.Core.Path.{ap, ◌∙◌}
+use lib.Dec.{eqb}
+use Rattle.std.proofs.Common.{rules, tests}
+use Rattle.std.proofs.lemmas.Iterator.Search.{all_from_yields_List}
+use Rattle.std.proofs.lemmas.Iterator.Splits.{YieldsList-from_slice_split}
+use Rattle.lines.specs.Words.{all}
 use Rattle.lines.specs.Forms.{is_argument}
-use Rattle.lines.proofs.Parts.{tested_none, tested_more, tested_not, tested_all, part_inside, part_slice}
+use Rattle.lines.proofs.Library.{all_lem, split_lem}
 use Rattle.lines.proofs.arguments.all_arguments.Goals as goal
 
-pub loop-at-init : goal.loop-at-init
-loop-at-init c = tested_none _ _
-
-pub slice_bounds-is_argument-count : goal.slice_bounds-is_argument-count
-slice_bounds-is_argument-count c = let inside = part_inside _ _ _ c.loop-at-test.true c.comma_end-end.ensures in omega arith
-
-pub slice_bounds-is_argument-start : goal.slice_bounds-is_argument-start
-slice_bounds-is_argument-start c = let inside = part_inside _ _ _ c.loop-at-test.true c.comma_end-end.ensures in omega arith
-
-pub slice_bounds-is_argument-end : goal.slice_bounds-is_argument-end
-slice_bounds-is_argument-end c = let inside = part_inside _ _ _ c.loop-at-test.true c.comma_end-end.ensures in omega arith
-
-pub returns-then-not-is_argument : goal.returns-then-not-is_argument
-returns-then-not-is_argument c =
-    tested_not _ _ c.loop-at.invariant _ c.loop-at-test.true c.comma_end-end.ensures
-    (ap is_argument (sym (part_slice c.loop-at.at c.comma_end-end.result c.args.s.now))
-    ∙ known_false c.is_argument.ensures c.if-not-is_argument.true-raw)
-
-pub overflow_add-at : goal.overflow_add-at
-overflow_add-at c =
-    let inside = part_inside _ _ _ c.loop-at-test.true c.comma_end-end.ensures in omega arith
-
-pub loop-at-smaller : goal.loop-at-smaller
-loop-at-smaller c =
-    let inside = part_inside _ _ _ c.loop-at-test.true c.comma_end-end.ensures in omega arith
-
-pub loop-at-preserved : goal.loop-at-preserved
-loop-at-preserved c =
-    tested_more _ _ c.loop-at.invariant _ c.loop-at-test.true c.comma_end-end.ensures
-    (ap is_argument (sym (part_slice c.loop-at.at c.comma_end-end.result c.args.s.now))
-    ∙ known_true c.is_argument.ensures c.if-not-is_argument.false-raw)
-
 pub returns : goal.returns
-returns c = tested_all _ _ c.loop-at.invariant c.loop-at-test.false
+returns c =
+    all_from_yields_List is_argument _ _ _ c.all.ensures.ran
+    (YieldsList-from_slice_split _ (λ x. eqb x 44) c.args.s.now c.split.ensures.rest c.split.ensures.done c.split.ensures.closure
+    (λ x b q k. search (rules, tests))) (λ x b q k. search (rules, tests))
+    ∙ all_lem is_argument _ ∙ ap (all is_argument) (split_lem c.args.s.now)

@@ -1,26 +1,18 @@
--- `lines::arguments::argument_at` meets its contract. The loop's invariant: the argument is that of the parts left. Assumes nothing.
-use native.Mathlib.Omega.{arith}
-use Rattle.lines.proofs.Parts.{part_inside}
-use Rattle.lines.proofs.Picking.{stepping_none, stepping_inside, stepping_more, stepping_all}
+-- `lines::arguments::argument_at` meets its contract: the library's parts are those of the specs. Assumes nothing.
+use Prim.Native.Nat.{ℕ}
+use mathlib.Core.Path.{ap, ◌∙◌}
+use mathlib.Core.List.{List}
+use lib.Dec.{eqb}
+use Rattle.std.specs.Prelude.{slice_get}
+use Rattle.std.proofs.Common.{rules, tests}
+use Rattle.std.proofs.lemmas.Iterator.Consumers.{nth_from_yields_List}
+use Rattle.std.proofs.lemmas.Iterator.Splits.{YieldsList-from_slice_split}
+use Rattle.lines.proofs.Library.{split_lem}
 use Rattle.lines.proofs.arguments.argument_at.Goals as goal
-
-pub loop-left-init : goal.loop-left-init
-loop-left-init c = stepping_none _ _ c.requires.1
-
-pub comma_end-at-requires : goal.comma_end-at-requires
-comma_end-at-requires c = stepping_inside _ _ c.loop-left.invariant
-
-pub overflow_add-at : goal.overflow_add-at
-overflow_add-at c =
-    let inside = part_inside _ _ _ (stepping_inside _ _ c.loop-left.invariant) c.comma_end-at.ensures in omega (arith, c.requires.0)
-
-pub loop-left-preserved : goal.loop-left-preserved
-loop-left-preserved c = stepping_more _ _ c.loop-left.invariant _ c.comma_end-at.ensures c.loop-left-test.true
-
-pub comma_end-to-requires : goal.comma_end-to-requires
-comma_end-to-requires c = stepping_inside _ _ c.loop-left.invariant
 
 pub returns : goal.returns
 returns c =
-    let inside = part_inside _ _ _ (stepping_inside _ _ c.loop-left.invariant) c.comma_end-to.ensures in
-    (inside.0, (inside.1, stepping_all _ _ c.loop-left.invariant _ c.comma_end-to.ensures c.loop-left-test.false))
+    nth_from_yields_List _ _ _ c.nth.ensures.ran
+    (YieldsList-from_slice_split _ (λ x. eqb x 44) c.args.s.now c.split.ensures.rest c.split.ensures.done c.split.ensures.closure
+    (λ x b q k. search (rules, tests)))
+    ∙ ap (λ (ws : List (List ℕ)). slice_get ws c.args.i) (split_lem c.args.s.now)

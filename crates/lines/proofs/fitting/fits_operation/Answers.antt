@@ -1,24 +1,22 @@
 -- `lines::fitting::fits_operation` meets its contract: as written, or with names written out. Assumes nothing.
-use mathlib.Core.Path.{ap₂, ◌∙◌}
-use mathlib.Core.List.{List, ◌++◌}
-use mathlib.Core.Bool.{◌&&◌}
-use Prim.Native.Nat.{ℕ, ◌-◌}
-use Rattle.lines.specs.Words.{is_field}
-use Rattle.lines.proofs.Coding.{operations_fit}
-use Rattle.lines.proofs.Moving.{fits_plain, fits_moved}
-use Rattle.lines.proofs.Parts.{part_slice, part_rest}
+use mathlib.Core.Path.{sym, ap, ◌∙◌}
+use mathlib.Core.List.{List}
+use Prim.Native.Nat.{ℕ}
+use Rattle.lines.specs.Words.{any}
+use Rattle.lines.specs.Forms.{fits, operation_forms}
+use Rattle.lines.specs.Walking.{expanded_by, forms_of}
+use Rattle.lines.proofs.Library.{some_found}
+use Rattle.lines.proofs.Moving.{any_moved}
 use Rattle.lines.proofs.fitting.fits_operation.Goals as goal
 
-pub form_at-requires : goal.form_at-requires
-form_at-requires c =
-    (c.requires.0, c.requires.1)
+pub returns-in-Some : goal.returns-in-Some
+unfolding expanded_by
+returns-in-Some c =
+    c.is_moved.ensures ∙ sym (any_moved c.args.b _ _)
+    ∙ ap (λ (ws : List (List ℕ)). any (fits c.args.b ws) operation_forms) c.in-Some.ensures
 
-pub returns-then-n-eq0 : goal.returns-then-n-eq0
-returns-then-n-eq0 c = operations_fit _ _ c.form_at.ensures ∙ fits_plain _ _ _ c.if-n-eq0.true c.names_at-n.ensures.1
-
-pub returns : goal.returns
-returns c =
-    let first = part_slice 0 (c.names_at-n.result - 1) c.args.s.now in
-    let rest = part_rest c.names_at-n.result c.args.s.now in
-    c.is_moved.ensures ∙ ap₂ (λ (v w : List ℕ). is_field v && is_field (v ++ w)) first rest
-    ∙ fits_moved _ _ _ c.if-n-eq0.false c.names_at-n.ensures.1
+pub returns-in-None : goal.returns-in-None
+unfolding expanded_by forms_of
+returns-in-None c =
+    c.is_some.ensures ∙ some_found _ _ _ _ c.form_of.ensures
+    ∙ ap (λ (ws : List (List ℕ)). any (fits c.args.b ws) operation_forms) c.in-None.ensures

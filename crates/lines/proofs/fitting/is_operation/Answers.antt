@@ -4,10 +4,6 @@ use mathlib.Core.Bool.{◌&&◌}
 use Rattle.lines.specs.Forms.{is_operation}
 use Rattle.lines.proofs.fitting.is_operation.Goals as goal
 
-pub fits_operation-requires : goal.fits_operation-requires
-fits_operation-requires c =
-    (c.requires.0, c.requires.1)
-
 pub returns : goal.returns
 unfolding is_operation
 returns c = ap₂ ◌&&◌ c.all_arguments.ensures c.fits_operation.ensures

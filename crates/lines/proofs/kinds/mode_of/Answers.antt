@@ -1,59 +1,25 @@
--- `lines::kinds::mode_of` meets its contract: each word in its order. Assumes nothing.
-use mathlib.Core.Path.{sym, ◌∙◌}
-use Rattle.lines.specs.Words.{spelled, mode_words}
-use Rattle.lines.specs.Reading.{place_of}
+-- `lines::kinds::mode_of` meets its contract: the words' places are those of the specs. Assumes nothing.
+use mathlib.Core.Path.{refl, sym, ap, ◌∙◌}
+use Rattle.std.specs.Prelude.{position}
+use Rattle.std.proofs.Common.{rules, tests}
+use Rattle.std.proofs.lemmas.Iterator.{YieldsList-from_slice}
+use Rattle.std.proofs.lemmas.Iterator.Search.{position_from_yields_List}
+use Rattle.lines.specs.Words.{spelled, same, mode_words}
+use Rattle.lines.proofs.Library.{same_lem}
 use Rattle.lines.proofs.kinds.mode_of.Goals as goal
 
-pub returns-then-is_same : goal.returns-then-is_same
-unfolding place_of mode_words spelled
-returns-then-is_same c = rw (sym c.is_same.ensures ∙ c.if-is_same.true)
-
-pub returns-then-is_same-2 : goal.returns-then-is_same-2
-unfolding place_of mode_words spelled
-returns-then-is_same-2 c =
-    rw (sym c.is_same.ensures ∙ c.if-is_same.false, sym c.is_same-2.ensures ∙ c.if-is_same-2.true)
-
-pub returns-then-is_same-3 : goal.returns-then-is_same-3
-unfolding place_of mode_words spelled
-returns-then-is_same-3 c =
-    rw (
-      sym c.is_same.ensures ∙ c.if-is_same.false,
-      sym c.is_same-2.ensures ∙ c.if-is_same-2.false,
-      sym c.is_same-3.ensures
-          ∙ c.if-is_same-3.true,
-    )
-
-pub returns-then-is_same-4 : goal.returns-then-is_same-4
-unfolding place_of mode_words spelled
-returns-then-is_same-4 c =
-    rw (
-      sym c.is_same.ensures ∙ c.if-is_same.false,
-      sym c.is_same-2.ensures ∙ c.if-is_same-2.false,
-      sym c.is_same-3.ensures
-          ∙ c.if-is_same-3.false,
-      sym c.is_same-4.ensures ∙ c.if-is_same-4.true,
-    )
-
-pub returns-then-is_same-5 : goal.returns-then-is_same-5
-unfolding place_of mode_words spelled
-returns-then-is_same-5 c =
-    rw (
-      sym c.is_same.ensures ∙ c.if-is_same.false,
-      sym c.is_same-2.ensures ∙ c.if-is_same-2.false,
-      sym c.is_same-3.ensures
-          ∙ c.if-is_same-3.false,
-      sym c.is_same-4.ensures ∙ c.if-is_same-4.false,
-      sym c.is_same-5.ensures ∙ c.if-is_same-5.true,
-    )
+pub returns-in_err-mode : goal.returns-in_err-mode
+unfolding mode_words spelled
+returns-in_err-mode c =
+    c.from_residual.ensures ∙ sym c.in_err-mode.was
+    ∙ position_from_yields_List (λ v. same c.args.w.now v.now) _ _ _ c.position.ensures.ran (YieldsList-from_slice c.iter.result.rest.now refl)
+    (λ x b q k. search (rules, tests, same_lem))
+    ∙ ap (position (λ v. same c.args.w.now v.now)) c.iter.ensures.rest
 
 pub returns : goal.returns
-unfolding place_of mode_words spelled
+unfolding mode_words spelled
 returns c =
-    rw (
-      sym c.is_same.ensures ∙ c.if-is_same.false,
-      sym c.is_same-2.ensures ∙ c.if-is_same-2.false,
-      sym c.is_same-3.ensures
-          ∙ c.if-is_same-3.false,
-      sym c.is_same-4.ensures ∙ c.if-is_same-4.false,
-      sym c.is_same-5.ensures ∙ c.if-is_same-5.false,
-    )
+    sym c.in_ok-mode.was
+    ∙ position_from_yields_List (λ v. same c.args.w.now v.now) _ _ _ c.position.ensures.ran (YieldsList-from_slice c.iter.result.rest.now refl)
+    (λ x b q k. search (rules, tests, same_lem))
+    ∙ ap (position (λ v. same c.args.w.now v.now)) c.iter.ensures.rest

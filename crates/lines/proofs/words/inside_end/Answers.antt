@@ -1,24 +1,15 @@
--- `lines::words::inside_end` meets its contract. The loop's invariant: the bytes end where it did at the start. Assumes nothing.
-use Prim.Native.Nat.{◌-◌}
-use mathlib.Core.Bool.{not}
-use mathlib.Core.Path.{ap}
-use borrow.Author.Tests.{eq-eqb, ne_eqb}
+-- `lines::words::inside_end` meets its contract: as many bytes are taken as come first. Assumes nothing.
+use Rattle.std.proofs.Common.{◌-◌, length, take, drop, rules, tests}
+use Rattle.std.proofs.lemmas.Iterator.{YieldsList-from_slice}
+use Rattle.std.proofs.lemmas.Iterator.Consumers.{count_from_yields_List}
+use Rattle.std.proofs.lemmas.Iterator.Search.{YieldsList-from_take_while}
 use Rattle.lines.specs.Reading.{is_inside}
-use Rattle.lines.proofs.Scanning.{passed_none, passed_more, passed_stop, passed_all}
+use Rattle.lines.proofs.Parts.{ends}
 use Rattle.lines.proofs.words.inside_end.Goals as goal
 
-pub loop-i-init : goal.loop-i-init
-loop-i-init c = passed_none is_inside _ _ c.requires
-
-pub returns-then-text-i-eq41 : goal.returns-then-text-i-eq41
-returns-then-text-i-eq41 c =
-    passed_stop is_inside _ c.loop-i.invariant c.loop-i-test.true
-    (ap not (eq-eqb _ 41 c.if-text-i-eq41.true))
-
-pub loop-i-preserved : goal.loop-i-preserved
-loop-i-preserved c =
-    passed_more is_inside _ c.loop-i.invariant c.loop-i-test.true
-    (ap not (ne_eqb _ 41 c.if-text-i-eq41.false))
-
 pub returns : goal.returns
-returns c = passed_all is_inside _ c.loop-i.invariant c.loop-i-test.false
+returns c =
+    let rest = take (length c.args.text.now - c.args.at) (drop c.args.at c.args.text.now) in
+    ends is_inside _ _ (count_from_yields_List c.take_while.result _ c.count.ensures.ran
+    (YieldsList-from_take_while _ is_inside (YieldsList-from_slice rest cc) c.take_while.ensures.closure c.take_while.ensures.done
+    (λ x b q k. search (rules, tests))))

@@ -1,22 +1,15 @@
--- `lines::words::word_end` meets its contract. The loop's invariant: the word ends where it did at the start. Assumes nothing.
-use Prim.Native.Nat.{◌-◌}
-use Rattle.word.proofs.Tests.{known_true, known_false}
+-- `lines::words::word_end` meets its contract: as many bytes are taken as come first. Assumes nothing.
+use Rattle.std.proofs.Common.{◌-◌, length, take, drop, rules, tests}
+use Rattle.std.proofs.lemmas.Iterator.{YieldsList-from_slice}
+use Rattle.std.proofs.lemmas.Iterator.Consumers.{count_from_yields_List}
+use Rattle.std.proofs.lemmas.Iterator.Search.{YieldsList-from_take_while}
 use Rattle.lines.specs.Words.{is_name}
-use Rattle.lines.proofs.Scanning.{passed_none, passed_more, passed_stop, passed_all}
+use Rattle.lines.proofs.Parts.{ends}
 use Rattle.lines.proofs.words.word_end.Goals as goal
 
-pub loop-i-init : goal.loop-i-init
-loop-i-init c = passed_none is_name _ _ c.requires
-
-pub returns-then-not-is_name : goal.returns-then-not-is_name
-returns-then-not-is_name c =
-    passed_stop is_name _ c.loop-i.invariant c.loop-i-test.true
-    (known_false c.is_name.ensures c.if-not-is_name.true-raw)
-
-pub loop-i-preserved : goal.loop-i-preserved
-loop-i-preserved c =
-    passed_more is_name _ c.loop-i.invariant c.loop-i-test.true
-    (known_true c.is_name.ensures c.if-not-is_name.false-raw)
-
 pub returns : goal.returns
-returns c = passed_all is_name _ c.loop-i.invariant c.loop-i-test.false
+returns c =
+    let rest = take (length c.args.text.now - c.args.at) (drop c.args.at c.args.text.now) in
+    ends is_name _ _ (count_from_yields_List c.take_while.result _ c.count.ensures.ran
+    (YieldsList-from_take_while _ is_name (YieldsList-from_slice rest cc) c.take_while.ensures.closure c.take_while.ensures.done
+    (λ x b q k. search (rules, tests))))

@@ -1,6 +1,5 @@
 -- `typed::values::digit_as` meets its contract. Each return is one case of the definition: a field, a Hollerith literal's period or other
 -- character, a digit. Assumes nothing.
-use native.Mathlib.Omega.{arith}
 use native.Mathlib.Numerals.{add-one}
 use Prim.Native.Nat.{ℕ, suc, ◌-◌}
 use mathlib.Core.Path.{ap, sym, ◌∙◌}
@@ -8,31 +7,24 @@ use borrow.Author.Tests.{eq-eqb, ne_eqb}
 use Rattle.character.specs.Character.{code_of, period}
 use Rattle.lines.specs.Words.{name_number, character_code}
 use Rattle.typed.specs.Values.{digit_as}
+use Rattle.typed.proofs.Valuing.{digit_other}
 use Rattle.typed.proofs.values.digit_as.Goals as goal
 
-pub overflow_add-result : goal.overflow_add-result
-overflow_add-result c = let small = c.wide-n.ensures.1 in omega (arith, c.name_number.ensures.1)
-
-pub returns-then-kind-eq-FIELD : goal.returns-then-kind-eq-FIELD
+pub returns-in-Field : goal.returns-in-Field
 unfolding digit_as
-returns-then-kind-eq-FIELD c =
-    rw (eq-eqb _ 1 c.if-kind-eq-FIELD.true) (add-one c.name_number.result ∙ ap suc (c.name_number.ensures.0 ∙ ap name_number c.wide-n.ensures.0))
+returns-in-Field c = rw c.in-Field.is (add-one c.name_number.result ∙ ap suc (c.name_number.ensures.0 ∙ ap name_number c.from-n.ensures))
 
-pub returns-then-n-eq-PERIOD : goal.returns-then-n-eq-PERIOD
+pub returns-in-Hollerith : goal.returns-in-Hollerith
 unfolding digit_as character_code period
-returns-then-n-eq-PERIOD c =
-    rw (ne_eqb _ 1 c.if-kind-eq-FIELD.false, eq-eqb _ 4 c.if-kind-eq-HOLLERITH.true, eq-eqb _ 46 (sym c.wide-n.ensures.0 ∙ c.if-n-eq-PERIOD.true))
+returns-in-Hollerith c = rw (c.in-Hollerith.is, eq-eqb _ 46 (sym c.from-n.ensures ∙ c.if-n-eq-PERIOD.true))
 
-pub code_of-requires : goal.code_of-requires
-code_of-requires c = let small = c.wide-n.ensures.1 in omega (arith, c.name_number-then-kind-eq-HOLLERITH.ensures.1)
-
-pub returns-then-kind-eq-HOLLERITH : goal.returns-then-kind-eq-HOLLERITH
+pub returns-in-Hollerith-2 : goal.returns-in-Hollerith-2
 unfolding digit_as character_code
-returns-then-kind-eq-HOLLERITH c =
-    rw (ne_eqb _ 1 c.if-kind-eq-FIELD.false, eq-eqb _ 4 c.if-kind-eq-HOLLERITH.true, ne_eqb _ 46 (λ e. c.if-n-eq-PERIOD.false (c.wide-n.ensures.0 ∙ e)))
-    (c.code_of.ensures ∙ ap code_of (c.name_number-then-kind-eq-HOLLERITH.ensures.0 ∙ ap name_number c.wide-n.ensures.0))
+returns-in-Hollerith-2 c =
+    rw (c.in-Hollerith-2.is, ne_eqb _ 46 (λ e. c.if-n-eq-PERIOD.false (c.from-n.ensures ∙ e)))
+    (c.code_of.ensures ∙ ap code_of (c.name_number-in-Hollerith-2.ensures.0 ∙ ap name_number c.from-n.ensures))
 
-pub returns : goal.returns
-unfolding digit_as
-returns c =
-    rw (ne_eqb _ 1 c.if-kind-eq-FIELD.false, ne_eqb _ 4 c.if-kind-eq-HOLLERITH.false) (c.less.ensures ∙ ap (λ (n : ℕ). n - 48) c.wide-n.ensures.0)
+pub returns-in_default : goal.returns-in_default
+returns-in_default c =
+    c.saturating_sub.ensures ∙ ap (λ (n : ℕ). n - 48) c.from-n.ensures
+    ∙ sym (digit_other c.args.kind c.args.x c.in_default.not-Field c.in_default.not-Hollerith)

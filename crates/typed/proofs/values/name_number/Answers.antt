@@ -18,4 +18,4 @@ returns-then-x c = (rw c.if-x.true, omega arith)
 
 pub returns-else-x : goal.returns-else-x
 unfolding name_number is_digit
-returns-else-x c = (c.less.ensures ∙ rw c.if-x.false, let is = c.less.ensures in omega arith)
+returns-else-x c = (c.saturating_sub.ensures ∙ rw c.if-x.false, let is = c.saturating_sub.ensures in omega arith)
