@@ -7,9 +7,7 @@ use Rattle.block.specs.Blocks.{size}
 use Rattle.block.specs.SetUp.{words}
 use Rattle.machine.specs.declared.Definition.{Definition}
 use Rattle.machine.specs.declared.Place.{Place}
-use Rattle.machine.specs.declared.ContentsStack.{ContentsStack}
-use Rattle.machine.specs.declared.DefinitionStack.{DefinitionStack}
-use Rattle.machine.specs.declared.CallStack.{CallStack}
+use Rattle.machine.specs.declared.Stack.{Stack}
 use Rattle.machine.specs.declared.Core.{Core}
 use Rattle.machine.specs.declared.State.{State}
 use Rattle.machine.specs.State.{undefined, tests_of}
@@ -98,7 +96,7 @@ storage_text u map storage = texts (stored_text u.s1 map storage) 0 (min (words 
 unfoldable pub counts_line : ℕ → ℕ → ℕ → List ℕ
 counts_line contents saved calls = spelled "stacks" ++ three_end contents saved calls
 
-unfoldable pub stacks_text : ContentsStack → DefinitionStack → CallStack → List ℕ
+unfoldable pub stacks_text : Stack ℕ → Stack Definition → Stack Place → List ℕ
 stacks_text contents saved calls =
     counts_line contents.count saved.count calls.count
     ++ (texts (λ i. saved_text (get_or contents.entries i 0)) 0 (min contents.count 128)

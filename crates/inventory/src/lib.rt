@@ -2,10 +2,9 @@
 // function returns where its text starts; no line has more than 96 characters.
 #![tactic(auto)]
 
-ghost use Rattle.std.specs.Prelude.{◌++◌, ◌≡◌, ◌+◌, ◌*◌, ◌≤◌, ◌<◌, length, get_or};
+ghost use Rattle.std.specs.Prelude.{ℕ, List, ◌++◌, ◌≡◌, ◌+◌, ◌*◌, ◌≤◌, ◌<◌, length};
 ghost use Rattle.block.specs.SetUp.{words};
-ghost use Rattle.machine.specs.State.{undefined, tests_of};
-ghost use Rattle.inventory.specs.Puts.{Puts};
+ghost use Rattle.inventory.specs.Puts.{Puts, MayPut, PutsLines};
 ghost use Rattle.inventory.specs.Inventory.{octal, word_end, number_text, three_end, texts, bug_text, field_text};
 ghost use Rattle.inventory.specs.Inventory.{start_text, owner, content_text, stored_text, saved_text, definition_text};
 ghost use Rattle.inventory.specs.Inventory.{place_text, head_text, counts_line, stacks_text, listing, printed};
@@ -13,12 +12,9 @@ ghost use Rattle.inventory.specs.Inventory.{place_text, head_text, counts_line, 
 use buddy::section::words_of;
 use buddy::sizes::size_of;
 use diagnosis::field_character;
-use machine::{
-    BUGS, CallStack, ContentsStack, Core, Definition, DefinitionStack, FIELDS, MAP, Place, STACK,
-    State,
-};
+use machine::{BUGS, Core, Definition, FIELDS, MAP, Place, STACK, State};
 use tour::text::{BLANK, NEWLINE, put, put_decimal, put_word};
-use tour::{LENT, least, run_tour};
+use tour::{LENT, run_tour};
 
 // How many bytes the listing has at most.
 pub const LISTING: usize = 440000;
@@ -35,11 +31,9 @@ fn put_octal(text: &mut [u8], at: usize, digits: usize, n: u64) -> usize
 {
     let mut place = at;
     let mut rest = n;
-    let mut left = digits;
-    while left > 0 {
+    for _ in 0..digits {
         place = put(text, place, b'0' + (rest % 8) as u8);
         rest /= 8;
-        left -= 1;
     }
     place
 }
@@ -96,19 +90,6 @@ fn put_bug(text: &mut [u8], at: usize, i: usize, w: u64) -> usize
     put_word(text, name, b"bug ")
 }
 
-// A byte, and a number of two bytes, as a longer number.
-fn wide(x: u8) -> u64
-    ensures { result ≡ x }
-{
-    x as u64
-}
-
-fn wider(x: u16) -> u64
-    ensures { (result ≡ x) × (result < 65536) }
-{
-    x as u64
-}
-
 // A field that is defined.
 fn put_field(text: &mut [u8], at: usize, i: usize, x: Definition) -> usize
     requires { (96 ≤ at) × (at ≤ length text.old) }
@@ -117,7 +98,13 @@ fn put_field(text: &mut [u8], at: usize, i: usize, x: Definition) -> usize
     if !x.defined {
         return at;
     }
-    let end = put_three_end(text, at, wide(x.word), wide(x.left), wide(x.right));
+    let end = put_three_end(
+        text,
+        at,
+        u64::from(x.word),
+        u64::from(x.left),
+        u64::from(x.right),
+    );
     let name = put(text, end, field_character(i as u64));
     put_word(text, name, b"field ")
 }
@@ -134,9 +121,9 @@ fn put_definition(text: &mut [u8], at: usize, x: Definition) -> usize
         text,
         at,
         b"definition",
-        wide(x.word),
-        wide(x.left),
-        wide(x.right),
+        u64::from(x.word),
+        u64::from(x.left),
+        u64::from(x.right),
     )
 }
 
@@ -149,9 +136,9 @@ fn put_place(text: &mut [u8], at: usize, p: Place) -> usize
         text,
         at,
         b"place",
-        wide(p.kind),
-        wider(p.row),
-        wider(p.line),
+        u64::from(p.kind),
+        u64::from(p.row),
+        u64::from(p.line),
     )
 }
 
@@ -169,12 +156,10 @@ fn owner_of(map: &[u8; MAP], i: usize) -> u8
     requires { i < 4096 }
     ensures { result ≡ owner map.now i }
 {
-    let mut at = i;
-    while at > 0 {
+    for at in (1..i + 1).rev() {
         if map[at] != 0 {
             return map[at];
         }
-        at -= 1;
     }
     map[0]
 }
@@ -223,125 +208,51 @@ fn put_stored(
     ensures { Puts (stored_text s1 map.now storage.now i) 96 at
         text.old result text.new }
 {
-    let address = wider(s1) + i as u64;
+    let address = u64::from(s1) + i as u64;
     let end = put_content(text, at, address, owner_of(map, i), storage[i]);
     put_start(text, end, address, map[i])
 }
 
-// The bugs.
-fn put_bugs(text: &mut [u8], at: usize, bugs: &[u64; BUGS]) -> usize
-    requires { (2496 ≤ at) × (at ≤ length text.old) }
-    ensures { Puts (texts (λ i. bug_text i (get_or bugs.now i 0)) 0 26) 2496 at
-        text.old result text.new }
-{
-    let mut place = at;
-    let mut left = BUGS;
-    while left > 0 {
-        left -= 1;
-        place = put_bug(text, place, left, bugs[left]);
-    }
-    place
-}
-
-// The fields.
-fn put_fields(text: &mut [u8], at: usize, definitions: [Definition; FIELDS]) -> usize
-    requires { (3456 ≤ at) × (at ≤ length text.old) }
-    ensures { Puts (texts (λ i. field_text i (get_or definitions i undefined)) 0 36) 3456 at
-        text.old result text.new }
-{
-    let mut place = at;
-    let mut left = FIELDS;
-    while left > 0 {
-        left -= 1;
-        place = put_field(text, place, left, definitions[left]);
-    }
-    place
-}
-
-// The blocks of the first so many words.
-fn put_storage(
+// The lines of the first n places, one after the other, each put by a call. The last is put first.
+fn put_each<F: Fn(&mut [u8], usize, usize) -> usize>(
     text: &mut [u8],
     at: usize,
-    s1: u16,
-    map: &[u8; MAP],
-    storage: &[u64; LENT],
     n: usize,
+    put_one: F,
 ) -> usize
-    requires { (n ≤ 4096) × (96 * n ≤ at) × (at ≤ length text.old) }
-    ensures { Puts (texts (stored_text s1 map.now storage.now) 0 n) (96 * n) at
-        text.old result text.new }
+    requires room { (96 * n ≤ at) × (at ≤ length text.old) }
+    requires calls { MayPut (F.pre put_one) n }
+    requires lines { (f : ℕ → List ℕ) × PutsLines (F.post put_one) f n }
+    ensures room { at ≤ result + 96 * n }
+    ensures inside { result ≤ length text.new }
+    ensures text_after { (f : ℕ → List ℕ) → PutsLines (F.post put_one) f n
+        → Puts (texts f 0 n) (96 * n) at text.old result text.new }
 {
     let mut place = at;
-    let mut left = n;
-    while left > 0 {
-        left -= 1;
-        place = put_stored(text, place, s1, map, storage, left);
-    }
-    place
-}
-
-// The first so many contents that are saved.
-fn put_contents(text: &mut [u8], at: usize, entries: &[u64; STACK], n: usize) -> usize
-    requires { (n ≤ 128) × (96 * n ≤ at) × (at ≤ length text.old) }
-    ensures { Puts (texts (λ i. saved_text (get_or entries.now i 0)) 0 n) (96 * n) at
-        text.old result text.new }
-{
-    let mut place = at;
-    let mut left = n;
-    while left > 0 {
-        left -= 1;
-        place = put_saved(text, place, entries[left]);
-    }
-    place
-}
-
-// The first so many definitions that are saved.
-fn put_definitions(text: &mut [u8], at: usize, entries: [Definition; STACK], n: usize) -> usize
-    requires { (n ≤ 128) × (96 * n ≤ at) × (at ≤ length text.old) }
-    ensures { Puts (texts (λ i. definition_text (get_or entries i undefined)) 0 n) (96 * n) at
-        text.old result text.new }
-{
-    let mut place = at;
-    let mut left = n;
-    while left > 0 {
-        left -= 1;
-        place = put_definition(text, place, entries[left]);
-    }
-    place
-}
-
-// The first so many places that are saved.
-fn put_places(text: &mut [u8], at: usize, entries: [Place; STACK], n: usize) -> usize
-    requires { (n ≤ 128) × (96 * n ≤ at) × (at ≤ length text.old) }
-    ensures { Puts (texts (λ i. place_text (get_or entries i (tests_of 0))) 0 n) (96 * n) at
-        text.old result text.new }
-{
-    let mut place = at;
-    let mut left = n;
-    while left > 0 {
-        left -= 1;
-        place = put_place(text, place, entries[left]);
+    for left in (0..n).rev() {
+        place = put_one(text, place, left);
     }
     place
 }
 
 // Set-up, bugs and fields.
-fn put_head(text: &mut [u8], at: usize, core: Core) -> usize
+fn put_head(text: &mut [u8], at: usize, core: &Core) -> usize
     requires { (6048 ≤ at) × (at ≤ length text.old) }
-    ensures { Puts (head_text core) 6048 at text.old result text.new }
+    ensures { Puts (head_text core.now) 6048 at text.old result text.new }
 {
-    let setup = core.setup;
-    let bugs = core.bugs;
-    let definitions = core.definitions;
-    let fields = put_fields(text, at, definitions);
-    let letters = put_bugs(text, fields, &bugs);
+    let fields = put_each(text, at, FIELDS, |text, at, i| {
+        put_field(text, at, i, core.definitions[i])
+    });
+    let letters = put_each(text, fields, BUGS, |text, at, i| {
+        put_bug(text, at, i, core.bugs[i])
+    });
     put_line(
         text,
         letters,
         b"set-up",
-        wider(setup.d),
-        wider(setup.s1),
-        wider(setup.s2),
+        u64::from(core.setup.d),
+        u64::from(core.setup.s1),
+        u64::from(core.setup.s2),
     )
 }
 
@@ -361,37 +272,39 @@ fn put_counts(text: &mut [u8], at: usize, contents: usize, saved: usize, calls: 
 }
 
 // The stacks.
-fn put_stacks(
-    text: &mut [u8],
-    at: usize,
-    contents: ContentsStack,
-    saved: DefinitionStack,
-    calls: CallStack,
-) -> usize
+fn put_stacks(text: &mut [u8], at: usize, core: &Core) -> usize
     requires { (36960 ≤ at) × (at ≤ length text.old) }
-    ensures { Puts (stacks_text contents saved calls) 36960 at text.old result text.new }
+    ensures { Puts (stacks_text core.now.contents core.now.saved core.now.calls) 36960 at text.old result text.new }
 {
-    let kept = contents.entries;
-    let undone = saved.entries;
-    let returning = calls.entries;
-    let places = put_places(text, at, returning, least(calls.count, STACK));
-    let definitions = put_definitions(text, places, undone, least(saved.count, STACK));
-    let words = put_contents(text, definitions, &kept, least(contents.count, STACK));
+    let contents = &core.contents;
+    let saved = &core.saved;
+    let calls = &core.calls;
+    let places = put_each(text, at, calls.count.min(STACK), |text, at, i| {
+        put_place(text, at, calls.entries[i])
+    });
+    let definitions = put_each(text, places, saved.count.min(STACK), |text, at, i| {
+        put_definition(text, at, saved.entries[i])
+    });
+    let words = put_each(
+        text,
+        definitions,
+        contents.count.min(STACK),
+        |text, at, i| { put_saved(text, at, contents.entries[i]) },
+    );
     put_counts(text, words, contents.count, saved.count, calls.count)
 }
 
 // The listing of a state and its storage.
-fn put_listing(text: &mut [u8], at: usize, state: State, storage: &[u64; LENT]) -> usize
+fn put_listing(text: &mut [u8], at: usize, state: &State, storage: &[u64; LENT]) -> usize
     requires { (440000 ≤ at) × (at ≤ length text.old) }
-    ensures { Puts (listing state storage.now) 440000 at text.old result text.new }
+    ensures { Puts (listing state.now storage.now) 440000 at text.old result text.new }
 {
-    let core = state.core;
-    let map = state.map;
-    let setup = core.setup;
-    let stacks = put_stacks(text, at, core.contents, core.saved, core.calls);
-    let n = least(words_of(setup), LENT);
-    let blocks = put_storage(text, stacks, setup.s1, &map, storage, n);
-    put_head(text, blocks, core)
+    let setup = state.core.setup;
+    let stacks = put_stacks(text, at, &state.core);
+    let blocks = put_each(text, stacks, words_of(setup).min(LENT), |text, at, i| {
+        put_stored(text, at, setup.s1, &state.map, storage, i)
+    });
+    put_head(text, blocks, &state.core)
 }
 
 // Runs a tour as tourrun does and puts what tourlist prints at the end of the text. Returns where it starts.
@@ -402,6 +315,5 @@ pub fn list_tour(tab: &[u8], stops: &[u8], text: &mut [u8; LISTING]) -> usize
     let mut storage = [0u64; LENT];
     let mut output = [0u8; LENT];
     let ran = run_tour(tab, stops, &mut storage, &mut output);
-    let state = ran.state;
-    put_listing(text, LISTING, state, &storage)
+    put_listing(text, LISTING, &ran.state, &storage)
 }

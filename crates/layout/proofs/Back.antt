@@ -13,7 +13,8 @@ use Rattle.layout.specs.Layout.{bytes_of_place, place_of, bytes_of_definition, d
 use Rattle.layout.specs.Layout.{bytes_of_state, state_of}
 use Rattle.layout.specs.Ranged.{Array, Bytes, RangedPlace, RangedDefinition, Ranged}
 use Rattle.layout.proofs.Records.{length_array, records_back}
-use Rattle.layout.proofs.Widths.{length_place, length_definition, place_back, definition_back}
+use Rattle.layout.proofs.Widths.{place_back, definition_back}
+use Rattle.layout.specs.Lengths.{length_place, length_definition}
 
 -- what stands after xs, which stand from a place on
 past : (t xs ys : List ℕ) (at n : ℕ) → drop at t ≡ xs ++ ys → length xs ≡ n → drop (at + n) t ≡ ys

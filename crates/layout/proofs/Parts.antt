@@ -1,5 +1,5 @@
 -- The parts of a state put one after the other: numbers, arrays, map, width. Assumes nothing.
-use Prim.Native.Nat.{ℕ, ◌+◌}
+use Prim.Native.Nat.{ℕ}
 use native.Mathlib.Omega.{arith}
 use mathlib.Core.List.{List, ◌++◌, append_assoc}
 use mathlib.Core.Path.{◌≡◌, sym, ap, ◌∙◌}
@@ -15,7 +15,7 @@ use Rattle.layout.specs.Layout.{state_length, bytes_of_place, bytes_of_definitio
 use Rattle.layout.specs.Ranged.{RangedArrays, Ranged}
 use Rattle.layout.proofs.Placing.{row_first, row_more, three_row, four_row, whole}
 use Rattle.layout.proofs.Records.{length_array}
-use Rattle.layout.proofs.Widths.{length_place, length_definition}
+use Rattle.layout.specs.Lengths.{length_place, length_definition}
 
 module _ (c : Core) where
   -- the three groups of numbers

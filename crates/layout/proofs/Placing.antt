@@ -1,12 +1,12 @@
 -- Bytes placed one after the other in a buffer. Assumes nothing.
-use Prim.Native.Nat.{ℕ, ◌+◌, ◌*◌, ◌%◌, ◌≤◌, ◌<◌}
+use Prim.Native.Nat.{ℕ, ◌+◌, ◌≤◌}
 use native.Mathlib.Nat.{zero-add}
-use native.Mathlib.Numerals.{add-one}
 use native.Mathlib.Omega.{arith}
-use mathlib.Core.List.{List, [], ◌∷◌, ◌++◌, append_assoc, append-nil}
+use mathlib.Core.List.{List, [], ◌++◌, append_assoc, append-nil}
 use mathlib.Core.Path.{◌≡◌, sym, ap, ◌∙◌}
-use lib.ListN.{length, take, drop, set, length-append}
-use lib.Seq.{length-take-le, take_at, drop-append-add, drop-drop, drop-length, set_split}
+use lib.ListN.{length, take, drop, length-append}
+use lib.Seq.{length-take-le, take_at, drop-append-add, drop-drop, drop-length}
+use borrow.Rule.Slice.PartMut.{put_mid}
 use Rattle.octets.specs.Octets.{bytes_of}
 use Rattle.octets.proofs.RoundTrip.{length_bytes}
 use Rattle.machine.specs.Storage.{placed}
@@ -62,18 +62,10 @@ pub whole : (xs t : List ℕ) → length xs ≡ length t → placed 0 xs t ≡ x
 unfolding placed
 whole xs t h = ap (λ (n : ℕ). xs ++ drop n t) (zero-add (length xs) ∙ h) ∙ ap (λ (b : List ℕ). xs ++ b) (drop-length t) ∙ append-nil xs
 
--- one number
-pub one : (at x : ℕ) (t : List ℕ) → at < length t → set t at x ≡ placed at (x ∷ []) t
+-- a part that is copied
+pub part_placed : (at n : ℕ) (t ys : List ℕ) → length ys ≡ n → put_mid at n t ys ≡ placed at ys t
 unfolding placed
-one at x t h = set_split t at x h ∙ ap (λ (n : ℕ). take at t ++ (x ∷ drop n t)) (sym (add-one at))
-
--- one byte, the i-th from a place on
-pub byte_placed : (at i v : ℕ) (t : List ℕ) → at + i < length t → v < 256 → set t (at + i) v ≡ placed (at + 1 * i) (bytes_of 1 v) t
-unfolding bytes_of
-byte_placed at i v t h byte =
-    let here : at + i ≡ at + 1 * i = omega arith in
-    let same : v ≡ v % 256 = omega arith in
-    one (at + i) v t h ∙ ap (λ (n : ℕ). placed n (v ∷ []) t) here ∙ ap (λ (x : ℕ). placed (at + 1 * i) (x ∷ []) t) same
+part_placed at n t ys long = ap (λ (rest : List ℕ). take at t ++ (ys ++ rest)) (drop-drop n at t ∙ ap (λ (m : ℕ). drop (at + m) t) (sym long))
 
 -- m bytes in a row from a place on
 pub record Row (at m : ℕ) (xs t now : List ℕ) : Type 0 where

@@ -5,15 +5,32 @@ use native.Mathlib.Nat.{mul-zero, mul-suc, mul-le-mul_left}
 use native.Mathlib.Numerals.{add-one}
 use native.Mathlib.Omega.{arith}
 use mathlib.Core.List.{List, [], ◌∷◌, ◌++◌, append_assoc, append-nil}
-use mathlib.Core.Path.{◌≡◌, refl, sym, ap, ◌∙◌}
+use mathlib.Core.Path.{◌≡◌, refl, sym, ap, subst, ◌∙◌}
 use borrow.Author.Count.{below_more}
-use lib.ListN.{length, take, drop, set, get_or, length-append, length-set}
+use lib.ListN.{length, take, drop, get_or, length-append}
 use lib.Seq.{take_at, drop_at, drop-drop, take_all, length-take-le}
 use Rattle.machine.specs.Storage.{placed}
 use Rattle.layout.specs.Ranged.{Array}
 use Rattle.layout.specs.Records.{bytes_of_all, records_of}
-use Rattle.word.proofs.Filling.{Fills, fills_none, whole_next, whole_all}
+use Rattle.word.proofs.Tests.{by_eqb}
+use Rattle.std.proofs.lemmas.List.{same_lists}
+use Rattle.std.specs.Array.{IsFromFnResult, IsFromFnResultFrom}
+use Rattle.std.specs.Fn.{Called}
+use denote.Param.Members.{Mut}
 use Rattle.layout.proofs.Placing.{Put, start, more}
+
+-- an array whose elements are made by calls that change nothing and give what h gives
+module _ {F B : Type 0} (g : Mut F (ℕ × Unit {0}) B) (f : F) (h : ℕ → B) (made : List B)
+    (calls : (i : ℕ) (y : B) (q : F) → Called g f (i, tt) y q → (q ≡ f) × (y ≡ h i)) where
+  made_from : (n i : ℕ) (p : F) → p ≡ f → IsFromFnResultFrom g p made i n → (k : ℕ) (d : B) → i ≤ k → k < i + n → get_or made k d ≡ h k
+  made_from zero i p same all k d low high = absurd (omega arith)
+  made_from (suc n) i p same (q, y, here, called, rest) k d low high =
+      let one = calls i y q (subst (λ (x : F). Called g x (i, tt) y q) same called) in
+      by_eqb (λ t. get_or made k d ≡ h k) k i (λ e. rw e (here.1 d ∙ one.1))
+      (λ other. made_from n (i + 1) q one.0 rest k d (omega arith) (omega arith))
+
+  pub made_all : (n : ℕ) → IsFromFnResult g f made n → (k : ℕ) (d : B) → k < n → get_or made k d ≡ h k
+  made_all n all k d less = made_from n 0 f refl all.each k d (omega arith) (omega arith)
 
 module _ {A : Type 0} (read : List ℕ → A) (w : ℕ) where
   -- as many as are asked for
@@ -31,26 +48,12 @@ module _ {A : Type 0} (read : List ℕ → A) (w : ℕ) where
       let far : w + w * i ≡ w * suc i = omega arith in
       records_at n i (drop w bytes) none (omega arith) ∙ rw (drop-drop (w * i) w bytes, far)
 
-  -- the first i of n records from a place on are read
-  pub record Reads (at n : ℕ) (bytes : List ℕ) (made : List A) (i : ℕ) : Type 0 where
-    pub t : List A
-    pub long : length made ≡ n
-    pub fills : Fills 0 n (records_of read w n (drop at bytes)) t made i
-
-  pub reads_none : (at n : ℕ) (bytes : List ℕ) (made : List A) → length made ≡ n → Reads at n bytes made 0
-  reads_none at n bytes made h = record { t = made; long = h; fills = fills_none (length_records n (drop at bytes)) (omega arith) }
-
-  module _ {at n : ℕ} {bytes : List ℕ} {made : List A} {i : ℕ} (so_far : Reads at n bytes made i) where
-    pub reads_next : {x : A} → i < n → x ≡ read (take w (drop (at + w * i) bytes)) → Reads at n bytes (set made i x) (i + 1)
-    reads_next {x} h is =
-        record {
-          t = so_far.t;
-          long = length-set made i x ∙ so_far.long;
-          fills = whole_next so_far.fills h x (is ∙ sym (records_at n i (drop at bytes) x h ∙ rw drop-drop));
-        }
-
-    pub reads_all : n ≤ i → made ≡ records_of read w n (drop at bytes)
-    reads_all h = whole_all so_far.fills h (omega arith)
+  -- records that are each read from their place
+  pub records_made : {made : List A} (at n : ℕ) (bytes : List ℕ) → length made ≡ n
+      → ((i : ℕ) (d : A) → i < n → get_or made i d ≡ read (take w (drop (at + w * i) bytes))) → made ≡ records_of read w n (drop at bytes)
+  records_made {made} at n bytes long each =
+      same_lists made (records_of read w n (drop at bytes)) (long ∙ sym (length_records n (drop at bytes)))
+      (λ i d h. each i d (omega (arith, long)) ∙ sym (records_at n i (drop at bytes) d (omega (arith, long)) ∙ rw drop-drop))
 
 module _ {A : Type 0} (put : A → List ℕ) (none : A) where
   -- one record more

@@ -1,5 +1,5 @@
 -- What the numbers that are read make of a place, a definition and a byte. Assumes nothing.
-use Prim.Native.Nat.{ℕ, ◌+◌, ◌*◌, ◌≤◌, ◌<◌}
+use Prim.Native.Nat.{ℕ, ◌+◌, ◌≤◌, ◌<◌}
 use native.Mathlib.Nat.{add-zero}
 use native.Mathlib.Omega.{arith}
 use mathlib.Core.Bool.{not}
@@ -49,13 +49,6 @@ module _ (bytes : List ℕ) (at : ℕ) where
       let left = byte_within 4 2 (omega arith) (omega arith) in
       let right = byte_within 4 3 (omega arith) (omega arith) in
       rw (defined, word, left, right)
-
-  -- a byte of the map
-  pub byte_read : (i : ℕ) → at + i < length bytes → get_or bytes (at + i) 0 ≡ low_first (take 1 (drop (at + 1 * i) bytes))
-  unfolding number_at
-  byte_read i h =
-      let same : at + i ≡ at + 1 * i = omega arith in
-      sym (byte_at (at + i) bytes h) ∙ ap (λ (n : ℕ). low_first (take 1 (drop n bytes))) same
 
 -- all that is read of a state but its map and its width
 pub core_read : (bytes : List ℕ) {place : Place} {bugs words : List ℕ} {definitions saved : List Definition} {calls : List Place}

@@ -1,5 +1,5 @@
--- How many bytes a place and a definition have, that they come back from them, and where a number in a record stands. Assumes nothing.
-use Prim.Native.Nat.{ℕ, zero, suc, ◌+◌, ◌*◌, ◌≤◌, ◌<◌}
+-- That a place and a definition come back from their bytes, and where a number in a record stands. Assumes nothing.
+use Prim.Native.Nat.{ℕ, zero, suc, ◌+◌, ◌*◌, ◌%◌, ◌≤◌, ◌<◌}
 use native.Mathlib.Numerals.{add-one}
 use native.Mathlib.Omega.{arith}
 use mathlib.Core.Bool.{Bool, true, false, not, cond}
@@ -12,17 +12,9 @@ use Rattle.octets.specs.Octets.{low_first, bytes_of}
 use Rattle.octets.proofs.RoundTrip.{number_of_bytes}
 use Rattle.machine.specs.declared.Place.{Place}
 use Rattle.machine.specs.declared.Definition.{Definition}
-use Rattle.layout.specs.Records.{number_at, records_of}
+use Rattle.layout.specs.Records.{number_at, bytes_of_all, records_of}
 use Rattle.layout.specs.Layout.{state_length, bytes_of_place, place_of, bytes_of_definition, definition_of, state_of}
 use Rattle.layout.specs.Ranged.{RangedPlace, RangedDefinition}
-
-pub length_place : (p : Place) → length (bytes_of_place p) ≡ 5
-unfolding bytes_of_place bytes_of
-length_place p = refl
-
-pub length_definition : (x : Definition) → length (bytes_of_definition x) ≡ 4
-unfolding bytes_of_definition bytes_of
-length_definition x = refl
 
 -- they come back from their bytes
 pub place_back : (p : Place) → RangedPlace p → place_of (bytes_of_place p) ≡ p
@@ -77,6 +69,15 @@ bytes_are (suc n) [] h = absurd (omega arith)
 bytes_are (suc n) (x ∷ xs) h =
     let same : x + 256 * 0 ≡ x = omega arith in
     ap (λ (y : ℕ). y ∷ records_of low_first 1 n xs) same ∙ ap (λ (ys : List ℕ). x ∷ ys) (bytes_are n xs (omega arith))
+
+-- and the bytes of bytes are these
+pub bytes_same : (xs : List ℕ) → ((i : ℕ) → i < length xs → get_or xs i 0 < 256) → bytes_of_all (bytes_of 1) xs ≡ xs
+unfolding bytes_of_all bytes_of
+bytes_same [] h = refl
+bytes_same (x ∷ xs) h =
+    let small : x < 256 = h 0 (omega arith) in
+    let same : x % 256 ≡ x = omega arith in
+    rw (same, bytes_same xs (λ i k. h (suc i) (omega arith)))
 
 -- so the map is the bytes from its place on
 pub map_is : (bytes : List ℕ) → length bytes ≡ state_length → (state_of bytes).map ≡ take 4096 (drop 2579 bytes)

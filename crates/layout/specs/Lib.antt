@@ -2,3 +2,4 @@
 pub mod Records
 pub mod Layout
 pub mod Ranged
+pub mod Lengths

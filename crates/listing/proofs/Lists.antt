@@ -5,11 +5,11 @@ use mathlib.Core.List.{List, [], ◌∷◌, ◌++◌, append_assoc, append-nil}
 use mir.Val.{bool_byte}
 use Prim.Native.Nat.{ℕ, ◌+◌, ◌-◌, ◌*◌, ◌/◌, ◌≤◌, ◌<◌}
 use native.Mathlib.Omega.{arith}
-use lib.ListN.{length, get_or, set, length-append, length-set}
+use lib.ListN.{length, get_or, length-append}
 use Rattle.block.specs.Blocks.{size, Block}
 use Rattle.block.proofs.Size.{size_pos}
 use Rattle.machine.specs.Storage.{placed}
-use Rattle.layout.proofs.Placing.{Put, start, more, same_length, whole, one}
+use Rattle.layout.proofs.Placing.{Put, start, more, same_length, whole}
 use Rattle.listing.specs.Listing.{numbers_of, wanted, pair_if}
 use Rattle.listing.proofs.Passing.{listed, Passed, Meets, meets, passed_all}
 
@@ -41,12 +41,6 @@ pub length_numbers : (xs : List Block) → length (numbers_of xs) ≡ 2 * length
 unfolding numbers_of
 length_numbers [] = refl
 length_numbers (x ∷ xs) = omega (arith, length_numbers xs)
-
--- two numbers put one after the other
-pub pair_put : (n a z : ℕ) (list : List ℕ) → n + 2 ≤ length list → set (set list n a) (n + 1) z ≡ placed n (a ∷ z ∷ []) list
-pair_put n a z list h =
-    let first : Put n (a ∷ []) list (set list n a) = record { same = one n a list (omega arith); room = omega arith } in
-    (more first (z ∷ []) refl (one (n + 1) z (set list n a) (omega (arith, length-set list n a))) (omega arith)).same
 
 module _ (w : Bool) (s n : ℕ) (m : List ℕ) (all : List Block) where
   -- c blocks are counted up to word i

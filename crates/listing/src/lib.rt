@@ -29,7 +29,8 @@ fn is_wanted(live: bool, tag: u8) -> bool
     if tag % 2 == 0 { live } else { !live }
 }
 
-// How many live blocks there are, or free ones.
+// How many live blocks there are, or free ones. No walk with a closure for this one and that below: of a list that a closure
+// writes, a proof knows nothing after the walk.
 pub fn count_blocks(live: bool, setup: SetUp, map: &[u8]) -> u64
     requires { (words setup % size (top setup.d) ≡ 0) × (keeps setup map.now ≡ true) }
     ensures value { result ≡ length (blocks live setup map.now) }
@@ -52,8 +53,7 @@ fn put_block(list: &mut [u64], n: usize, asked: bool, address: u64, size: u64) -
     ensures list_after { list.new ≡ placed n (pair_if asked address size) list.old }
 {
     if asked {
-        list[n] = address;
-        list[n + 1] = size;
+        list[n..n + 2].copy_from_slice(&[address, size]);
         return n + 2;
     }
     n

@@ -67,31 +67,6 @@ module _ {A : Type 0} (f : A → Bool) where
   every_fewer (suc m) (suc n) (x ∷ xs) p h =
       every_cons x _ (every_parts x _ h).0 (every_fewer m n xs (le_of_suc-le-suc p) (every_parts x _ h).1)
 
-  -- passing one entry after the other: those before place i have passed
-  module _ (l : List A) (i : ℕ) (d : A) (so_far : every f l ≡ every f (drop i l)) where
-    pub every_on : i < length l → f (get_or l i d) ≡ true → every f l ≡ every f (drop (i + 1) l)
-    unfolding every
-    every_on more k = so_far ∙ rw (drop-cons l i d, k, add-one)
-
-    pub every_off : i < length l → f (get_or l i d) ≡ false → false ≡ every f l
-    unfolding every
-    every_off more k = sym (so_far ∙ rw (drop-cons l i d, k))
-
-    pub every_all : length l ≤ i → true ≡ every f l
-    unfolding every
-    every_all end = sym (so_far ∙ rw (drop_of_length-le l end))
-
-  -- the same of the first n entries
-  module _ (n : ℕ) (l : List A) (i : ℕ) (d : A) (there : n ≤ length l) (so_far : every f (take n l) ≡ every f (drop i (take n l))) where
-    pub taken_on : i < n → f (get_or l i d) ≡ true → every f (take n l) ≡ every f (drop (i + 1) (take n l))
-    taken_on more k = every_on (take n l) i d so_far (rw (length-take-le n l there) more) (rw (get_or-take n l i d more) k)
-
-    pub taken_off : i < n → f (get_or l i d) ≡ false → false ≡ every f (take n l)
-    taken_off more k = every_off (take n l) i d so_far (rw (length-take-le n l there) more) (rw (get_or-take n l i d more) k)
-
-    pub taken_all : n ≤ i → true ≡ every f (take n l)
-    taken_all end = every_all (take n l) i d so_far (rw (length-take-le n l there) end)
-
   -- a stack of n entries, of too many and of a number that fits
   pub stack_over : (n : ℕ) (l : List A) → 128 < n → false ≡ sound_stack f n l
   unfolding sound_stack

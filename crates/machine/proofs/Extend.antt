@@ -10,6 +10,7 @@ use borrow.Author.Tests.{lt-ltb}
 use lib.ListN.{length, take, drop, replicate, length-append, length-replicate}
 use lib.Seq.{take_at, length-take-le}
 use lib.Pow.{pow_pos}
+use Rattle.std.specs.Prelude.{Result, Err}
 use Rattle.word.specs.Word.{is_width}
 use Rattle.word.proofs.Tests.{by_test}
 use Rattle.block.specs.declared.SetUp.{SetUp}
@@ -17,8 +18,8 @@ use Rattle.block.specs.SetUp.{words, fitting, absent}
 use Rattle.block.specs.Extension.{extended_to, extending}
 use Rattle.block.proofs.Size.{absent_facts}
 use Rattle.block.proofs.Extension.{extending_facts, extended_words, extended_fits, extended_section}
-use Rattle.machine.specs.declared.ExtensionAnswer.{ExtensionAnswer}
-use Rattle.machine.specs.declared.ExtensionAnswer.TheVariants.{NoWidth, Unsound, BeforeSetUp, LastAddress}
+use Rattle.machine.specs.declared.ExtensionError.{ExtensionError}
+use Rattle.machine.specs.declared.ExtensionError.TheVariants.{NoWidth, Unsound, BeforeSetUp, LastAddress}
 use Rattle.machine.specs.State.{is_set_up, with_set_up, on_core, with_map}
 use Rattle.machine.specs.Storage.{placed}
 use Rattle.machine.specs.Sound.{Engine, every, sound_engine}
@@ -30,7 +31,7 @@ use Rattle.machine.proofs.Placed.{length_placed}
 
 -- what an extension comes to
 pub data Extends (b last : ℕ) (e : Engine) (x : Extension) : Type 0 where
-  refusing : (answer : ExtensionAnswer) → is_done answer ≡ false → x ≡ not_extended answer e → Extends b last e x
+  refusing : (answer : Result (Unit {0}) ExtensionError) → is_done answer ≡ false → x ≡ not_extended answer e → Extends b last e x
   growing : Facts b e → is_set_up e.state.core ≡ true → extending (length e.storage) last e.state.core.setup ≡ true
       → x ≡ extended_by last e → Extends b last e x
 
@@ -39,26 +40,26 @@ pub extends_at : (b last : ℕ) (e : Engine) → Extends b last e (extend_at b l
 unfolding extend_at is_done
 extends_at b last e =
     elim (sound_engine b e) as (λ t. sound_engine b e ≡ t → Extends b last e (cond t (cond (is_set_up e.state.core)
-    (cond (extending (length e.storage) last e.state.core.setup) (extended_by last e) (not_extended LastAddress e))
-    (not_extended BeforeSetUp e)) (not_extended Unsound e))) [
+    (cond (extending (length e.storage) last e.state.core.setup) (extended_by last e) (not_extended (Err LastAddress) e))
+    (not_extended (Err BeforeSetUp) e)) (not_extended (Err Unsound) e))) [
       | true ↦ λ s. elim (is_set_up e.state.core) as (λ t. is_set_up e.state.core ≡ t → Extends b last e (cond t
-          (cond (extending (length e.storage) last e.state.core.setup) (extended_by last e) (not_extended LastAddress e))
-          (not_extended BeforeSetUp e))) [
+          (cond (extending (length e.storage) last e.state.core.setup) (extended_by last e) (not_extended (Err LastAddress) e))
+          (not_extended (Err BeforeSetUp) e))) [
             | true ↦ λ up. elim (extending (length e.storage) last e.state.core.setup) as (λ t.
                 extending (length e.storage) last e.state.core.setup ≡ t
-                → Extends b last e (cond t (extended_by last e) (not_extended LastAddress e)))
-                [ true ↦ λ k. growing (sound_facts b e s) up k refl | false ↦ λ k. refusing LastAddress refl refl ] refl
-            | false ↦ λ up. refusing BeforeSetUp refl refl
+                → Extends b last e (cond t (extended_by last e) (not_extended (Err LastAddress) e)))
+                [ true ↦ λ k. growing (sound_facts b e s) up k refl | false ↦ λ k. refusing (Err LastAddress) refl refl ] refl
+            | false ↦ λ up. refusing (Err BeforeSetUp) refl refl
           ] refl
-      | false ↦ λ s. refusing Unsound refl refl
+      | false ↦ λ s. refusing (Err Unsound) refl refl
     ] refl
 
 -- an extension goes by the state's width, or is refused by 31
 pub extends : (last : ℕ) (e : Engine) → Extends e.state.width last e (extend last e)
 unfolding extend is_done
 extends last e =
-    by_test (λ t. Extends e.state.width last e (cond t (extend_at e.state.width last e) (not_extended NoWidth e))) (is_width e.state.width)
-    (λ _. extends_at e.state.width last e) (λ _. refusing NoWidth refl refl)
+    by_test (λ t. Extends e.state.width last e (cond t (extend_at e.state.width last e) (not_extended (Err NoWidth) e))) (is_width e.state.width)
+    (λ _. extends_at e.state.width last e) (λ _. refusing (Err NoWidth) refl refl)
 
 -- where the width is one, it is an extension of words of that many bits
 pub extend_is : (b last : ℕ) (e : Engine) → e.state.width ≡ b → is_width b ≡ true → extend last e ≡ extend_at b last e

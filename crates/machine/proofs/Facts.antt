@@ -16,9 +16,7 @@ use Rattle.block.specs.Map.{keeps}
 use Rattle.table.specs.declared.FieldName.{FieldName}
 use Rattle.machine.specs.declared.Place.{Place}
 use Rattle.machine.specs.declared.Definition.{Definition}
-use Rattle.machine.specs.declared.ContentsStack.{ContentsStack}
-use Rattle.machine.specs.declared.DefinitionStack.{DefinitionStack}
-use Rattle.machine.specs.declared.CallStack.{CallStack}
+use Rattle.machine.specs.declared.Stack.{Stack}
 use Rattle.machine.specs.declared.Core.{Core}
 use Rattle.machine.specs.declared.State.{State}
 use Rattle.machine.specs.declared.Location.{Location}
@@ -153,15 +151,15 @@ module _ (b : ℕ) (c : Core) (h : CoreFacts b c) where
       facts h.bugs (every_set (is_definition b) c.definitions f.0 x h.definitions k) h.place h.contents h.saved h.calls
 
   -- another stack that is sound
-  pub contents_facts : (x : ContentsStack) → StackFacts (below (2 ^ b)) x.count x.entries → CoreFacts b (with_contents x c)
+  pub contents_facts : (x : Stack ℕ) → StackFacts (below (2 ^ b)) x.count x.entries → CoreFacts b (with_contents x c)
   unfolding with_contents
   contents_facts x k = facts h.bugs h.definitions h.place k h.saved h.calls
 
-  pub saved_facts : (x : DefinitionStack) → StackFacts (is_definition b) x.count x.entries → CoreFacts b (with_saved x c)
+  pub saved_facts : (x : Stack Definition) → StackFacts (is_definition b) x.count x.entries → CoreFacts b (with_saved x c)
   unfolding with_saved
   saved_facts x k = facts h.bugs h.definitions h.place h.contents k h.calls
 
-  pub calls_facts : (x : CallStack) → StackFacts is_place x.count x.entries → CoreFacts b (with_calls x c)
+  pub calls_facts : (x : Stack Place) → StackFacts is_place x.count x.entries → CoreFacts b (with_calls x c)
   unfolding with_calls
   calls_facts x k = facts h.bugs h.definitions h.place h.contents h.saved k
 

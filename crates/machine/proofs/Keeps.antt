@@ -12,7 +12,7 @@ use lib.ListN.{length, take, drop, replicate, length-replicate, length-take}
 use lib.Seq.{take-append_seam}
 use lib.Pow.{pow_pos}
 use Rattle.block.specs.declared.SetUp.{SetUp}
-use Rattle.block.specs.Blocks.{Block, size, size_at}
+use Rattle.block.specs.Blocks.{Block, size_at}
 use Rattle.block.specs.SetUp.{words, fitting, absent, runs}
 use Rattle.block.specs.Map.{live, keeps}
 use Rattle.block.proofs.Size.{size_pos, fitting_facts, absent_facts}

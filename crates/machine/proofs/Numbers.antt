@@ -6,6 +6,7 @@ use mathlib.Core.Bool.{Bool, true, false, cond}
 use mathlib.Core.List.{[], ◌∷◌}
 use mathlib.Core.Path.{◌≡◌, refl, sym, ap, ◌∙◌}
 use lib.ListN.{get_or, length}
+use Rattle.std.specs.Prelude.{Ok, Err}
 use Rattle.word.specs.Word.{is_width}
 use Rattle.word.specs.Told.{Told, gives, refuses}
 use Rattle.block.specs.Extension.{extending}
@@ -17,8 +18,7 @@ use Rattle.machine.specs.declared.Refusal.TheVariants.{NoRun, FieldFreed, StackF
 use Rattle.machine.specs.declared.Refusal.TheVariants.{SubtrahendGreater, NoWidth}
 use Rattle.machine.specs.declared.Answer.TheVariants.{Running, Finished, Refused}
 use Rattle.machine.specs.declared.Fresh.{Fresh}
-use Rattle.machine.specs.declared.FreshAnswer.TheVariants as freshly
-use Rattle.machine.specs.declared.ExtensionAnswer.TheVariants as extending-answers
+use Rattle.machine.specs.declared.ExtensionError.TheVariants as errors
 use Rattle.machine.specs.Answer.{Checked, refused, passed, refusal_number, told_answer, told, is_running}
 use Rattle.machine.specs.State.{is_finished, is_set_up, fresh, fresh_of, told_fresh}
 use Rattle.machine.specs.Sound.{Lent, Engine, sound, sound_engine}
@@ -129,8 +129,8 @@ pub fresh_told : (b : ℕ) → told_fresh (fresh_of b).answer ≡ cond (is_width
 unfolding fresh_of told_fresh
 fresh_told b = by_width (is_width b)
   where
-    by_width : (w : Bool) → told_fresh (cond {A = Fresh} w (record { state = fresh b; answer = freshly.Done })
-        (record { state = fresh 0; answer = freshly.NoWidth })).answer
+    by_width : (w : Bool) → told_fresh (cond {A = Fresh} w (record { state = fresh b; answer = Ok tt })
+        (record { state = fresh 0; answer = Err (record {}) })).answer
         ≡ cond w (gives tt) (refuses 31)
     by_width true = refl
     by_width false = refl
@@ -147,9 +147,9 @@ extend_told_lem last e =
     by_width : (w s u x : Bool)
         → told_extension
         (cond w
-        (cond s (cond u (cond x (extended_by last e) (not_extended extending-answers.LastAddress e)) (not_extended extending-answers.BeforeSetUp e))
-        (not_extended extending-answers.Unsound e))
-        (not_extended extending-answers.NoWidth e)
+        (cond s (cond u (cond x (extended_by last e) (not_extended (Err errors.LastAddress) e)) (not_extended (Err errors.BeforeSetUp) e))
+        (not_extended (Err errors.Unsound) e))
+        (not_extended (Err errors.NoWidth) e)
         ).extended.answer
         ≡ cond w (cond s (cond u (cond x (gives tt) (refuses 32)) (refuses 12)) (refuses 11)) (refuses 31)
     by_width true true true true = refl

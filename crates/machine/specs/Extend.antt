@@ -1,32 +1,29 @@
 -- More storage while a tour runs: between steps a host gives a new last address. What it comes to is determined by the address and
 -- the engine; no table, input or output bears on it.
 -- Document 02: tickets 11 and 9. Assumes nothing.
-use Rattle.std.specs.Prelude.{ℕ, ◌-◌, Bool, true, false, cond, List, length, replicate}
+use Rattle.std.specs.Prelude.{ℕ, ◌-◌, Bool, true, false, cond, List, length, replicate, Result, Ok, Err}
 use Rattle.word.specs.Word.{is_width}
 use Rattle.word.specs.Told.{Told, gives, refuses}
 use Rattle.block.specs.SetUp.{words}
 use Rattle.block.specs.Extension.{extended_to, extending, extended_map}
-use Rattle.machine.specs.declared.ExtensionAnswer.{ExtensionAnswer}
-use Rattle.machine.specs.declared.ExtensionAnswer.TheVariants.{Done, NoWidth, Unsound, BeforeSetUp, LastAddress}
+use Rattle.machine.specs.declared.ExtensionError.{ExtensionError}
+use Rattle.machine.specs.declared.ExtensionError.TheVariants.{NoWidth, Unsound, BeforeSetUp, LastAddress}
 use Rattle.machine.specs.declared.Extended.{Extended}
 use Rattle.machine.specs.State.{is_set_up, with_set_up, on_core, with_map}
 use Rattle.machine.specs.Storage.{placed}
 use Rattle.machine.specs.Sound.{Engine, sound_engine}
 
 -- an extension's answer in numbers: that it is done, or the refusal
-unfoldable pub told_extension : ExtensionAnswer → Told (Unit {0})
-told_extension Done = gives tt
-told_extension NoWidth = refuses 31
-told_extension Unsound = refuses 11
-told_extension BeforeSetUp = refuses 12
-told_extension LastAddress = refuses 32
+unfoldable pub told_extension : Result (Unit {0}) ExtensionError → Told (Unit {0})
+told_extension (Ok _) = gives tt
+told_extension (Err NoWidth) = refuses 31
+told_extension (Err Unsound) = refuses 11
+told_extension (Err BeforeSetUp) = refuses 12
+told_extension (Err LastAddress) = refuses 32
 
-unfoldable pub is_done : ExtensionAnswer → Bool
-is_done Done = true
-is_done NoWidth = false
-is_done Unsound = false
-is_done BeforeSetUp = false
-is_done LastAddress = false
+unfoldable pub is_done : Result (Unit {0}) ExtensionError → Bool
+is_done (Ok _) = true
+is_done (Err _) = false
 
 -- what an extension leaves: what it returns, and the lent storage
 pub record Extension : Type 0 where
@@ -34,7 +31,7 @@ pub record Extension : Type 0 where
   pub storage : List ℕ
 
 -- one that is refused changes nothing
-unfoldable pub not_extended : ExtensionAnswer → Engine → Extension
+unfoldable pub not_extended : Result (Unit {0}) ExtensionError → Engine → Extension
 not_extended answer e = record { extended = record { state = e.state; answer = answer }; storage = e.storage }
 
 -- the engine with more words: those added are zeroed and become free blocks of size d, and all else stays
@@ -50,7 +47,7 @@ engine_extended last e =
 unfoldable pub extended_by : ℕ → Engine → Extension
 extended_by last e =
     record {
-      extended = record { state = (engine_extended last e).state; answer = Done };
+      extended = record { state = (engine_extended last e).state; answer = Ok tt };
       storage = (engine_extended last e).storage;
     }
 
@@ -60,13 +57,13 @@ unfoldable pub extend_at : ℕ → ℕ → Engine → Extension
 extend_at b last e =
     cond (sound_engine b e)
     (cond (is_set_up e.state.core)
-    (cond (extending (length e.storage) last e.state.core.setup) (extended_by last e) (not_extended LastAddress e))
-    (not_extended BeforeSetUp e))
-    (not_extended Unsound e)
+    (cond (extending (length e.storage) last e.state.core.setup) (extended_by last e) (not_extended (Err LastAddress) e))
+    (not_extended (Err BeforeSetUp) e))
+    (not_extended (Err Unsound) e)
 
 -- an extension: it goes by the state's width, and is refused by 31, before anything else, where that is none
 unfoldable pub extend : ℕ → Engine → Extension
-extend last e = cond (is_width e.state.width) (extend_at e.state.width last e) (not_extended NoWidth e)
+extend last e = cond (is_width e.state.width) (extend_at e.state.width last e) (not_extended (Err NoWidth) e)
 
 -- what it answers in numbers, in the order 31, 11, 12, 32
 unfoldable pub extend_told : ℕ → Engine → Told (Unit {0})

@@ -1,6 +1,6 @@
 -- The engine's state: places, the fresh engine, and each change of one part.
 -- Document 01: "Steps"; document 02, ticket 9. Assumes nothing.
-use Rattle.std.specs.Prelude.{ℕ, Bool, false, not, cond, List, eqb, set, replicate}
+use Rattle.std.specs.Prelude.{ℕ, Bool, false, not, cond, List, eqb, set, replicate, Result, Ok, Err}
 use Rattle.word.specs.Word.{is_width}
 use Rattle.word.specs.Told.{Told, gives, refuses}
 use Rattle.block.specs.declared.SetUp.{SetUp}
@@ -8,14 +8,11 @@ use Rattle.table.specs.declared.BugLetter.{BugLetter}
 use Rattle.table.specs.declared.FieldName.{FieldName}
 use Rattle.machine.specs.declared.Place.{Place}
 use Rattle.machine.specs.declared.Definition.{Definition}
-use Rattle.machine.specs.declared.ContentsStack.{ContentsStack}
-use Rattle.machine.specs.declared.DefinitionStack.{DefinitionStack}
-use Rattle.machine.specs.declared.CallStack.{CallStack}
+use Rattle.machine.specs.declared.Stack.{Stack}
 use Rattle.machine.specs.declared.Core.{Core}
 use Rattle.machine.specs.declared.State.{State}
 use Rattle.machine.specs.declared.Fresh.{Fresh}
-use Rattle.machine.specs.declared.FreshAnswer.{FreshAnswer}
-use Rattle.machine.specs.declared.FreshAnswer.TheVariants.{Done, NoWidth}
+use Rattle.machine.specs.declared.NoWidth.{NoWidth}
 
 -- a place is a line's tests, one operation (its row and its line's), or a line's exit; or the engine is finished
 unfoldable pub tests_of : ℕ → Place
@@ -65,15 +62,15 @@ fresh b =
 
 -- one of the width that is asked for: 31 where that is none, and then a state that every call refuses by 31
 unfoldable pub fresh_of : ℕ → Fresh
-fresh_of b = cond (is_width b) (record { state = fresh b; answer = Done }) (record { state = fresh 0; answer = NoWidth })
+fresh_of b = cond (is_width b) (record { state = fresh b; answer = Ok tt }) (record { state = fresh 0; answer = Err (record {}) })
 
 -- its answer in numbers: that it is made, or 31
-unfoldable pub told_fresh : FreshAnswer → Told (Unit {0})
-told_fresh Done = gives tt
-told_fresh NoWidth = refuses 31
+unfoldable pub told_fresh : Result (Unit {0}) NoWidth → Told (Unit {0})
+told_fresh (Ok _) = gives tt
+told_fresh (Err _) = refuses 31
 
 -- a core by its parts, in the order of the struct
-abbrev core_of : Place → List ℕ → List Definition → ContentsStack → DefinitionStack → CallStack → SetUp → ℕ → ℕ → Core
+abbrev core_of : Place → List ℕ → List Definition → Stack ℕ → Stack Definition → Stack Place → SetUp → ℕ → ℕ → Core
 core_of place bugs definitions contents saved calls setup taken written =
     record {
       place = place;
@@ -97,13 +94,13 @@ with_bug x v c = core_of c.place (set c.bugs x.0 v) c.definitions c.contents c.s
 unfoldable pub with_definition : FieldName → Definition → Core → Core
 with_definition f x c = core_of c.place c.bugs (set c.definitions f.0 x) c.contents c.saved c.calls c.setup c.taken c.written
 
-unfoldable pub with_contents : ContentsStack → Core → Core
+unfoldable pub with_contents : Stack ℕ → Core → Core
 with_contents x c = core_of c.place c.bugs c.definitions x c.saved c.calls c.setup c.taken c.written
 
-unfoldable pub with_saved : DefinitionStack → Core → Core
+unfoldable pub with_saved : Stack Definition → Core → Core
 with_saved x c = core_of c.place c.bugs c.definitions c.contents x c.calls c.setup c.taken c.written
 
-unfoldable pub with_calls : CallStack → Core → Core
+unfoldable pub with_calls : Stack Place → Core → Core
 with_calls x c = core_of c.place c.bugs c.definitions c.contents c.saved x c.setup c.taken c.written
 
 unfoldable pub with_set_up : SetUp → Core → Core

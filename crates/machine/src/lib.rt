@@ -54,6 +54,7 @@ pub enum Refusal {
     NoWidth,
 }
 
+// What a step or run answers. No Result: these three are document 01's answers, as Demand 1 has them, and none is passed on by `?`.
 #[derive(Clone, Copy)]
 pub enum Answer {
     Running,
@@ -70,7 +71,7 @@ pub const AT_EXIT: u8 = 2;
 
 pub const FINISHED: u8 = 3;
 
-// Where the engine stands.
+// Where the engine stands. Its kind is a number and no enum, since a state that C lends holds any byte there (layout's state_of).
 #[derive(Clone, Copy)]
 pub struct Place {
     pub kind: u8,
@@ -78,7 +79,7 @@ pub struct Place {
     pub line: u16,
 }
 
-// A field's definition, or that it is undefined.
+// A field's definition, or that it is undefined. A flag and no Option: a state that C lends has numbers beside a 0 too (state_of).
 #[derive(Clone, Copy)]
 pub struct Definition {
     pub defined: bool,
@@ -87,22 +88,10 @@ pub struct Definition {
     pub right: u8,
 }
 
-// The three stacks: the first count entries are used.
+// A stack: the first count entries are used.
 #[derive(Clone, Copy)]
-pub struct ContentsStack {
-    pub entries: Entries,
-    pub count: usize,
-}
-
-#[derive(Clone, Copy)]
-pub struct DefinitionStack {
-    pub entries: [Definition; STACK],
-    pub count: usize,
-}
-
-#[derive(Clone, Copy)]
-pub struct CallStack {
-    pub entries: [Place; STACK],
+pub struct Stack<T> {
+    pub entries: [T; STACK],
     pub count: usize,
 }
 
@@ -112,9 +101,9 @@ pub struct Core {
     pub place: Place,
     pub bugs: BugWords,
     pub definitions: [Definition; FIELDS],
-    pub contents: ContentsStack,
-    pub saved: DefinitionStack,
-    pub calls: CallStack,
+    pub contents: Stack<u64>,
+    pub saved: Stack<Definition>,
+    pub calls: Stack<Place>,
     pub setup: block::SetUp,
     pub taken: usize,
     pub written: usize,
@@ -135,7 +124,7 @@ pub enum Location {
     Field { address: u64, left: u64, right: u64 },
 }
 
-// A store into storage, all zero where there is none.
+// A store into storage, all zero where there is none, and no Option: C is handed these numbers, and Demand 3 speaks of them.
 #[derive(Clone, Copy)]
 pub struct Store {
     pub address: u64,
@@ -171,24 +160,20 @@ pub struct Ran {
     pub count: u64,
 }
 
-// What is answered where a fresh engine is asked for: that it is made, or that its width is none (refusal 31).
-#[derive(Clone, Copy)]
-pub enum FreshAnswer {
-    Done,
-    NoWidth,
-}
+// Why no fresh engine is made: its width is none (refusal 31).
+#[derive(Clone, Copy, PartialEq, Eq, Debug)]
+pub struct NoWidth;
 
-// A fresh engine's state. With NoWidth comes one that every call refuses: refusal 31.
+// A fresh engine's state, and that it is made. Where it is not, it is one that every call refuses: refusal 31.
 #[derive(Clone, Copy)]
 pub struct Fresh {
     pub state: State,
-    pub answer: FreshAnswer,
+    pub answer: Result<(), NoWidth>,
 }
 
-// What an extension answers: that it is done, or why it is refused (refusals 31, 11, 12, and 32 of ticket 11).
-#[derive(Clone, Copy)]
-pub enum ExtensionAnswer {
-    Done,
+// Why an extension is refused: refusals 31, 11, 12, and 32 of ticket 11.
+#[derive(Clone, Copy, PartialEq, Eq, Debug)]
+pub enum ExtensionError {
     NoWidth,
     Unsound,
     BeforeSetUp,
@@ -199,5 +184,5 @@ pub enum ExtensionAnswer {
 #[derive(Clone, Copy)]
 pub struct Extended {
     pub state: State,
-    pub answer: ExtensionAnswer,
+    pub answer: Result<(), ExtensionError>,
 }

@@ -10,6 +10,7 @@ use lib.Bits.{bit_or}
 use lib.Dec.{ltb}
 use lib.ListN.{length, get_or, take, drop, drop_of_length-le}
 use lib.Seq.{drop-cons, drop-drop}
+use Rattle.std.specs.List.{list_all}
 use Rattle.word.proofs.Bitwise.{or_below}
 use Rattle.buddy.proofs.Parts.{and_assoc}
 use Rattle.machine.specs.Sound.{every, sound_stack}
@@ -28,6 +29,12 @@ module _ {A : Type 0} (f : A → Bool) (passed : Bool) (l : List A) (i : ℕ) wh
   pub also_end : length l ≤ i → (passed && every f (drop i l)) ≡ passed
   unfolding every
   also_end h = rw (drop_of_length-le l h) (always passed)
+
+-- the library's test of all is this one
+pub all_is_every : {A : Type 0} (f : A → Bool) (l : List A) → list_all f l ≡ every f l
+unfolding every
+all_is_every f [] = refl
+all_is_every f (x ∷ xs) = rw (all_is_every f xs)
 
 -- an empty stack has nothing to test
 pub stack_none : {A : Type 0} (f : A → Bool) (n : ℕ) (l : List A) → n ≡ 0 → true ≡ sound_stack f n l

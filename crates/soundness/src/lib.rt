@@ -1,7 +1,8 @@
 // Soundness: refusal 11, clause by clause.
 #![tactic(auto)]
 
-ghost use Rattle.std.specs.Prelude.{◌&&◌, ◌||◌, cond, ◌≡◌, [], ℕ, ◌^◌, ◌≤◌, ◌<◌, eqb, ltb, length, take};
+ghost use Rattle.std.specs.Prelude.{◌&&◌, ◌||◌, cond, ◌≡◌, [], Bool, List, ℕ, ◌^◌, ◌≤◌, ◌<◌, eqb, ltb, length, take};
+ghost use Rattle.std.specs.Fn.{FnReturnsAt};
 ghost use Rattle.block.specs.SetUp.{words};
 ghost use Rattle.machine.specs.Sound.{engine_on, every, is_row, is_place, is_definition, sound_place, sound_stack, sound_stacks};
 ghost use Rattle.machine.specs.Sound.{sound_core, sound_storage, sound_engine, sound};
@@ -10,8 +11,8 @@ use block::SetUp;
 use buddy::section::{keeps_section, words_of};
 use buddy::setup::{fits, is_absent};
 use machine::{
-    AT_EXIT, AT_OPERATION, AT_TESTS, CallStack, ContentsStack, Core, Definition, DefinitionStack,
-    FIELDS, FINISHED, LAST_ROW, LAST_WORD, Place, STACK,
+    AT_EXIT, AT_OPERATION, AT_TESTS, Core, Definition, FIELDS, FINISHED, LAST_ROW, LAST_WORD,
+    Place, STACK, Stack,
 };
 use word::arithmetic::power;
 
@@ -23,10 +24,8 @@ fn joined(words: &[u64]) -> u64
     ensures { (b : ℕ) → ltb result (2 ^ b) ≡ every (λ x. ltb x (2 ^ b)) words.now }
 {
     let mut all: u64 = 0;
-    let mut i = 0;
-    while i < words.len() {
-        all = all | words[i];
-        i += 1;
+    for word in words {
+        all |= *word;
     }
     all
 }
@@ -36,14 +35,12 @@ pub fn are_words(b: u64, words: &[u64]) -> bool
     requires { b < 64 }
     ensures { result ≡ every (λ x. ltb x (2 ^ b)) words.now }
 {
+    let (parts, rest) = words.as_chunks::<AT_ONCE>();
     let mut all: u64 = 0;
-    let mut i = 0;
-    while AT_ONCE <= words.len() - i {
-        let end = i + AT_ONCE;
-        all = all | joined(&words[i..end]);
-        i = end;
+    for part in parts {
+        all |= joined(part);
     }
-    (all | joined(&words[i..])) < power(b)
+    (all | joined(rest)) < power(b)
 }
 
 // A row that a place may name.
@@ -86,95 +83,43 @@ fn is_definition(b: u64, x: Definition) -> bool
 }
 
 // Each field's definition is undefined or in range: all are looked at, which takes no branch for each.
-fn are_definitions(b: u64, definitions: [Definition; FIELDS]) -> bool
-    ensures { result ≡ every (is_definition b) definitions }
+fn are_fields(b: u64, definitions: &[Definition; FIELDS]) -> bool
+    ensures { result ≡ every (is_definition b) definitions.now }
 {
     let mut all = true;
-    let mut i = 0;
-    while i < FIELDS {
-        all = all & is_definition(b, definitions[i]);
-        i += 1;
+    for definition in definitions {
+        all = all & is_definition(b, *definition);
     }
     all
 }
 
-// The stack of contents: at most 128 entries, and those used are words.
-fn are_contents(b: u64, entries: [u64; STACK], count: usize) -> bool
-    requires { b < 64 }
-    ensures { result ≡ sound_stack (λ x. ltb x (2 ^ b)) count entries }
+// Each of these definitions is undefined or in range.
+fn are_definitions(b: u64, definitions: &[Definition]) -> bool
+    ensures { result ≡ every (is_definition b) definitions.now }
 {
-    if STACK < count {
-        return false;
-    }
-    are_words(b, &entries[..count])
+    definitions
+        .iter()
+        .all(|definition| is_definition(b, *definition))
 }
 
-// The stack of definitions: those used are undefined or in range.
-fn are_saved(b: u64, entries: [Definition; STACK], count: usize) -> bool
-    ensures { result ≡ sound_stack (is_definition b) count entries }
+// Each of these places is in range.
+fn are_places(places: &[Place]) -> bool
+    ensures { result ≡ every is_place places.now }
 {
-    if STACK < count {
-        return false;
-    }
-    let mut i = 0;
-    while i < count {
-        if !is_definition(b, entries[i]) {
-            return false;
-        }
-        i += 1;
-    }
-    true
+    places.iter().all(|place| is_place(*place))
 }
 
-// The stack of calls: those used are places in range.
-fn are_calls(entries: [Place; STACK], count: usize) -> bool
-    ensures { result ≡ sound_stack is_place count entries }
-{
-    if STACK < count {
-        return false;
-    }
-    let mut i = 0;
-    while i < count {
-        if !is_place(entries[i]) {
-            return false;
-        }
-        i += 1;
-    }
-    true
-}
-
-// The stack of contents as a whole. The entries of an empty stack are not copied, here and below.
-fn holds_words(b: u64, stack: ContentsStack) -> bool
-    requires { b < 64 }
-    ensures { result ≡ sound_stack (λ x. ltb x (2 ^ b)) stack.count stack.entries }
+// A stack: at most 128 entries, and those used pass the test. The entries of an empty one are not copied.
+fn is_sound_stack<T: Copy, F: Fn(&[T]) -> bool>(stack: Stack<T>, test: F) -> bool
+    requires { F.IsAlwaysCallable test }
+    ensures { (f : T → Bool) → ((l : List T) (r : Bool) → FnReturnsAt F.Fn test l r → r ≡ every f l)
+        → result ≡ sound_stack f stack.count stack.entries }
 {
     if stack.count == 0 {
         return true;
     }
     let entries = stack.entries;
-    are_contents(b, entries, stack.count)
-}
-
-// The stack of definitions as a whole.
-fn holds_definitions(b: u64, stack: DefinitionStack) -> bool
-    ensures { result ≡ sound_stack (is_definition b) stack.count stack.entries }
-{
-    if stack.count == 0 {
-        return true;
-    }
-    let entries = stack.entries;
-    are_saved(b, entries, stack.count)
-}
-
-// The stack of calls as a whole.
-fn holds_places(stack: CallStack) -> bool
-    ensures { result ≡ sound_stack is_place stack.count stack.entries }
-{
-    if stack.count == 0 {
-        return true;
-    }
-    let entries = stack.entries;
-    are_calls(entries, stack.count)
+    stack.count <= STACK && test(&entries[..stack.count])
 }
 
 // The three stacks.
@@ -182,23 +127,21 @@ fn are_stacks(b: u64, core: Core) -> bool
     requires { b < 64 }
     ensures { result ≡ sound_stacks b core }
 {
-    let contents = core.contents;
-    let saved = core.saved;
-    let calls = core.calls;
-    holds_words(b, contents) & holds_definitions(b, saved) & holds_places(calls)
+    is_sound_stack(core.contents, |words| are_words(b, words))
+        & is_sound_stack(core.saved, |definitions| are_definitions(b, definitions))
+        & is_sound_stack(core.calls, |places| are_places(places))
 }
 
-// Bugs, definitions, place and stacks in range.
+// Bugs, definitions, place and stacks in range. The core is handed over: what is lent of it would be copied here.
 fn is_sound_core(b: u64, core: Core) -> bool
     requires { b < 64 }
     ensures { result ≡ sound_core b core }
 {
     let bugs = core.bugs;
     let definitions = core.definitions;
-    let place = core.place;
     are_words(b, &bugs)
-        & are_definitions(b, definitions)
-        & is_sound_place(place)
+        & are_fields(b, &definitions)
+        & is_sound_place(core.place)
         & are_stacks(b, core)
 }
 

@@ -1,7 +1,7 @@
 // tourrun over slices: what it prints of the bytes that it reads.
 #![tactic(auto)]
 
-ghost use Rattle.std.specs.Prelude.{◌≡◌, ◌+◌, min, length, replicate};
+ghost use Rattle.std.specs.Prelude.{◌≡◌, ◌+◌, length, replicate};
 ghost use Rattle.tour.specs.Tour.{played, printed};
 ghost use Rattle.tour.specs.Put.{put_before};
 
@@ -14,13 +14,6 @@ use machine::Ran;
 use numbers::read_table;
 use table::rows::ALL;
 use text::put_lines;
-
-// The lesser of two lengths.
-pub fn least(a: usize, b: usize) -> usize
-    ensures { result ≡ min a b }
-{
-    if a < b { a } else { b }
-}
 
 // tourrun's words have 36 bits.
 const WIDTH: u8 = 36;
@@ -42,7 +35,7 @@ pub fn run_tour(tab: &[u8], stops: &[u8], storage: &mut [u64], output: &mut [u8]
 {
     let mut table = [0u64; ALL];
     let count = read_table(tab, &mut table);
-    let given = least(stops.len(), LENT);
+    let given = stops.len().min(LENT);
     run(
         &table[..count],
         storage,
@@ -61,9 +54,6 @@ pub fn play(tab: &[u8], stops: &[u8], text: &mut [u8; TEXT]) -> usize
     let mut storage = [0u64; LENT];
     let mut output = [0u8; LENT];
     let ran = run_tour(tab, stops, &mut storage, &mut output);
-    let state = ran.state;
-    let core = state.core;
-    let answer = ran.answer;
-    let written = core.written;
-    put_lines(text, &output[..written], answer, ran.count)
+    let written = ran.state.core.written;
+    put_lines(text, &output[..written], ran.answer, ran.count)
 }

@@ -13,9 +13,7 @@ fn read_numbers(bytes: &[u8], n: usize, table: &mut [u64])
     requires { (8 * n ≤ length bytes.now) × (n ≤ length table.old) }
     ensures { table.new ≡ put_before n (numbers n bytes.now) table.old }
 {
-    let mut left = n;
-    while left > 0 {
-        left -= 1;
+    for left in (0..n).rev() {
         table[left] = number_at(bytes, 8 * left, 8);
     }
 }

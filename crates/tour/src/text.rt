@@ -27,12 +27,8 @@ pub fn put_word(text: &mut [u8], at: usize, word: &[u8]) -> usize
     ensures word_value { result + length word.now ≡ at }
     ensures text_after { text.new ≡ put_before at word.now text.old }
 {
-    let mut place = at;
-    let mut left = word.len();
-    while left > 0 {
-        left -= 1;
-        place = put(text, place, word[left]);
-    }
+    let place = at - word.len();
+    text[place..at].copy_from_slice(word);
     place
 }
 
@@ -82,9 +78,7 @@ fn put_codes(text: &mut [u8], at: usize, codes: &[u8]) -> usize
 {
     let mut place = at;
     let mut after = NEWLINE;
-    let mut left = codes.len();
-    while left > 0 {
-        left -= 1;
+    for left in (0..codes.len()).rev() {
         place = put_code(text, place, codes[left], after);
         after = BLANK;
     }

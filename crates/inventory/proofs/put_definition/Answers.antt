@@ -25,5 +25,5 @@ put_line-requires c =
 pub returns : goal.returns
 unfolding definition_text spelled
 returns c =
-    let line = rw (c.wide.ensures, c.wide-2.ensures, c.wide-3.ensures) at c.put_line.ensures in
+    let line = rw (c.from.ensures, c.from-2.ensures, c.from-3.ensures) at c.put_line.ensures in
     rw (not-false c.args.x.defined c.if-not-x.false) (puts_wider line 96 (omega arith))

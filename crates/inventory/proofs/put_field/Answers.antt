@@ -28,7 +28,7 @@ put_word-requires c =
 pub returns : goal.returns
 unfolding field_text spelled
 returns c =
-    let one = rw (c.wide.ensures, c.wide-2.ensures, c.wide-3.ensures) at c.put_three_end-end.ensures in
+    let one = rw (c.from.ensures, c.from-2.ensures, c.from-3.ensures) at c.put_three_end-end.ensures in
     let two = puts_join one c.requires.1 (puts_of (_ ∷ []) c.put-name.ensures.result_value c.put-name.ensures.text_after) in
     let three = puts_join two c.requires.1 (puts_of _ c.put_word.ensures.word_value c.put_word.ensures.text_after) in
     rw (not-false c.args.x.defined c.if-not-x.false, ← c.field_character.ensures) (puts_wider three 96 (omega arith))

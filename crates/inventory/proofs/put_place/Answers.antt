@@ -13,5 +13,5 @@ put_line-requires c =
 pub returns : goal.returns
 unfolding place_text spelled
 returns c =
-    puts_wider (rw (c.wide.ensures, c.wider.ensures.0, c.wider-2.ensures.0) at c.put_line.ensures) 96
+    puts_wider (rw (c.from.ensures, c.from-2.ensures, c.from-3.ensures) at c.put_line.ensures) 96
     (omega arith)

@@ -7,7 +7,7 @@ use borrow.Author.Rules.{rules}
 use Rattle.inventory.proofs.put_stored.Goals as goal
 
 pub overflow_add-address : goal.overflow_add-address
-overflow_add-address c = record { fits = omega (arith, c.wider.ensures.1, c.requires.0) }
+overflow_add-address c = record { fits = omega (arith, c.from.ensures, c.requires.0) }
 
 pub put_content-end-requires : goal.put_content-end-requires
 put_content-end-requires c =
@@ -15,7 +15,7 @@ put_content-end-requires c =
 
 pub put_start-requires : goal.put_start-requires
 put_start-requires c = (
-  omega (arith, c.wider.ensures.1, c.requires.0),
+  omega (arith, c.from.ensures, c.requires.0),
   puts_room c.put_content-end.ensures 75 (omega
       (arith, c.requires.1)),
   search rules,
@@ -24,5 +24,5 @@ put_start-requires c = (
 pub returns : goal.returns
 unfolding stored_text
 returns c =
-    rw (← c.wider.ensures.0, ← c.owner_of.ensures) (puts_wider (puts_join c.put_content-end.ensures
+    rw (← c.from.ensures, ← c.owner_of.ensures) (puts_wider (puts_join c.put_content-end.ensures
     c.requires.2 c.put_start.ensures) 96 (omega arith))

@@ -20,11 +20,11 @@ slice_bounds-run-end c =
     sym (length-take-le _ _ (omega (arith, table_most c.args.tab.now, c.read_table-count.ensures.value)))
 
 pub slice_bounds-run-end-2 : goal.slice_bounds-run-end-2
-slice_bounds-run-end-2 c = sym (length-take-le _ _ (omega (arith, c.least-given.ensures)))
+slice_bounds-run-end-2 c = sym (length-take-le _ _ (omega (arith, c.min-given.ensures)))
 
 pub returns : goal.returns
 returns c =
     let ran = rw (c.requires.0, c.requires.1) at c.run.ensures.output_after in
     run_played c.args.tab.now c.args.stops.now (replicate 8000 0) c.read_table-count.ensures.value
-    c.read_table-count.ensures.table_after c.least-given.ensures
+    c.read_table-count.ensures.table_after c.min-given.ensures
     c.fresh_state.ensures ran

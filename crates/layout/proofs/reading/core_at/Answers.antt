@@ -5,8 +5,6 @@ use Rattle.layout.proofs.reading.core_at.Goals as goal
 
 pub returns : goal.returns
 returns c =
-    core_read c.args.bytes.now c.read_words.ensures c.read_words-2.ensures
-    c.current_at-current.ensures c.saved_at-saved.ensures
-    c.calls_at-calls.ensures c.place_at.ensures c.count_at.ensures c.count_at-2.ensures
-    c.count_at-3.ensures c.setup_at.ensures
+    core_read c.args.bytes.now c.records_at.ensures c.records_at-3.ensures c.records_at-2.ensures c.records_at-4.ensures
+    c.records_at-5.ensures c.read.ensures c.count_at.ensures c.count_at-2.ensures c.count_at-3.ensures c.setup_at.ensures
     c.count_at-4.ensures c.count_at-5.ensures

@@ -9,7 +9,7 @@ returns c =
     let setup = c.put_setup.ensures in
     let counts = c.put_counts.ensures in
     record {
-      bytes_after = numbers_put c.args.core c.args.bytes.now c.requires streams.bytes_after setup.bytes_after counts.bytes_after;
+      bytes_after = numbers_put c.args.core.now c.args.bytes.now c.requires streams.bytes_after setup.bytes_after counts.bytes_after;
       ranged = record {
         place = streams.ranged.0;
         taken = streams.ranged.1;

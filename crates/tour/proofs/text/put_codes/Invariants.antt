@@ -9,6 +9,3 @@ abbrev pub invariant-loop-left : goal.invariant-loop-left
 invariant-loop-left l =
     (l.left ≤ length l.codes) × (l.after ≡ after_code (drop l.left l.codes))
     × Put l.at (octals (drop l.left l.codes)) l.initial.text l.text l.place
-
-abbrev pub decreases-loop-left : goal.decreases-loop-left
-decreases-loop-left l = l.left
