@@ -16,7 +16,7 @@ use Rattle.operands.specs.Storing.{bugs_stored, words_stored}
 use Rattle.operations.specs.declared.Action.{Action}
 use Rattle.operations.specs.declared.Action.TheVariants as action
 use Rattle.operations.specs.Deeds.{Deed, meant}
-use Rattle.operations.specs.Deeds.{Nothing, Store, StoreTwo, SetUpWords, Define, Deliver, DeliverTwo, Free}
+use Rattle.operations.specs.Deeds.{Store, StoreTwo, SetUpWords, Define, Deliver, DeliverTwo, Free}
 use Rattle.operations.specs.Deeds.{Input, Print, Save, Restore, SaveDefinition, RestoreDefinition, Call}
 use Rattle.operations.specs.Deeds.{Return}
 use Rattle.commit.specs.Carried.{bugs_after, entries_after, map_after, zeroed, copied, words_after, output_after}

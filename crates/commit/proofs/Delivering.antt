@@ -5,7 +5,7 @@ use mathlib.Core.List.{Memᴰ}
 use mathlib.Core.Logic.{inl, inr}
 use mathlib.Core.Path.{sym, ap, ◌∙◌}
 use borrow.Author.Tests.{eq-eqb, ne_eqb}
-use Rattle.buddy.specs.declared.Found.TheVariants.{At}
+use Rattle.std.specs.Prelude.{Some}
 use Rattle.block.specs.Blocks.{size, level}
 use Rattle.block.specs.SetUp.{top, words, runs}
 use Rattle.block.specs.Map.{live, delivered_map}
@@ -20,10 +20,10 @@ use Rattle.commit.specs.Carried.{zeroed, copied}
 use Rattle.commit.specs.Feasible.{Ground, ground_of, Run, Copy}
 
 -- the lowest of a list is its first, and one of it
-first_lowest : (rs : List ℕ) (a : ℕ) → first_run_of rs ≡ passed a → (first_of rs ≡ At a) × Memᴰ a rs
+first_lowest : (rs : List ℕ) (a : ℕ) → first_run_of rs ≡ passed a → (first_of rs ≡ Some a) × Memᴰ a rs
 unfolding first_run_of first_of
 first_lowest [] a e = let z : ◌≡◌ {A = ℕ} 0 1 = cc in absurd (omega arith)
-first_lowest (r ∷ rs) a e = let same : r ≡ a = passed_same e in (ap At same, Memᴰ.head (sym same))
+first_lowest (r ∷ rs) a e = let same : r ≡ a = passed_same e in (ap Some same, Memᴰ.head (sym same))
 
 -- a run by the set-up numbers and the map alone
 pub same_run : (g : Ground) {address n : ℕ} → Run g address n → Run (ground_of g.setup g.map g.storage) address n
@@ -33,7 +33,7 @@ pub same_copy : (g : Ground) {address n from : ℕ} → Copy g address n from �
 same_copy g c = record { low = c.low; high = c.high; clear = c.clear }
 
 module _ (g : Ground) {address n : ℕ} (r : Run g address n) where
-  found : (first_of (runs n g.setup (live g.setup g.map)) ≡ At address) × Memᴰ address (runs n g.setup (live g.setup g.map))
+  found : (first_of (runs n g.setup (live g.setup g.map)) ≡ Some address) × Memᴰ address (runs n g.setup (live g.setup g.map))
   found = first_lowest _ address (unfold lowest_run in r.is_lowest)
 
   -- where it lies
@@ -64,7 +64,7 @@ module _ (g : Ground) {address n : ℕ} (r : Run g address n) where
     pub run_small : j ≤ top g.setup.d
     run_small = rw run_level (level_le (top g.setup.d) n)
 
-    pub run_first : first_of (runs (size j) g.setup (live g.setup g.map)) ≡ At address
+    pub run_first : first_of (runs (size j) g.setup (live g.setup g.map)) ≡ Some address
     run_first =
         let place : j ≡ r.place = run_level ∙ rw r.is_size (level_size (top g.setup.d) r.low) in
         let is : size j ≡ n = rw place (sym r.is_size) in

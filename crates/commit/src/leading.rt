@@ -56,6 +56,6 @@ pub fn go_on(action: Action, setup: SetUp, counts: Counts, given: usize, room: u
     Onward {
         setup: next,
         counts: after,
-        recorded: recorded,
+        recorded,
     }
 }

@@ -49,12 +49,12 @@ fn tell(freed: u64, delivered: u64, size: u64, copied: u64, first: Store, second
     ensures { result ≡ told freed delivered size copied first second }
 {
     Report {
-        freed: freed,
-        delivered: delivered,
-        size: size,
-        copied: copied,
-        first: first,
-        second: second,
+        freed,
+        delivered,
+        size,
+        copied,
+        first,
+        second,
     }
 }
 

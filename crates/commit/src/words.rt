@@ -7,11 +7,7 @@ pub fn zero_words(storage: &mut [u64], from: usize, n: usize)
     requires { from + n ≤ length storage.old }
     ensures { storage.new ≡ placed from (replicate n 0) storage.old }
 {
-    let mut i = 0;
-    while i < n {
-        storage[from + i] = 0;
-        i += 1;
-    }
+    storage[from..from + n].fill(0);
 }
 
 // n words from a place on are those from another place on, clear of them.
@@ -19,9 +15,5 @@ pub fn copy_words(storage: &mut [u64], to: usize, from: usize, n: usize)
     requires { (to + n ≤ length storage.old) × (from + n ≤ length storage.old) × ((from + n ≤ to) ⊎ (to + n ≤ from)) }
     ensures { storage.new ≡ placed to (take n (drop from storage.old)) storage.old }
 {
-    let mut i = 0;
-    while i < n {
-        storage[to + i] = storage[from + i];
-        i += 1;
-    }
+    storage.copy_within(from..from + n, to);
 }

@@ -2,13 +2,13 @@
 -- which are demand 2: a refused step and a finished engine change nothing, what is delivered is the lowest aligned run, and demand 3
 -- holds after every list of calls, extensions among them, of the steps inside runs too. Assumes nothing.
 use native.Mathlib.Omega.{arith}
-use Rattle.std.specs.Prelude.{◌≡◌, ℕ, ◌/◌, ◌^◌, ◌<◌, true, cond, List, [], ◌∷◌}
+use Rattle.std.specs.Prelude.{◌≡◌, ℕ, ◌/◌, ◌^◌, ◌<◌, true, cond, List, [], ◌∷◌, Result, Ok, Err}
 use mathlib.Core.Path.{refl, sym, ap, subst, ◌∙◌}
 use Rattle.word.specs.Word.{is_width}
 use Rattle.word.proofs.Tests.{by_test}
 use Rattle.machine.specs.declared.State.{State}
 use Rattle.machine.specs.declared.Fresh.{Fresh}
-use Rattle.machine.specs.declared.FreshAnswer.TheVariants.{Done, NoWidth}
+use Rattle.machine.specs.declared.NoWidth.{NoWidth}
 use Rattle.machine.specs.declared.Refusal.{Refusal}
 use Rattle.machine.specs.declared.Answer.TheVariants.{Finished, Refused}
 use Rattle.machine.specs.State.{fresh, fresh_of, is_finished}
@@ -57,13 +57,14 @@ module _ {b n : ℕ} (small : n < 10 ^ (b / 6)) {l₁ l₂ : Lent} {e₁ e₂ : 
       ∙ (decimal_steps small c₁ v₁ w₁ c₂ (v₂ ∙ ap (λ (o : Outcome). contents b (world (engine_of o)) a₁) is₁) w₂).holds
 
 -- a fresh engine that was made has the width that was asked for
-made_wide : (b : ℕ) (f : Fresh) → f ≡ fresh_of b → f.answer ≡ Done → (is_width b ≡ true) × (f.state ≡ fresh b)
+made_wide : (b : ℕ) (f : Fresh) → f ≡ fresh_of b → f.answer ≡ Ok tt → (is_width b ≡ true) × (f.state ≡ fresh b)
 unfolding fresh_of
 made_wide b f is done =
-    by_test (λ t. (f ≡ cond t (record { state = fresh b; answer = Done }) (record { state = fresh 0; answer = NoWidth })) → (t ≡ true) × (f.state ≡ fresh b))
+    by_test (λ t. (f ≡ cond t (record { state = fresh b; answer = Ok tt }) (record { state = fresh 0; answer = Err (record {}) }))
+    → (t ≡ true) × (f.state ≡ fresh b))
     (is_width b)
     (λ _ e. (refl, ap (λ (g : Fresh). g.state) e))
-    (λ _ e. let other : NoWidth ≡ Done = sym (ap (λ (g : Fresh). g.answer) e) ∙ done in let never : ◌≡◌ {A = ℕ} 0 1 = cc in absurd (omega arith)) is
+    (λ _ e. let other : ◌≡◌ {A = Result (Unit {0}) NoWidth} (Err (record {})) (Ok tt) = sym (ap (λ (g : Fresh). g.answer) e) ∙ done in cc) is
 
 module _ (b : ℕ) (ws : List ℕ) where
   calls_lead : (events : List Event) (e : Engine) → Called b ws events e → Leads b ws events e

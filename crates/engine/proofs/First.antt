@@ -7,8 +7,8 @@ use Rattle.machine.specs.contracts.Answer.{the_type}
 use mathlib.Core.Path.{refl, sym, ap, ◌∙◌}
 use borrow.Author.Tests.{eq-eqb, ne_eqb, eqb-true}
 use Rattle.word.specs.Word.{is_width}
-use Rattle.table.specs.declared.TableCheck.{TableCheck}
-use Rattle.table.specs.declared.TableCheck.TheVariants.{Lowest}
+use Rattle.std.specs.Prelude.{Result, Ok}
+use Rattle.table.specs.declared.TableError.{TableError}
 use Rattle.table.specs.Row.{length_fits}
 use Rattle.table.specs.Table.{checked}
 use Rattle.machine.specs.declared.Place.{Place}
@@ -118,7 +118,7 @@ module _ (l : Lent) (e : Engine) where
 
   module _ {first : Answer} (is : told_answer first ≡ start_told l e) where
     -- where it goes on, the engine may be planned for
-    pub first_goes : first ≡ Running → {judged : Bool} → (judged ≡ true → checked b l.table ≡ Lowest 0) → Ready judged l e
+    pub first_goes : first ≡ Running → {judged : Bool} → (judged ≡ true → checked b l.table ≡ Ok 0) → Ready judged l e
     unfolding is_running
     first_goes to {judged} formed =
         by_tests (Ready judged l e) (λ w. other (Refused NoWidth) refl (told_no_width w)) (λ w s. other (Refused Unsound) refl (told_unsound w s))
@@ -150,8 +150,8 @@ pub unjudged : {r : Start} {answer : Answer} → r ≡ record { answer = answer;
 unjudged same is = (rw same is, λ j. absurd (let no : ◌≡◌ {A = ℕ} 0 1 = cc in omega arith))
 
 -- a table that is checked, and has no ill-formed row
-pub judged_fine : {row : ℕ} {found : TableCheck} → Lowest row ≡ found → eqb row 0 ≡ true → found ≡ Lowest 0
-judged_fine {row} at none = sym at ∙ ap Lowest (let same : row ≡ 0 = eqb-true row 0 none in same)
+pub judged_fine : {row : ℕ} {found : Result ℕ TableError} → Ok row ≡ found → eqb row 0 ≡ true → found ≡ Ok 0
+judged_fine {row} at none = sym at ∙ ap Ok (let same : row ≡ 0 = eqb-true row 0 none in same)
 
 -- the public calls, by the walk
 pub steps_once : (l : Lent) (e : Engine) (storage output : List ℕ) {r : Walked} → returning r storage output ≡ walk_from 0 (1 - 1) l e

@@ -2,7 +2,7 @@
 use Rattle.std.specs.Prelude.{◌≡◌, ℕ, Bool, true, false, cond}
 use Rattle.word.specs.Told.{Told, gives, refuses}
 use Rattle.word.specs.Word.{is_width}
-use Rattle.table.specs.declared.TableCheck.TheVariants.{Lowest}
+use Rattle.std.specs.Prelude.{Ok}
 use Rattle.table.specs.Row.{length_fits}
 use Rattle.table.specs.Table.{checked}
 use Rattle.machine.specs.State.{is_finished}
@@ -21,6 +21,6 @@ start_told l e =
 pub record Ready (judged : Bool) (l : Lent) (e : Engine) : Type 0 where
   pub wide : is_width e.state.width ≡ true
   pub fits : length_fits l.table ≡ true
-  pub formed : judged ≡ true → checked e.state.width l.table ≡ Lowest 0
+  pub formed : judged ≡ true → checked e.state.width l.table ≡ Ok 0
   pub going : is_finished e.state.core.place ≡ false
   pub fine : sound e.state.width l e ≡ true

@@ -3,7 +3,6 @@
 
 ghost use Rattle.std.specs.Prelude.{◌≡◌, true, false, if◌then◌else◌};
 ghost use Rattle.word.specs.Word.{is_width};
-ghost use Rattle.table.specs.declared.TableCheck.TheVariants.{Lowest};
 ghost use Rattle.table.specs.Table.{checked};
 ghost use Rattle.word.specs.Told.{gives, refuses};
 ghost use Rattle.machine.specs.Answer.{told_answer};
@@ -17,8 +16,8 @@ mod walks;
 
 use block::SetUp;
 use machine::{
-    Answer, CallStack, ContentsStack, Core, Definition, DefinitionStack, Fresh, FreshAnswer,
-    MapBytes, Place, Ran, Refusal, Report, State, Stepped,
+    Answer, Core, Definition, Fresh, MapBytes, NoWidth, Place, Ran, Refusal, Report, Stack, State,
+    Stepped,
 };
 use soundness::is_sound;
 use table::check::{has_length, lowest_ill_formed};
@@ -50,33 +49,33 @@ pub fn fresh_state(width: u8) -> State
         left: 0,
         right: 0,
     };
-    let contents = ContentsStack {
+    let contents = Stack {
         entries: [0; machine::STACK],
         count: 0,
     };
-    let saved = DefinitionStack {
+    let saved = Stack {
         entries: [undefined; machine::STACK],
         count: 0,
     };
-    let calls = CallStack {
+    let calls = Stack {
         entries: [place; machine::STACK],
         count: 0,
     };
     let setup = SetUp { d: 0, s1: 0, s2: 0 };
     let core = Core {
-        place: place,
+        place,
         bugs: [0; machine::BUGS],
         definitions: [undefined; machine::FIELDS],
-        contents: contents,
-        saved: saved,
-        calls: calls,
-        setup: setup,
+        contents,
+        saved,
+        calls,
+        setup,
         taken: 0,
         written: 0,
     };
     State {
-        width: width,
-        core: core,
+        width,
+        core,
         map: [0; machine::MAP],
     }
 }
@@ -90,24 +89,24 @@ pub fn fresh(b: u64) -> Fresh
     if b == 36 {
         return Fresh {
             state: fresh_state(36),
-            answer: FreshAnswer::Done,
+            answer: Ok(()),
         };
     }
     if b == 48 {
         return Fresh {
             state: fresh_state(48),
-            answer: FreshAnswer::Done,
+            answer: Ok(()),
         };
     }
     Fresh {
         state: fresh_state(0),
-        answer: FreshAnswer::NoWidth,
+        answer: Err(NoWidth),
     }
 }
 
 // Whether a table is known to be well-formed: it is looked at in a walk of at least as many steps as it has rows.
 fn judge(b: u64, table: &[u64], limit: u64) -> bool
-    ensures { result ≡ true → checked b table.now ≡ Lowest 0 }
+    ensures { result ≡ true → checked b table.now ≡ Ok 0 }
 {
     if limit < (table.len() / NUMBERS) as u64 {
         return false;
@@ -131,7 +130,7 @@ fn stops(answer: Answer) -> Start
     ensures { result ≡ record { answer = answer; judged = false } }
 {
     Start {
-        answer: answer,
+        answer,
         judged: false,
     }
 }
@@ -150,7 +149,7 @@ fn begin(
 ) -> Start
     ensures { (told_answer result.answer ≡ start_told (lends table.now input.now output.now)
         (engine_on (record { width = width; core = core; map = map.now }) storage.now))
-        × (result.judged ≡ true → checked width table.now ≡ Lowest 0) }
+        × (result.judged ≡ true → checked width table.now ≡ Ok 0) }
 {
     let place = core.place;
     let b = width as u64;
@@ -204,8 +203,8 @@ pub fn step(
     let report = last.report;
     Stepped {
         state: after,
-        answer: answer,
-        report: report,
+        answer,
+        report,
     }
 }
 
@@ -227,7 +226,7 @@ pub fn run(
 {
     if limit == 0 {
         return Ran {
-            state: state,
+            state,
             answer: Answer::Running,
             count: 0,
         };
@@ -249,7 +248,7 @@ pub fn run(
     let answer = last.answer;
     Ran {
         state: after,
-        answer: answer,
+        answer,
         count: last.count,
     }
 }

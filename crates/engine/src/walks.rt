@@ -6,7 +6,6 @@ ghost use Rattle.machine.specs.Storage.{no_report};
 ghost use Rattle.machine.specs.Sound.{lends, engine_on};
 ghost use Rattle.commit.specs.Then.{core_with};
 ghost use Rattle.operations.specs.Seen.{counts_of};
-ghost use Rattle.table.specs.declared.TableCheck.TheVariants.{Lowest};
 ghost use Rattle.table.specs.Table.{checked};
 ghost use Rattle.machine.specs.Answer.{told_answer};
 ghost use Rattle.engine.specs.Starting.{start_told};
@@ -18,10 +17,7 @@ use commit::Records;
 use commit::carry::carry_out;
 use commit::leading::go_on;
 use commit::reports::report_of;
-use machine::{
-    Answer, BugWords, CallStack, ContentsStack, Core, DefinitionStack, Entries, MapBytes, Place,
-    Report, State, Store,
-};
+use machine::{Answer, BugWords, Core, Entries, MapBytes, Place, Report, Stack, State, Store};
 use operands::packing::{pack, pack_all};
 use operations::places::tests_of;
 use operations::{Action, Counts, Known};
@@ -85,26 +81,26 @@ fn core_of(
     let definitions = records.definitions;
     let kept = records.saved;
     let places = records.calls;
-    let contents = ContentsStack {
-        entries: entries,
+    let contents = Stack {
+        entries,
         count: counts.contents,
     };
-    let saved = DefinitionStack {
+    let saved = Stack {
         entries: kept,
         count: counts.saved,
     };
-    let calls = CallStack {
+    let calls = Stack {
         entries: places,
         count: counts.calls,
     };
     Core {
-        place: place,
-        bugs: bugs,
-        definitions: definitions,
-        contents: contents,
-        saved: saved,
-        calls: calls,
-        setup: setup,
+        place,
+        bugs,
+        definitions,
+        contents,
+        saved,
+        calls,
+        setup,
         taken: counts.taken,
         written: counts.written,
     }
@@ -114,16 +110,12 @@ fn core_of(
 fn ended(width: u8, core: Core, map: MapBytes, answer: Answer, report: Report, count: u64) -> Walked
     ensures { result ≡ walked_to (record { width = width; core = core; map = map }) answer report count }
 {
-    let state = State {
-        width: width,
-        core: core,
-        map: map,
-    };
+    let state = State { width, core, map };
     Walked {
-        state: state,
-        answer: answer,
-        report: report,
-        count: count,
+        state,
+        answer,
+        report,
+        count,
     }
 }
 
@@ -144,9 +136,9 @@ fn stopped(state: State, answer: Answer) -> Walked
 {
     let report = no_report();
     Walked {
-        state: state,
-        answer: answer,
-        report: report,
+        state,
+        answer,
+        report,
         count: 1,
     }
 }
@@ -163,7 +155,7 @@ pub fn walk(
 ) -> Walked
     requires { (1 ≤ limit)
         × (told_answer first.answer ≡ start_told (lends table.now input.now output.old) (engine_on state storage.old))
-        × (first.judged ≡ true → checked state.width table.now ≡ Lowest 0) }
+        × (first.judged ≡ true → checked state.width table.now ≡ Ok 0) }
     ensures { record { walked = result; storage = storage.new; output = output.new } ≡ walk_from 0 (limit - 1)
         (lends table.now input.now output.old) (engine_on state storage.old) }
 {
@@ -193,10 +185,10 @@ pub fn walk(
         count += 1;
         let known = Known {
             b: width as u64,
-            setup: setup,
-            counts: counts,
+            setup,
+            counts,
             room: output.len(),
-            judged: judged,
+            judged,
         };
         let planned = plan_step(
             known, place, &bugs, &fields, &map, &*storage, &entries, input, table,
@@ -204,9 +196,9 @@ pub fn walk(
         match planned {
             Step::Stopped(r) => {
                 let records = Records {
-                    definitions: definitions,
-                    saved: saved,
-                    calls: calls,
+                    definitions,
+                    saved,
+                    calls,
                 };
                 let core = core_of(place, bugs, records, entries, counts, setup);
                 return ended(width, core, map, Answer::Refused(r), no_report(), count);
@@ -258,9 +250,9 @@ pub fn walk(
                 setup = next.setup;
                 if (place.kind == machine::FINISHED) | (count == limit) {
                     let records = Records {
-                        definitions: definitions,
-                        saved: saved,
-                        calls: calls,
+                        definitions,
+                        saved,
+                        calls,
                     };
                     let core = core_of(place, bugs, records, entries, counts, setup);
                     return ended(width, core, map, answer_at(place), report_of(action), count);

@@ -1,5 +1,6 @@
 -- The links of a reference one after the other: where the first k of them lead, what is left to follow, and that each location on
 -- the way can be read. Assumes nothing.
+use Rattle.std.specs.Prelude.{Result, Ok, Err}
 use Prim.Native.Nat.{ℕ, suc, ◌+◌, ◌*◌, ◌-◌, ◌%◌, ◌≤◌, ◌<◌}
 use native.Mathlib.Omega.{arith}
 use mathlib.Core.Bool.{true}
@@ -30,8 +31,6 @@ use Rattle.word.specs.Told.{Told, gives, refuses}
 use Rattle.operands.specs.declared.Spot.{Spot}
 use Rattle.operands.specs.Locating.{located}
 use Rattle.operands.proofs.Numbers.{letter_number}
-use Rattle.operands.specs.declared.Linked.{Linked}
-use Rattle.operands.specs.declared.Linked.TheVariants.{At, Stopped}
 use Rattle.machine.specs.declared.Refusal.{Refusal}
 use Rattle.machine.specs.Answer.{Checked, passed, refused, told, refusal_number, ◌>>=◌}
 use Rattle.operands.proofs.Links.{link_any}
@@ -178,7 +177,7 @@ module _ (b : ℕ) (w : World) (v : ℕ) where
 
   module _ {bits left : ℕ} {spot : Spot} (so_far : Followed b w v bits spot left) where
     -- no link is left
-    pub followed_all : left ≤ 0 → told_linked (At spot) ≡ told (standing (contents b w) (leads b w v))
+    pub followed_all : left ≤ 0 → told_linked (Ok spot) ≡ told (standing (contents b w) (leads b w v))
     unfolding follow told_linked told standing ◌>>=◌ last_names
     followed_all end =
         let none : so_far.count ≡ 0 = omega (arith, so_far.whole) in
@@ -243,11 +242,11 @@ module _ (b : ℕ) (w : World) (v : ℕ) where
             (sym (next_link ∙ ap (λ (n : ℕ). link w spot.holds f >>= λ next. follow b w next (last_names n v)) last ∙ bind_same (link w spot.holds f)))
 
         -- an answer of link, by its case
-        module _ {answer : Linked} (is : told_linked answer ≡ told (standing (contents b w) (link w spot.holds f))) where
-          pub followed_next : Readable b w → {next : Spot} → answer ≡ At next → Followed b w v bits next (left - 6)
+        module _ {answer : Result Spot Refusal} (is : told_linked answer ≡ told (standing (contents b w) (link w spot.holds f))) where
+          pub followed_next : Readable b w → {next : Spot} → answer ≡ Ok next → Followed b w v bits next (left - 6)
           followed_next h {next} to = followed_at h next.at (at_is _ _ is to) (holds_is _ _ is to)
 
-          pub followed_stopped : {r : Refusal} → answer ≡ Stopped r → told_linked answer ≡ told (standing (contents b w) (leads b w v))
+          pub followed_stopped : {r : Refusal} → answer ≡ Err r → told_linked answer ≡ told (standing (contents b w) (leads b w v))
           unfolding told_linked
           followed_stopped to = ap told_linked to ∙ followed_refused (stopped_is _ _ is to)
 
@@ -264,5 +263,5 @@ no_field v h less = record { count = 0; whole = refl; low = reference_positive v
 
 -- a reference of one digit leads to its bug, whose word stands there
 pub bug_spot : (b : ℕ) (w : World) (v : ℕ) → is_reference v ≡ true → v < 64 → {x : BugLetter} → (x ≡ (reference_of v).bug) × (x.0 < 26)
-    → told_linked (At (record { at = x.0; holds = get_or w.bugs x.0 0 })) ≡ told (standing (contents b w) (leads b w v))
+    → told_linked (Ok (record { at = x.0; holds = get_or w.bugs x.0 0 })) ≡ told (standing (contents b w) (leads b w v))
 bug_spot b w v h one is = followed_all b w v (followed_first b w v h (no_field v h one) is) (omega arith)

@@ -1,5 +1,6 @@
 -- A link by its checks: which refusal, or which location and what stands there. What stands at a bug, and at a field.
 -- Assumes nothing.
+use Rattle.std.specs.Prelude.{Ok, Err}
 use Prim.Native.Nat.{ℕ, ◌+◌, ◌≤◌, ◌<◌}
 use mathlib.Core.Bool.{Bool, true, false, not}
 use mathlib.Core.List.{List, []}
@@ -12,7 +13,6 @@ use Rattle.table.specs.declared.BugLetter.{BugLetter}
 use Rattle.machine.specs.declared.Definition.{Definition}
 use Rattle.machine.specs.declared.Location.{Location}
 use Rattle.machine.specs.declared.Location.TheVariants.{Bug, Field}
-use Rattle.operands.specs.declared.Linked.TheVariants.{At, Stopped}
 use Rattle.machine.specs.declared.Refusal.{Refusal}
 use Rattle.machine.specs.declared.Refusal.TheVariants.{UndefinedField, NotABlock, OutsideBlock}
 use Rattle.machine.specs.Answer.{Checked, passed, told, need, ◌>>◌, ◌>>=◌}
@@ -23,22 +23,22 @@ use Rattle.operands.specs.Reading.{standing, told_linked, Reached}
 
 -- a refused check is told so, whatever stands there
 module _ (b s1 : ℕ) (storage : List ℕ) (x : Definition) (n pointer : ℕ) where
-  pub link_undefined : x.defined ≡ false → told_linked (Stopped UndefinedField) ≡ told (standing (contents_of b [] s1 storage) (link_by x n pointer))
+  pub link_undefined : x.defined ≡ false → told_linked (Err UndefinedField) ≡ told (standing (contents_of b [] s1 storage) (link_by x n pointer))
   unfolding told_linked told standing link_by need ◌>>◌ ◌>>=◌
   link_undefined d = rw d
 
-  pub link_no_block : x.defined ≡ true → n ≡ 0 → told_linked (Stopped NotABlock) ≡ told (standing (contents_of b [] s1 storage) (link_by x n pointer))
+  pub link_no_block : x.defined ≡ true → n ≡ 0 → told_linked (Err NotABlock) ≡ told (standing (contents_of b [] s1 storage) (link_by x n pointer))
   unfolding told_linked told standing link_by need ◌>>◌ ◌>>=◌
   link_no_block d z = rw (d, eq-eqb n 0 z)
 
   module _ (d : x.defined ≡ true) (s : n ≡ 0 → ⊥) where
-    pub link_outside : n ≤ x.word → told_linked (Stopped OutsideBlock) ≡ told (standing (contents_of b [] s1 storage) (link_by x n pointer))
+    pub link_outside : n ≤ x.word → told_linked (Err OutsideBlock) ≡ told (standing (contents_of b [] s1 storage) (link_by x n pointer))
     unfolding told_linked told standing link_by need ◌>>◌ ◌>>=◌
     link_outside o = rw (d, ne_eqb n 0 s, le-ltb x.word n o)
 
     pub link_inside : x.word < n → (at : ℕ) {word v : ℕ} → located at ≡ Field (pointer + x.word) x.left x.right
         → word ≡ word_at s1 (pointer + x.word) storage → v ≡ field_of b x.left x.right word
-        → told_linked (At (record { at = at; holds = v })) ≡ told (standing (contents_of b [] s1 storage) (link_by x n pointer))
+        → told_linked (Ok (record { at = at; holds = v })) ≡ told (standing (contents_of b [] s1 storage) (link_by x n pointer))
     unfolding told_linked told standing link_by need ◌>>◌ ◌>>=◌ contents_of
     link_inside i at there same is = rw (d, ne_eqb n 0 s, lt-ltb x.word n i, is, same, there)
 

@@ -1,4 +1,7 @@
 -- Operands taken apart. Assumes nothing.
+use Rattle.std.specs.Prelude.{Result, Ok, Err}
+use Rattle.operands.specs.declared.Spot.{Spot}
+use Rattle.machine.specs.declared.Refusal.{Refusal}
 use Prim.Native.Nat.{ℕ, ◌^◌, ◌≤◌, ◌<◌}
 use Rattle.word.specs.Field.{width}
 use Rattle.table.specs.declared.BugLetter.{BugLetter}
@@ -12,8 +15,6 @@ use Rattle.word.proofs.Field.{field_word, width_le}
 use Rattle.table.specs.declared.Pair.{Pair}
 use Rattle.machine.specs.declared.Location.{Location}
 use Rattle.machine.specs.declared.Location.TheVariants.{Bug, Field}
-use Rattle.operands.specs.declared.Linked.{Linked}
-use Rattle.operands.specs.declared.Linked.TheVariants.{At, Stopped}
 use Rattle.machine.specs.Answer.{passed, told, ◌>>=◌}
 use Rattle.machine.specs.Locate.{World, Value, contents, width_of, contents_of, read, locate, operand}
 use Rattle.machine.proofs.Checks.{bind_passed, passed_same}
@@ -34,18 +35,18 @@ field_width b e = rw e
 
 -- an operand by its form
 module _ (b : ℕ) (w : World) (p : Pair) where
-  pub literal : p.form ≡ 1 → told_value b (At (record { at = 0; holds = p.value })) ≡ told (operand b w p)
+  pub literal : p.form ≡ 1 → told_value b (Ok (record { at = 0; holds = p.value })) ≡ told (operand b w p)
   unfolding operand told_value told located width_of
   literal f = rw (eq-eqb _ _ f)
 
-  pub found : (p.form ≡ 1 → ⊥) → (answer : Linked) → told_linked answer ≡ told (standing (contents b w) (leads b w p.value))
+  pub found : (p.form ≡ 1 → ⊥) → (answer : Result Spot Refusal) → told_linked answer ≡ told (standing (contents b w) (leads b w p.value))
       → told_value b answer ≡ told (operand b w p)
   unfolding operand locate leads told_linked told_value told standing read ◌>>=◌
-  found f (At x) is =
+  found f (Ok x) is =
       let at = at_is (contents b w) (leads b w p.value) is refl in
       let holds = holds_is (contents b w) (leads b w p.value) is refl in
       rw (ne_eqb _ _ f, at, holds)
-  found f (Stopped r) is = rw (ne_eqb _ _ f, stopped_is (contents b w) (leads b w p.value) is refl)
+  found f (Err r) is = rw (ne_eqb _ _ f, stopped_is (contents b w) (leads b w p.value) is refl)
 
 -- what stands at a location is below 2 ^ b, and no wider than b bits
 module _ (b : ℕ) (w : World) (h : Readable b w) where

@@ -9,7 +9,7 @@ use lib.Dec.{eqb}
 use lib.ListN.{length, get_or, replicate, length-replicate, get_or-replicate}
 use lib.Seq.{get_or-set_same, get_or-set_other}
 use Rattle.word.specs.Field.{stored}
-use Rattle.block.specs.Blocks.{size, level, size_at}
+use Rattle.block.specs.Blocks.{level, size_at}
 use Rattle.block.specs.SetUp.{top}
 use Rattle.block.specs.Map.{live, delivered_map}
 use Rattle.block.proofs.Size.{level_size, size_pos, fitting_facts}

@@ -1,4 +1,7 @@
 -- What code that follows references is lent, relies on and answers. Assumes nothing.
+use Rattle.std.specs.Prelude.{Result, Ok, Err}
+use Rattle.operands.specs.declared.Spot.{Spot}
+use Rattle.machine.specs.declared.Refusal.{Refusal}
 use Rattle.std.specs.Prelude.{ℕ, ◌+◌, ◌%◌, ◌^◌, ◌≤◌, ◌<◌, ◌≡◌, true, ◌||◌, List, ltb, length}
 use Rattle.word.specs.Told.{Told, gives, refuses}
 use Rattle.block.specs.declared.SetUp.{SetUp}
@@ -13,8 +16,6 @@ use Rattle.machine.specs.declared.Location.TheVariants.{Bug, Field}
 use Rattle.machine.specs.Answer.{Checked, passed, refusal_number, ◌>>=◌}
 use Rattle.machine.specs.Sound.{every, is_definition}
 use Rattle.machine.specs.Locate.{World, Value, follow}
-use Rattle.operands.specs.declared.Linked.{Linked}
-use Rattle.operands.specs.declared.Linked.TheVariants.{At, Stopped}
 use Rattle.operands.specs.Locating.{located, bits_at}
 use Rattle.operands.specs.Packing.{unpacked_all}
 
@@ -81,10 +82,10 @@ unfoldable pub standing : (Location → ℕ) → Checked Location → Checked St
 standing holds k = k >>= λ at. passed (record { at = at; holds = holds at })
 
 -- answers in numbers: a location with what stands there, or, of an operand, a value with its width
-unfoldable pub told_linked : Linked → Told Stand
-told_linked (At spot) = gives (record { at = located spot.at; holds = spot.holds })
-told_linked (Stopped r) = refuses (refusal_number r)
+unfoldable pub told_linked : Result Spot Refusal → Told Stand
+told_linked (Ok spot) = gives (record { at = located spot.at; holds = spot.holds })
+told_linked (Err r) = refuses (refusal_number r)
 
-unfoldable pub told_value : ℕ → Linked → Told Value
-told_value b (At spot) = gives (valued spot.holds (bits_at b spot.at))
-told_value b (Stopped r) = refuses (refusal_number r)
+unfoldable pub told_value : ℕ → Result Spot Refusal → Told Value
+told_value b (Ok spot) = gives (valued spot.holds (bits_at b spot.at))
+told_value b (Err r) = refuses (refusal_number r)

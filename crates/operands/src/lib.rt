@@ -6,8 +6,6 @@ pub mod packing;
 pub mod references;
 pub mod stores;
 
-use machine::Refusal;
-
 // A location as a number (Locating): a bug by its letter; a field, from FIELDS on, by its word's address, its right and its left bit,
 // each of the two one of PLACES.
 pub const FIELDS: u64 = 65536;
@@ -19,13 +17,6 @@ pub(crate) const PLACES: u64 = 256;
 pub struct Spot {
     pub at: u64,
     pub holds: u64,
-}
-
-// Where the links of a reference lead and what stands there, or why one of them is refused.
-#[derive(Clone, Copy)]
-pub enum Linked {
-    At(Spot),
-    Stopped(Refusal),
 }
 
 // What a reference is followed through before it is carried out: the delivery of a block, by its address and size, with the address

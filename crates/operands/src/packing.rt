@@ -40,9 +40,7 @@ pub fn pack_all(definitions: [Definition; FIELDS], fields: &mut PackedFields)
     requires { length fields.old ≡ 36 }
     ensures { unpacked_all fields.new ≡ definitions }
 {
-    let mut i = 0;
-    while i < FIELDS {
+    for i in 0..FIELDS {
         fields[i] = pack(definitions[i]);
-        i += 1;
     }
 }

@@ -15,7 +15,7 @@ ghost use Rattle.operands.specs.Through.{through, delivered, Deliverable};
 
 use crate::locations::{bits_of, field_number};
 use crate::packing::{PackedFields, unpack};
-use crate::{Delivery, FIELDS, Linked, Spot};
+use crate::{Delivery, FIELDS, Spot};
 use block::SetUp;
 use buddy::section::{live_size, size_at};
 use machine::{BugWords, Definition, MapBytes, Refusal};
@@ -97,28 +97,34 @@ fn contents_after(
 
 // One link, by the field's definition and the size of the live block at the pointer, 0 if there is none: refusals 14, 15, 16 in
 // this order. Where it leads, which is never a bug, and what stands there.
-fn link(b: u64, s1: u16, storage: &[u64], x: Definition, size: u64, pointer: u64) -> Linked
+fn link(
+    b: u64,
+    s1: u16,
+    storage: &[u64],
+    x: Definition,
+    size: u64,
+    pointer: u64,
+) -> Result<Spot, Refusal>
     requires { (b ≤ 48) × Lying b s1 storage.now x size pointer }
     ensures { told_linked result ≡ told (standing (contents_of b [] s1 storage.now) (link_by x size pointer)) }
 {
     if !x.defined {
-        return Linked::Stopped(Refusal::UndefinedField);
+        return Err(Refusal::UndefinedField);
     }
     if size == 0 {
-        return Linked::Stopped(Refusal::NotABlock);
+        return Err(Refusal::NotABlock);
     }
     let word = x.word as u64;
     if size <= word {
-        return Linked::Stopped(Refusal::OutsideBlock);
+        return Err(Refusal::OutsideBlock);
     }
     let address = pointer + word;
     let left = x.left as u64;
     let right = x.right as u64;
-    let spot = Spot {
+    Ok(Spot {
         at: field_number(address, left, right),
         holds: read_field(b, left, right, word_at(s1, storage, address)),
-    };
-    Linked::At(spot)
+    })
 }
 
 // The size of the live block at an address, 0 if there is none, once n words at an address are delivered.
@@ -132,7 +138,8 @@ fn size_after(setup: SetUp, map: &MapBytes, from: u64, n: u64, pointer: u64) -> 
     live_size(setup, map, pointer)
 }
 
-// Where a reference leads once a block is delivered: from its bug along the fields, up to the first link that is refused.
+// Where a reference leads once a block is delivered: from its bug along the fields, up to the first link that is refused. What
+// follows is counted down by a digit's bits: `(0..bits).step_by(6).rev()` would be no plainer.
 pub fn locate_through(
     b: u64,
     bugs: &BugWords,
@@ -142,7 +149,7 @@ pub fn locate_through(
     storage: &[u64],
     ahead: Delivery,
     value: u64,
-) -> Linked
+) -> Result<Spot, Refusal>
     requires { Readable b (seen bugs.now fields.now setup map.now storage.now)
         × Deliverable b (seen bugs.now fields.now setup map.now storage.now) ahead.address ahead.size
         (located ahead.at)
@@ -160,23 +167,20 @@ pub fn locate_through(
         at: bug.0,
         holds: bugs[i],
     };
+    // no range: a digit's bits go in each turn
     while 0 < bits {
         bits -= references::DIGIT_BITS;
         let name = name_before(value, bits);
         let j = name.0 as usize;
         let pointer = spot.holds;
         let size = size_after(setup, map, ahead.address, ahead.size, pointer);
-        let answer = link(b, setup.s1, storage, unpack(fields[j]), size, pointer);
-        let Linked::At(next) = answer else {
-            return answer;
-        };
-        let at = next.at;
+        let at = link(b, setup.s1, storage, unpack(fields[j]), size, pointer)?.at;
         spot = Spot {
-            at: at,
+            at,
             holds: contents_after(b, bugs, setup.s1, storage, ahead, at),
         };
     }
-    Linked::At(spot)
+    Ok(spot)
 }
 
 // Where a reference of more than a bug leads: from its bug along the fields, up to the first link that is refused. Of the set-up it
@@ -189,7 +193,7 @@ fn follow(
     map: &MapBytes,
     storage: &[u64],
     value: u64,
-) -> Linked
+) -> Result<Spot, Refusal>
     requires { ((d : ℕ) × (s2 : ℕ) × Readable b (seen bugs.now fields.now (set_up_of d s1 s2) map.now storage.now))
         × (is_reference value ≡ true) × (64 ≤ value) }
     ensures { (d s2 : ℕ) → Readable b (seen bugs.now fields.now (set_up_of d s1 s2) map.now
@@ -212,18 +216,15 @@ fn follow(
         at: bug.0,
         holds: bugs[i],
     };
+    // no range: a digit's bits go in each turn
     while 0 < left {
         left -= references::DIGIT_BITS;
         let name = name_before(value, left);
         let j = name.0 as usize;
         let size = size_at(s1, map, spot.holds);
-        let answer = link(b, s1, storage, unpack(fields[j]), size, spot.holds);
-        let Linked::At(next) = answer else {
-            return answer;
-        };
-        spot = next;
+        spot = link(b, s1, storage, unpack(fields[j]), size, spot.holds)?;
     }
-    Linked::At(spot)
+    Ok(spot)
 }
 
 // Where a reference leads: that of a bug alone is found at once. The storage is lent anew to `follow`, so that its place and length
@@ -236,7 +237,7 @@ pub fn locate(
     map: &MapBytes,
     storage: &[u64],
     value: u64,
-) -> Linked
+) -> Result<Spot, Refusal>
     requires { Readable b (seen bugs.now fields.now setup map.now storage.now) × (is_reference value ≡ true) }
     ensures { told_linked result ≡ told
         (standing (contents b (seen bugs.now fields.now setup map.now storage.now))
@@ -245,11 +246,10 @@ pub fn locate(
     if value < references::ONE_DIGIT {
         let bug = bug_before(value, 0);
         let i = bug.0 as usize;
-        let spot = Spot {
+        return Ok(Spot {
             at: bug.0,
             holds: bugs[i],
-        };
-        return Linked::At(spot);
+        });
     }
     follow(b, bugs, fields, setup.s1, map, &*storage, value)
 }
@@ -263,24 +263,24 @@ pub fn operand(
     map: &MapBytes,
     storage: &[u64],
     p: Pair,
-) -> Linked
+) -> Result<Spot, Refusal>
     requires { Readable b (seen bugs.now fields.now setup map.now storage.now) × Taken b p }
     ensures { told_value b result ≡ told (operand_of b (seen bugs.now fields.now setup map.now
         storage.now) p) }
 {
     if p.form == codes::LITERAL {
-        let v = p.value;
-        let literal = Spot { at: 0, holds: v };
-        return Linked::At(literal);
+        return Ok(Spot {
+            at: 0,
+            holds: p.value,
+        });
     }
     if p.value < references::ONE_DIGIT {
         let bug = bug_before(p.value, 0);
         let i = bug.0 as usize;
-        let word = Spot {
+        return Ok(Spot {
             at: bug.0,
             holds: bugs[i],
-        };
-        return Linked::At(word);
+        });
     }
     follow(b, bugs, fields, setup.s1, map, &*storage, p.value)
 }

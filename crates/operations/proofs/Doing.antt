@@ -1,4 +1,6 @@
 -- What each operation plans, by the checks that led there. Assumes nothing.
+use Rattle.std.specs.Prelude.{Option, Some, None, Result, Ok, Err}
+use Rattle.operations.specs.declared.Run.{Run}
 use Prim.Native.Nat.{ℕ, zero, suc, ◌+◌, ◌-◌, ◌/◌, ◌≤◌, ◌<◌}
 use native.Mathlib.Omega.{arith}
 use mathlib.Core.Bool.{Bool, true, false, not, ◌&&◌, cond}
@@ -9,8 +11,6 @@ use lib.Dec.{leb, ltb}
 use lib.ListN.{length, take, drop, replicate}
 use Rattle.word.proofs.Tests.{and_true as and_parts}
 use Rattle.character.specs.Character.{packed, all_below}
-use Rattle.character.specs.declared.Packed.{Packed}
-use Rattle.character.specs.declared.Packed.TheVariants as packs
 use Rattle.word.specs.Told.{gives, refuses}
 use Rattle.character.specs.Converted.{told_packed, packing}
 use Rattle.character.proofs.LineEnds.{ends_below}
@@ -21,8 +21,6 @@ use Rattle.block.specs.Map.{trees, live}
 use Rattle.block.proofs.Each.{Each, each_nil, each_cons, each_append, each_map, each_mem}
 use Rattle.block.proofs.Size.{size_pos, size_small, level_le, level_size, top_le, fitting_facts}
 use Rattle.block.proofs.Tiling.{size_at_mem}
-use Rattle.buddy.specs.declared.Found.{Found}
-use Rattle.buddy.specs.declared.Found.TheVariants as found
 use Rattle.buddy.specs.Lowest.{told_found, first_told}
 use Rattle.table.specs.declared.BugLetter.{BugLetter}
 use Rattle.table.specs.declared.Pair.{Pair}
@@ -38,8 +36,6 @@ use Rattle.machine.specs.Operations.{first_run_of, lowest_run, lies_in, found_ch
 use Rattle.machine.proofs.Blocks.{one_of_runs}
 use Rattle.machine.proofs.Checks.{need_yes, need_no, bind_yes, bind_no}
 use Rattle.machine.proofs.Keeps.{run_fits}
-use Rattle.operands.specs.declared.Linked.{Linked}
-use Rattle.operands.specs.declared.Linked.TheVariants as links
 use Rattle.operands.specs.declared.Spot.{Spot}
 use Rattle.operands.specs.Reading.{leads, standing, valued, told_linked, Readable, Reached}
 use Rattle.operands.specs.Storing.{bugs_stored}
@@ -48,10 +44,6 @@ use Rattle.operands.proofs.Storing.{bugs_below}
 use Rattle.operands.proofs.Answers.{at_is, stopped_is}
 use Rattle.operands.specs.Locating.{located}
 use Rattle.operations.specs.Deeds.{Store, StoreTwo, Deliver, DeliverTwo, Free, Input, Print}
-use Rattle.operations.specs.declared.Computed.{Computed}
-use Rattle.operations.specs.declared.Computed.TheVariants as computing
-use Rattle.operations.specs.declared.Fetched.{Fetched}
-use Rattle.operations.specs.declared.Fetched.TheVariants as fetching
 use Rattle.operations.specs.Plans.{after_delivery, delivering, getting, freeing, duplicating, taking, storing, printing}
 use Rattle.operations.specs.Plans.{swap_plan, acting, value_by, Computes, Acts}
 use Rattle.operations.specs.Answers.{told_computed, told_fetched, fetched}
@@ -75,14 +67,14 @@ in_range_lem b word left right h =
     (leb-true _ _ one, ltb-true _ _ two, ltb-true _ _ third)
 
 -- the lowest run, as code finds it
-module _ (n : ℕ) {answer : Found} where
-  pub found_run : (rs : List ℕ) → told_found answer ≡ first_told rs → {a : ℕ} → answer ≡ found.At a → {m : ℕ} → m ≡ n
-      → told_fetched (fetching.Run a m) ≡ told (fetched n (first_run_of rs))
+module _ (n : ℕ) {answer : Option ℕ} where
+  pub found_run : (rs : List ℕ) → told_found answer ≡ first_told rs → {a : ℕ} → answer ≡ Some a → {m : ℕ} → m ≡ n
+      → told_fetched (Ok (record { address = a; size = m })) ≡ told (fetched n (first_run_of rs))
   unfolding told_found first_told first_run_of told_fetched fetched told
   found_run [] is at long = let never : ◌≡◌ {A = ℕ} 0 1 = cc in absurd (omega arith)
   found_run (r ∷ rs) is {a} at long = let same : a ≡ r = cc in rw (same, long)
 
-  pub found_none : (rs : List ℕ) → told_found answer ≡ first_told rs → answer ≡ found.Nothing → told_fetched (fetching.Stopped NoRun)
+  pub found_none : (rs : List ℕ) → told_found answer ≡ first_told rs → answer ≡ None → told_fetched (Err NoRun)
       ≡ told (fetched n (first_run_of rs))
   unfolding told_found first_told first_run_of told_fetched fetched told
   found_none [] is at = refl
@@ -98,17 +90,17 @@ module _ (b : ℕ) (w : World) (third : Pair) (a : Location) (address n : ℕ) w
   unfolding delivering
   delivers_one z = rw (eq-eqb _ _ z)
 
-  module _ (some : third.form ≡ 0 → ⊥) {bugs : List ℕ} (after : bugs ≡ bugs_stored b a address w.bugs) {answer : Linked}
+  module _ (some : third.form ≡ 0 → ⊥) {bugs : List ℕ} (after : bugs ≡ bugs_stored b a address w.bugs) {answer : Result Spot Refusal}
       (is : told_linked answer ≡ told (standing (contents b (through b (record { address = address; size = n; at = a })
       (record { bugs = bugs; definitions = w.definitions; setup = w.setup; map = w.map; storage = w.storage })))
       (leads b (through b (record { address = address; size = n; at = a })
       (record { bugs = bugs; definitions = w.definitions; setup = w.setup; map = w.map; storage = w.storage })) third.value))) where
-    pub delivers_two : {a2 : Spot} → answer ≡ links.At a2 → {old : ℕ} → old ≡ contents b w a
+    pub delivers_two : {a2 : Spot} → answer ≡ Ok a2 → {old : ℕ} → old ≡ contents b w a
         → delivering b w third a address n ≡ passed (DeliverTwo address n a (located a2.at) old)
     unfolding delivering after_delivery leads locate ◌>>=◌
     delivers_two to same = rw (ne_eqb _ _ some, ← after, at_is _ _ is to, same)
 
-    pub delivers_stopped : {r : Refusal} → answer ≡ links.Stopped r → delivering b w third a address n ≡ refused r
+    pub delivers_stopped : {r : Refusal} → answer ≡ Err r → delivering b w third a address n ≡ refused r
     unfolding delivering after_delivery leads locate ◌>>=◌
     delivers_stopped to = rw (ne_eqb _ _ some, ← after, stopped_is _ _ is to)
 
@@ -129,24 +121,24 @@ module _ (b : ℕ) (w : World) (third : Pair) (a : Location) (n : ℕ) where
         let same : level (top w.setup.d) n ≡ j = sym (level_is ∙ rw top-is) in
         rw same (need_yes _ _ _ (rw (le-leb 1 n (omega arith), le-leb n w.setup.d fits)))
 
-    module _ {answer : Fetched} (is : told_fetched answer ≡ told (fetched (size j) (lowest_run w.setup w.map (size j)))) where
-      pub get_run : {address m : ℕ} → answer ≡ fetching.Run address m → getting b w third a n ≡ delivering b w third a address m
-      get_run {address} {m} to =
-          let (run, same) = run_is (size j) (lowest_run w.setup w.map (size j)) is to in
-          wanted ∙ bind_yes _ _ run ∙ ap (delivering b w third a address) (sym same)
+    module _ {answer : Result Run Refusal} (is : told_fetched answer ≡ told (fetched (size j) (lowest_run w.setup w.map (size j)))) where
+      pub get_run : {run : Run} → answer ≡ Ok run → getting b w third a n ≡ delivering b w third a run.address run.size
+      get_run {run} to =
+          let (at, same) = run_is (size j) (lowest_run w.setup w.map (size j)) is to in
+          wanted ∙ bind_yes _ _ at ∙ ap (delivering b w third a run.address) (sym same)
 
-      pub get_no_run : {r : Refusal} → answer ≡ fetching.Stopped r → getting b w third a n ≡ refused r
+      pub get_no_run : {r : Refusal} → answer ≡ Err r → getting b w third a n ≡ refused r
       get_no_run to = wanted ∙ bind_no _ _ (no_run_is (size j) (lowest_run w.setup w.map (size j)) is to)
 
 -- a run that is found can be delivered
 pub run_deliverable : (b : ℕ) (w : World) (a : Location) → Readable b w → Reached b w.setup.s1 w.storage a → (j : ℕ) → j ≤ top w.setup.d
-    → {answer : Fetched} → told_fetched answer ≡ told (fetched (size j) (lowest_run w.setup w.map (size j))) → {address m : ℕ}
-    → answer ≡ fetching.Run address m
-    → Deliverable b w address m a
+    → {answer : Result Run Refusal} → told_fetched answer ≡ told (fetched (size j) (lowest_run w.setup w.map (size j))) → {run : Run}
+    → answer ≡ Ok run
+    → Deliverable b w run.address run.size a
 unfolding lowest_run
-run_deliverable b w a h reached j low is {address} {m} to =
-    let (run, same) = run_is (size j) (lowest_run w.setup w.map (size j)) is to in
-    let mem = one_of_runs _ address run in
+run_deliverable b w a h reached j low is {run} to =
+    let (at, same) = run_is (size j) (lowest_run w.setup w.map (size j)) is to in
+    let mem = one_of_runs _ run.address at in
     record {
       fits = run_fits _ _ _ _ _ (size_pos j) h.numbers mem;
       place = j;
@@ -231,13 +223,13 @@ module _ (u : SetUp) (m : List ℕ) (a : Location) (from : ℕ) {n : ℕ} (is : 
     unfolding duplicating
     to_copy = rw (← is, same_size) (need_yes _ _ _ (rw (ne_eqb n 0 some)))
 
-    module _ {answer : Fetched} (fetch : told_fetched answer ≡ told (fetched (size j) (lowest_run u m (size j)))) where
-      pub copy_run : {address n' : ℕ} → answer ≡ fetching.Run address n' → duplicating u m a from (size_at from (live u m)) ≡ passed (Deliver address n' from a)
-      copy_run {address} {n'} to =
-          let (run, same) = run_is (size j) (lowest_run u m (size j)) fetch to in
-          to_copy ∙ bind_yes _ _ run ∙ ap (λ (i : ℕ). passed (Deliver address i from a)) (sym same)
+    module _ {answer : Result Run Refusal} (fetch : told_fetched answer ≡ told (fetched (size j) (lowest_run u m (size j)))) where
+      pub copy_run : {run : Run} → answer ≡ Ok run → duplicating u m a from (size_at from (live u m)) ≡ passed (Deliver run.address run.size from a)
+      copy_run {run} to =
+          let (at, same) = run_is (size j) (lowest_run u m (size j)) fetch to in
+          to_copy ∙ bind_yes _ _ at ∙ ap (λ (i : ℕ). passed (Deliver run.address i from a)) (sym same)
 
-      pub copy_no_run : {r : Refusal} → answer ≡ fetching.Stopped r → duplicating u m a from (size_at from (live u m)) ≡ refused r
+      pub copy_no_run : {r : Refusal} → answer ≡ Err r → duplicating u m a from (size_at from (live u m)) ≡ refused r
       copy_no_run to = to_copy ∙ bind_no _ _ (no_run_is (size j) (lowest_run u m (size j)) fetch to)
 
 -- characters that are all below 64, and others
@@ -280,22 +272,22 @@ module _ (b taken : ℕ) (input : List ℕ) (a : Location) (n : ℕ) where
         taken_some =
             need_yes _ _ _ (le-leb n (b / 6) few) ∙ rw (ne_eqb (length input) 0 some) (need_yes _ _ _ (le-leb (taken + n) (length input) there))
 
-        module _ {answer : Packed} (is : told_packed answer ≡ packing (take n (drop taken input))) where
-          pub take_value : {v : ℕ} → answer ≡ packs.Value v → taking b taken input a n ≡ passed (Input a v n)
+        module _ {answer : Option ℕ} (is : told_packed answer ≡ packing (take n (drop taken input))) where
+          pub take_value : {v : ℕ} → answer ≡ Some v → taking b taken input a n ≡ passed (Input a v n)
           unfolding told_packed packing
           take_value to = taken_some ∙ characters_value n a _ _ (sym (ap told_packed to) ∙ is)
 
-          pub take_byte : answer ≡ packs.TooLarge → taking b taken input a n ≡ refused InputByte
+          pub take_byte : answer ≡ None → taking b taken input a n ≡ refused InputByte
           unfolding told_packed packing
           take_byte to = taken_some ∙ characters_byte n a _ _ (sym (ap told_packed to) ∙ is)
 
 -- a value that is made is stored
-module _ (at : Location) (k : Checked ℕ) {answer : Computed} (is : told_computed answer ≡ told k) where
-  pub store_made : {v : ℕ} → answer ≡ computing.Made v → storing at k ≡ passed (Store at v)
+module _ (at : Location) (k : Checked ℕ) {answer : Result ℕ Refusal} (is : told_computed answer ≡ told k) where
+  pub store_made : {v : ℕ} → answer ≡ Ok v → storing at k ≡ passed (Store at v)
   unfolding storing
   store_made to = rw (made_is k is to)
 
-  pub store_stopped : {r : Refusal} → answer ≡ computing.Stopped r → storing at k ≡ refused r
+  pub store_stopped : {r : Refusal} → answer ≡ Err r → storing at k ≡ refused r
   unfolding storing
   store_stopped to = rw (not_made_is k is to)
 

@@ -14,23 +14,23 @@ ghost use Rattle.operations.specs.Seen.{seen_by};
 
 use crate::blocks::{duplicate, free, get};
 use crate::values::compute;
-use crate::{Action, Computed, Known, Planned};
+use crate::{Action, Known};
 use block::SetUp;
 use buddy::setup::fits;
-use character::{Packed, line_ends, pack_input};
+use character::{line_ends, pack_input};
 use machine::{BugWords, Definition, Entries, MapBytes, Refusal, STACK};
+use operands::Spot;
 use operands::locations::width_of;
 use operands::packing::PackedFields;
 use operands::references::{locate, operand};
-use operands::{Linked, Spot};
-use table::rows::{CODE, FIRST, FIRST_FORM, NAME, SECOND, SECOND_FORM, THIRD, THIRD_FORM};
-use table::{FieldName, Pair, codes};
+use table::rows::{CODE, FIRST, FIRST_FORM, NAME, SECOND, SECOND_FORM, THIRD, THIRD_FORM, pair_at};
+use table::{FieldName, codes};
 
 // The last word of a block that a definition may name.
 const LAST_WORD: u64 = machine::LAST_WORD as u64;
 
 // Operation 1, set up: refusal 3.
-pub fn plan_set_up(lent: usize, row: &[u64]) -> Planned
+pub fn plan_set_up(lent: usize, row: &[u64]) -> Result<Action, Refusal>
     requires { 10 ≤ length row.now }
     ensures { told_planned result ≡ told (set_up_plan lent (as_row row.now)) }
 {
@@ -38,24 +38,24 @@ pub fn plan_set_up(lent: usize, row: &[u64]) -> Planned
     let s1 = row[SECOND];
     let s2 = row[THIRD];
     if !fits(lent, d, s1, s2) {
-        return Planned::Stopped(Refusal::SetUpNumbers);
+        return Err(Refusal::SetUpNumbers);
     }
     let setup = SetUp {
         d: d as u16,
         s1: s1 as u16,
         s2: s2 as u16,
     };
-    Planned::Does(Action::SetUpWords(setup))
+    Ok(Action::SetUpWords(setup))
 }
 
 // 2, define, once its numbers are taken: refusal 7.
-fn define(b: u64, name: u64, word: u64, left: u64, right: u64) -> Planned
+fn define(b: u64, name: u64, word: u64, left: u64, right: u64) -> Result<Action, Refusal>
     requires { (b ≤ 48) × (name < 36) }
     ensures { told_planned result ≡ told (defining b name word left right) }
 {
     let known = (word <= LAST_WORD) & (left < b) & (right < b);
     if !known {
-        return Planned::Stopped(Refusal::DefinitionNumber);
+        return Err(Refusal::DefinitionNumber);
     }
     let field = FieldName(name as u8);
     let definition = Definition {
@@ -64,10 +64,7 @@ fn define(b: u64, name: u64, word: u64, left: u64, right: u64) -> Planned
         left: left as u8,
         right: right as u8,
     };
-    Planned::Does(Action::Define {
-        field: field,
-        definition: definition,
-    })
+    Ok(Action::Define { field, definition })
 }
 
 // 2, define.
@@ -79,7 +76,7 @@ pub fn plan_define(
     map: &MapBytes,
     storage: &[u64],
     row: &[u64],
-) -> Planned
+) -> Result<Action, Refusal>
     requires { Readable b (seen bugs.now fields.now setup map.now storage.now) × Taken b (as_row row.now).first
         × Taken b (as_row row.now).second × Taken b (as_row row.now).third × ((as_row row.now).name < 36)
         × (10 ≤ length row.now) }
@@ -87,77 +84,51 @@ pub fn plan_define(
         (define_plan b (seen bugs.now fields.now setup map.now storage.now)
         (as_row row.now)) }
 {
-    let first = Pair {
-        form: row[FIRST_FORM],
-        value: row[FIRST],
-    };
-    let second = Pair {
-        form: row[SECOND_FORM],
-        value: row[SECOND],
-    };
-    let third = Pair {
-        form: row[THIRD_FORM],
-        value: row[THIRD],
-    };
-    let x = operand(b, bugs, fields, setup, map, storage, first);
-    let word = match x {
-        Linked::At(v) => v.holds,
-        Linked::Stopped(r) => return Planned::Stopped(r),
-    };
-    let y = operand(b, bugs, fields, setup, map, storage, second);
-    let left = match y {
-        Linked::At(v) => v.holds,
-        Linked::Stopped(r) => return Planned::Stopped(r),
-    };
-    let z = operand(b, bugs, fields, setup, map, storage, third);
-    match z {
-        Linked::At(right) => define(b, row[NAME], word, left, right.holds),
-        Linked::Stopped(r) => Planned::Stopped(r),
-    }
+    let first = pair_at(row, FIRST_FORM);
+    let second = pair_at(row, SECOND_FORM);
+    let third = pair_at(row, THIRD_FORM);
+    let word = operand(b, bugs, fields, setup, map, storage, first)?;
+    let left = operand(b, bugs, fields, setup, map, storage, second)?;
+    let right = operand(b, bugs, fields, setup, map, storage, third)?;
+    define(b, row[NAME], word.holds, left.holds, right.holds)
 }
 
 // 24, input: refusals 10, 5, 4. Where the input has length 0, its characters are octal 77 and nothing is taken.
-fn take(b: u64, at: u64, taken: usize, input: &[u8], n: u64) -> Planned
+fn take(b: u64, at: u64, taken: usize, input: &[u8], n: u64) -> Result<Action, Refusal>
     requires { (b ≤ 48) × (taken ≤ length input.now) }
     ensures { told_planned result ≡ told (taking b taken input.now (located at) n) }
 {
     if b / 6 < n {
-        return Planned::Stopped(Refusal::CharacterCount);
+        return Err(Refusal::CharacterCount);
     }
     let count = n as usize;
     if input.len() == 0 {
-        return Planned::Does(Action::Input {
-            at: at,
+        return Ok(Action::Input {
+            at,
             value: line_ends(count),
             taken: 0,
         });
     }
     if input.len() - taken < count {
-        return Planned::Stopped(Refusal::InputShort);
+        return Err(Refusal::InputShort);
     }
-    let packed = pack_input(input, taken, count);
-    match packed {
-        Packed::Value(v) => Planned::Does(Action::Input {
-            at: at,
-            value: v,
-            taken: n,
-        }),
-        Packed::TooLarge => Planned::Stopped(Refusal::InputByte),
-    }
+    let value = pack_input(input, taken, count).ok_or(Refusal::InputByte)?;
+    Ok(Action::Input {
+        at,
+        value,
+        taken: n,
+    })
 }
 
 // The operations that compute a value and store it in a.
-fn make(b: u64, code: u64, a: Spot, x: Spot) -> Planned
+fn make(b: u64, code: u64, a: Spot, x: Spot) -> Result<Action, Refusal>
     requires { (b ≤ 48) × (a.holds < 2 ^ b) × (x.holds < 2 ^ b) × (bits_at b a.at ≤ b) × (bits_at b x.at ≤ b)
         × Computes code }
     ensures { told_planned result ≡ told (storing (located a.at)
         (value_by code b (valued a.holds (bits_at b a.at)) (valued x.holds (bits_at b x.at)))) }
 {
-    let made = compute(b, code, a, x);
-    match made {
-        Computed::Made(v) => Planned::Does(Action::Store { at: a.at, value: v }),
-        Computed::Stopped(r) => Planned::Stopped(r),
-    }
+    let value = compute(b, code, a, x)?;
+    Ok(Action::Store { at: a.at, value })
 }
 
 // An operation (a, x) by its code, once a is located and x taken.
@@ -171,7 +142,7 @@ fn act(
     row: &[u64],
     a: Spot,
     x: Spot,
-) -> Planned
+) -> Result<Action, Refusal>
     requires { Readable known.b (seen_by known bugs.now fields.now map.now storage.now)
         × (known.counts.taken ≤ length input.now) × Reached known.b known.setup.s1 storage.now (located a.at)
         × (x.holds < 2 ^ known.b) × (bits_at known.b x.at ≤ known.b) × Acts (as_row row.now).code
@@ -189,10 +160,7 @@ fn act(
     let code = row[CODE];
     match code {
         codes::GET => {
-            let third = Pair {
-                form: row[THIRD_FORM],
-                value: row[THIRD],
-            };
+            let third = pair_at(row, THIRD_FORM);
             get(known, bugs, fields, map, storage, third, a, x.holds)
         }
         codes::FREE => free(setup, map, a.at, a.holds, x.holds),
@@ -211,7 +179,7 @@ pub fn plan_two(
     storage: &[u64],
     input: &[u8],
     row: &[u64],
-) -> Planned
+) -> Result<Action, Refusal>
     requires { Readable known.b (seen_by known bugs.now fields.now map.now storage.now)
         × (known.counts.taken ≤ length input.now) × Acts (as_row row.now).code
         × (is_reference (as_row row.now).first.value ≡ true)
@@ -224,20 +192,10 @@ pub fn plan_two(
 {
     let b = known.b;
     let setup = known.setup;
-    let found = locate(b, bugs, fields, setup, map, storage, row[FIRST]);
-    let a = match found {
-        Linked::At(x) => x,
-        Linked::Stopped(r) => return Planned::Stopped(r),
-    };
-    let second = Pair {
-        form: row[SECOND_FORM],
-        value: row[SECOND],
-    };
-    let got = operand(b, bugs, fields, setup, map, storage, second);
-    match got {
-        Linked::At(x) => act(known, bugs, fields, map, storage, input, row, a, x),
-        Linked::Stopped(r) => Planned::Stopped(r),
-    }
+    let a = locate(b, bugs, fields, setup, map, storage, row[FIRST])?;
+    let second = pair_at(row, SECOND_FORM);
+    let x = operand(b, bugs, fields, setup, map, storage, second)?;
+    act(known, bugs, fields, map, storage, input, row, a, x)
 }
 
 // 7, interchange: both located, and then each gets what the other held.
@@ -249,7 +207,7 @@ pub fn plan_swap(
     map: &MapBytes,
     storage: &[u64],
     row: &[u64],
-) -> Planned
+) -> Result<Action, Refusal>
     requires { Readable b (seen bugs.now fields.now setup map.now storage.now)
         × (is_reference (as_row row.now).first.value ≡ true) × (is_reference (as_row row.now).second.value ≡ true)
         × (10 ≤ length row.now) }
@@ -257,17 +215,9 @@ pub fn plan_swap(
         (swap_plan b (seen bugs.now fields.now setup map.now storage.now)
         (as_row row.now)) }
 {
-    let found = locate(b, bugs, fields, setup, map, storage, row[FIRST]);
-    let a = match found {
-        Linked::At(x) => x,
-        Linked::Stopped(r) => return Planned::Stopped(r),
-    };
-    let other = locate(b, bugs, fields, setup, map, storage, row[SECOND]);
-    let c = match other {
-        Linked::At(x) => x,
-        Linked::Stopped(r) => return Planned::Stopped(r),
-    };
-    Planned::Does(Action::StoreTwo {
+    let a = locate(b, bugs, fields, setup, map, storage, row[FIRST])?;
+    let c = locate(b, bugs, fields, setup, map, storage, row[SECOND])?;
+    Ok(Action::StoreTwo {
         at: a.at,
         value: c.holds,
         then_at: c.at,
@@ -276,19 +226,19 @@ pub fn plan_swap(
 }
 
 // 25, print, once its operands are taken: refusals 10, 21.
-fn print(written: usize, room: usize, n: u64, v: u64, width: u64) -> Planned
+fn print(written: usize, room: usize, n: u64, v: u64, width: u64) -> Result<Action, Refusal>
     requires { written ≤ room }
     ensures { told_planned result ≡ told (printing written room n (valued v width)) }
 {
     if machine::PRINTED < n {
-        return Planned::Stopped(Refusal::CharacterCount);
+        return Err(Refusal::CharacterCount);
     }
     if ((room - written) as u64) < n {
-        return Planned::Stopped(Refusal::OutputFull);
+        return Err(Refusal::OutputFull);
     }
-    Planned::Does(Action::Print {
+    Ok(Action::Print {
         count: n,
-        width: width,
+        width,
         value: v,
     })
 }
@@ -301,7 +251,7 @@ pub fn plan_print(
     map: &MapBytes,
     storage: &[u64],
     row: &[u64],
-) -> Planned
+) -> Result<Action, Refusal>
     requires { Readable known.b (seen_by known bugs.now fields.now map.now storage.now)
         × (known.counts.written ≤ known.room) × Taken known.b (as_row row.now).first
         × Taken known.b (as_row row.now).second × (10 ≤ length row.now) }
@@ -312,24 +262,17 @@ pub fn plan_print(
     let b = known.b;
     let setup = known.setup;
     let counts = known.counts;
-    let first = Pair {
-        form: row[FIRST_FORM],
-        value: row[FIRST],
-    };
-    let second = Pair {
-        form: row[SECOND_FORM],
-        value: row[SECOND],
-    };
-    let x = operand(b, bugs, fields, setup, map, storage, first);
-    let n = match x {
-        Linked::At(v) => v.holds,
-        Linked::Stopped(r) => return Planned::Stopped(r),
-    };
-    let y = operand(b, bugs, fields, setup, map, storage, second);
-    match y {
-        Linked::At(v) => print(counts.written, known.room, n, v.holds, width_of(b, v.at)),
-        Linked::Stopped(r) => Planned::Stopped(r),
-    }
+    let first = pair_at(row, FIRST_FORM);
+    let second = pair_at(row, SECOND_FORM);
+    let n = operand(b, bugs, fields, setup, map, storage, first)?;
+    let v = operand(b, bugs, fields, setup, map, storage, second)?;
+    print(
+        counts.written,
+        known.room,
+        n.holds,
+        v.holds,
+        width_of(b, v.at),
+    )
 }
 
 // 32, save contents: refusal 19. 33, restore contents: refusal 20. a is located before the stack is looked at.
@@ -341,7 +284,7 @@ pub fn plan_contents(
     storage: &[u64],
     entries: &Entries,
     row: &[u64],
-) -> Planned
+) -> Result<Action, Refusal>
     requires { Readable known.b (seen_by known bugs.now fields.now map.now storage.now)
         × (known.counts.contents ≤ 128) × (is_reference (as_row row.now).first.value ≡ true) × (10 ≤ length row.now) }
     ensures { told_planned result ≡ told (contents_plan known.b
@@ -350,30 +293,26 @@ pub fn plan_contents(
 {
     let setup = known.setup;
     let counts = known.counts;
-    let found = locate(known.b, bugs, fields, setup, map, storage, row[FIRST]);
-    let a = match found {
-        Linked::At(x) => x,
-        Linked::Stopped(r) => return Planned::Stopped(r),
-    };
+    let a = locate(known.b, bugs, fields, setup, map, storage, row[FIRST])?;
     let count = counts.contents;
     if row[CODE] == codes::SAVE {
         if STACK <= count {
-            return Planned::Stopped(Refusal::StackFull);
+            return Err(Refusal::StackFull);
         }
-        return Planned::Does(Action::Save(a.holds));
+        return Ok(Action::Save(a.holds));
     }
     if count == 0 {
-        return Planned::Stopped(Refusal::StackEmpty);
+        return Err(Refusal::StackEmpty);
     }
     let i = count - 1;
-    Planned::Does(Action::Restore {
+    Ok(Action::Restore {
         at: a.at,
         value: entries[i],
     })
 }
 
 // 34, save a definition: refusal 19. 35, restore it: refusal 20. 36, DO: refusal 19.
-pub fn plan_records(saved: usize, calls: usize, row: &[u64]) -> Planned
+pub fn plan_records(saved: usize, calls: usize, row: &[u64]) -> Result<Action, Refusal>
     requires { (as_row row.now).name < 36 × (10 ≤ length row.now) }
     ensures { told_planned result ≡ told (record_plan saved calls (as_row row.now)) }
 {
@@ -381,18 +320,18 @@ pub fn plan_records(saved: usize, calls: usize, row: &[u64]) -> Planned
     let code = row[CODE];
     if code == codes::SAVE_DEFINITION {
         if STACK <= saved {
-            return Planned::Stopped(Refusal::StackFull);
+            return Err(Refusal::StackFull);
         }
-        return Planned::Does(Action::SaveDefinition(field));
+        return Ok(Action::SaveDefinition(field));
     }
     if code == codes::RESTORE_DEFINITION {
         if saved == 0 {
-            return Planned::Stopped(Refusal::StackEmpty);
+            return Err(Refusal::StackEmpty);
         }
-        return Planned::Does(Action::RestoreDefinition(field));
+        return Ok(Action::RestoreDefinition(field));
     }
     if STACK <= calls {
-        return Planned::Stopped(Refusal::StackFull);
+        return Err(Refusal::StackFull);
     }
-    Planned::Does(Action::Call(row[FIRST]))
+    Ok(Action::Call(row[FIRST]))
 }

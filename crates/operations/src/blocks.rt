@@ -14,9 +14,8 @@ ghost use Rattle.machine.specs.Locate.{contents};
 ghost use Rattle.operations.specs.Answers.{told_planned, told_fetched, fetched};
 ghost use Rattle.operations.specs.Seen.{seen_by};
 
-use crate::{Action, Fetched, Known, Planned};
+use crate::{Action, Known, Run};
 use block::SetUp;
-use buddy::Found;
 use buddy::section::{live_size, lowest_run};
 use buddy::sizes::{level_of, size_of, top_of};
 use machine::{BugWords, MapBytes, Refusal};
@@ -24,22 +23,19 @@ use operands::locations::bits_of;
 use operands::packing::PackedFields;
 use operands::references::locate_through;
 use operands::stores::bugs_after;
-use operands::{Delivery, FIELDS, Linked, Spot};
+use operands::{Delivery, FIELDS, Spot};
 use table::{Pair, codes};
 
 // The lowest aligned run of the j-th size: refusal 17.
-fn fetch(setup: SetUp, map: &[u8], j: u8) -> Fetched
+fn fetch(setup: SetUp, map: &[u8], j: u8) -> Result<Run, Refusal>
     requires { (words setup % size (top setup.d) ≡ 0) × (keeps setup map.now ≡ true) × (j ≤ top setup.d) }
     ensures { told_fetched result ≡ told (fetched (size j) (lowest_run setup map.now (size j))) }
 {
-    let run = lowest_run(setup, map, j);
-    match run {
-        Found::At(address) => Fetched::Run {
-            address: address as u64,
-            size: size_of(j) as u64,
-        },
-        Found::Nothing => Fetched::Stopped(Refusal::NoRun),
-    }
+    let address = lowest_run(setup, map, j).ok_or(Refusal::NoRun)?;
+    Ok(Run {
+        address: address as u64,
+        size: size_of(j) as u64,
+    })
 }
 
 // 3, get, once a run is found: a2 is located after the delivery.
@@ -52,7 +48,7 @@ fn deliver(
     third: Pair,
     ahead: Delivery,
     held: u64,
-) -> Planned
+) -> Result<Action, Refusal>
     requires { Readable known.b (seen_by known bugs.now fields.now map.now storage.now)
         × Deliverable known.b (seen_by known bugs.now fields.now map.now storage.now) ahead.address ahead.size
         (located ahead.at) × ((third.form ≡ 0 → ⊥) → is_reference third.value ≡ true)
@@ -65,25 +61,22 @@ fn deliver(
     let setup = known.setup;
     let at = ahead.at;
     if third.form == codes::ABSENT {
-        return Planned::Does(Action::Deliver {
+        return Ok(Action::Deliver {
             address: ahead.address,
             size: ahead.size,
             copied: 0,
-            at: at,
+            at,
         });
     }
     let after = bugs_after(b, bugs, at, ahead.address);
-    let found = locate_through(b, &after, fields, setup, map, storage, ahead, third.value);
-    match found {
-        Linked::At(second) => Planned::Does(Action::DeliverTwo {
-            address: ahead.address,
-            size: ahead.size,
-            at: at,
-            then_at: second.at,
-            then_value: held,
-        }),
-        Linked::Stopped(r) => Planned::Stopped(r),
-    }
+    let second = locate_through(b, &after, fields, setup, map, storage, ahead, third.value)?;
+    Ok(Action::DeliverTwo {
+        address: ahead.address,
+        size: ahead.size,
+        at,
+        then_at: second.at,
+        then_value: held,
+    })
 }
 
 // 3, get, once a is located and the size taken: refusals 8, 17, and then those of a2.
@@ -96,7 +89,7 @@ pub fn get(
     third: Pair,
     a: Spot,
     wanted: u64,
-) -> Planned
+) -> Result<Action, Refusal>
     requires { Readable known.b (seen_by known bugs.now fields.now map.now storage.now)
         × Reached known.b known.setup.s1 storage.now (located a.at)
         × ((third.form ≡ 0 → ⊥) → is_reference third.value ≡ true)
@@ -107,23 +100,18 @@ pub fn get(
 {
     let setup = known.setup;
     if wanted == 0 {
-        return Planned::Stopped(Refusal::BlockSize);
+        return Err(Refusal::BlockSize);
     }
     if (setup.d as u64) < wanted {
-        return Planned::Stopped(Refusal::BlockSize);
+        return Err(Refusal::BlockSize);
     }
-    let run = fetch(setup, map, level_of(top_of(setup.d), wanted));
-    match run {
-        Fetched::Run { address, size } => {
-            let ahead = Delivery {
-                address: address,
-                size: size,
-                at: a.at,
-            };
-            deliver(known, bugs, fields, map, storage, third, ahead, a.holds)
-        }
-        Fetched::Stopped(r) => Planned::Stopped(r),
-    }
+    let run = fetch(setup, map, level_of(top_of(setup.d), wanted))?;
+    let ahead = Delivery {
+        address: run.address,
+        size: run.size,
+        at: a.at,
+    };
+    deliver(known, bugs, fields, map, storage, third, ahead, a.holds)
 }
 
 // The field to change lies in the block of n words at an address.
@@ -141,42 +129,39 @@ fn lies_in(address: u64, n: u64, at: u64) -> bool
 }
 
 // 4, free: refusals 15, 18.
-pub fn free(setup: SetUp, map: &MapBytes, at: u64, address: u64, v: u64) -> Planned
+pub fn free(setup: SetUp, map: &MapBytes, at: u64, address: u64, v: u64) -> Result<Action, Refusal>
     requires { (words setup % size (top setup.d) ≡ 0) × (keeps setup map.now ≡ true) }
     ensures { told_planned result ≡ told (freeing address (size_at address (live setup map.now)) (located at) v) }
 {
     let n = live_size(setup, map, address);
     if n == 0 {
-        return Planned::Stopped(Refusal::NotABlock);
+        return Err(Refusal::NotABlock);
     }
     if lies_in(address, n, at) {
-        return Planned::Stopped(Refusal::FieldFreed);
+        return Err(Refusal::FieldFreed);
     }
-    Planned::Does(Action::Free {
-        address: address,
-        at: at,
+    Ok(Action::Free {
+        address,
+        at,
         value: v,
     })
 }
 
 // 5, duplicate: refusals 15, 17.
-pub fn duplicate(setup: SetUp, map: &MapBytes, at: u64, from: u64) -> Planned
+pub fn duplicate(setup: SetUp, map: &MapBytes, at: u64, from: u64) -> Result<Action, Refusal>
     requires { (words setup % size (top setup.d) ≡ 0) × (keeps setup map.now ≡ true) }
     ensures { told_planned result ≡ told
         (duplicating setup map.now (located at) from (size_at from (live setup map.now))) }
 {
     let n = live_size(setup, map, from);
     if n == 0 {
-        return Planned::Stopped(Refusal::NotABlock);
+        return Err(Refusal::NotABlock);
     }
-    let run = fetch(setup, map, level_of(top_of(setup.d), n));
-    match run {
-        Fetched::Run { address, size } => Planned::Does(Action::Deliver {
-            address: address,
-            size: size,
-            copied: from,
-            at: at,
-        }),
-        Fetched::Stopped(r) => Planned::Stopped(r),
-    }
+    let run = fetch(setup, map, level_of(top_of(setup.d), n))?;
+    Ok(Action::Deliver {
+        address: run.address,
+        size: run.size,
+        copied: from,
+        at,
+    })
 }

@@ -9,8 +9,8 @@ ghost use Rattle.operations.specs.Plans.{plan_of, stack_plan};
 ghost use Rattle.operations.specs.Rows.{Stacked, Operates};
 
 use crate::actions::{plan_contents, plan_define, plan_print, plan_records, plan_swap, plan_two};
-use crate::{Known, Planned};
-use machine::{BugWords, Entries, MapBytes};
+use crate::{Action, Known};
+use machine::{BugWords, Entries, MapBytes, Refusal};
 use operands::packing::PackedFields;
 use table::codes;
 use table::rows::CODE;
@@ -24,7 +24,7 @@ fn plan_stacks(
     storage: &[u64],
     entries: &Entries,
     row: &[u64],
-) -> Planned
+) -> Result<Action, Refusal>
     requires { Readable known.b (seen_by known bugs.now fields.now map.now storage.now)
         × (known.counts.contents ≤ 128) × Stacked (as_row row.now) × (10 ≤ length row.now) }
     ensures { told_planned result ≡ told (stack_plan known.b
@@ -48,7 +48,7 @@ pub fn plan_by_code(
     entries: &Entries,
     input: &[u8],
     row: &[u64],
-) -> Planned
+) -> Result<Action, Refusal>
     requires { Ready known.b
         (sees known bugs.now fields.now map.now storage.now entries.now input.now)
         × Operates known.b (as_row row.now) × (10 ≤ length row.now) }

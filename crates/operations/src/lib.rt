@@ -8,7 +8,7 @@ pub mod places;
 mod values;
 
 use block::SetUp;
-use machine::{Definition, Refusal};
+use machine::Definition;
 use table::FieldName;
 
 // How far the stacks, the input and the output are used.
@@ -97,23 +97,9 @@ pub enum Action {
     Return,
 }
 
-// What an operation plans: an action, or why it is refused.
+// An aligned run by its address and size.
 #[derive(Clone, Copy)]
-pub enum Planned {
-    Does(Action),
-    Stopped(Refusal),
-}
-
-// What an operation makes of its operands, or why it makes nothing.
-#[derive(Clone, Copy)]
-pub enum Computed {
-    Made(u64),
-    Stopped(Refusal),
-}
-
-// An aligned run by its address and size, or why there is none.
-#[derive(Clone, Copy)]
-pub enum Fetched {
-    Run { address: u64, size: u64 },
-    Stopped(Refusal),
+pub struct Run {
+    pub address: u64,
+    pub size: u64,
 }

@@ -9,48 +9,42 @@ ghost use Rattle.operations.specs.Plans.{value_by, Computes};
 ghost use Rattle.machine.specs.Answer.{told};
 ghost use Rattle.operations.specs.Answers.{told_computed};
 
-use crate::Computed;
-use character::Converted;
 use machine::Refusal;
 use operands::Spot;
 use operands::locations::width_of;
 use table::codes;
 
 // 9, subtract: refusal 22.
-fn subtracted(b: u64, x: u64, y: u64) -> Computed
+fn subtracted(b: u64, x: u64, y: u64) -> Result<u64, Refusal>
     requires { (b ≤ 48) × (x < 2 ^ b) }
     ensures { told_computed result ≡ told (difference 0 (valued x 0) (valued y 0)) }
 {
     if x < y {
-        return Computed::Stopped(Refusal::SubtrahendGreater);
+        return Err(Refusal::SubtrahendGreater);
     }
-    Computed::Made(word::arithmetic::subtract(b, x, y))
+    Ok(word::arithmetic::subtract(b, x, y))
 }
 
 // 11, divide: refusal 9.
-fn divided(x: u64, y: u64) -> Computed
+fn divided(x: u64, y: u64) -> Result<u64, Refusal>
     ensures { told_computed result ≡ told (quotient 0 (valued x 0) (valued y 0)) }
 {
     if y == 0 {
-        return Computed::Stopped(Refusal::ZeroDivisor);
+        return Err(Refusal::ZeroDivisor);
     }
-    Computed::Made(word::arithmetic::divide(x, y))
+    Ok(word::arithmetic::divide(x, y))
 }
 
 // 27, decimal, and 28, octal to binary: refusal 6.
-fn binary(base: u64, n: usize, v: u64) -> Computed
+fn binary(base: u64, n: usize, v: u64) -> Result<u64, Refusal>
     requires { (base ≤ 64) × (n ≤ 10) }
     ensures { told_computed result ≡ told (or_refuse (to_binary base n v) NotADigit) }
 {
-    let c = character::to_binary(base, n, v);
-    match c {
-        Converted::Value(x) => Computed::Made(x),
-        Converted::NotADigit => Computed::Stopped(Refusal::NotADigit),
-    }
+    character::to_binary(base, n, v).ok_or(Refusal::NotADigit)
 }
 
 // The value, by the code: a's old contents and x, each with its location, whose width is worked out where it is wanted.
-pub fn compute(b: u64, code: u64, a: Spot, x: Spot) -> Computed
+pub fn compute(b: u64, code: u64, a: Spot, x: Spot) -> Result<u64, Refusal>
     requires { (b ≤ 48) × (a.holds < 2 ^ b) × (x.holds < 2 ^ b) × (bits_at b a.at ≤ b) × (bits_at b x.at ≤ b)
         × Computes code }
     ensures { told_computed result ≡ told (value_by code b (valued a.holds (bits_at b a.at))
@@ -60,30 +54,28 @@ pub fn compute(b: u64, code: u64, a: Spot, x: Spot) -> Computed
     let v = x.holds;
     let n = (b / 6) as usize;
     match code {
-        codes::COPY => Computed::Made(v),
-        codes::ADD => Computed::Made(word::arithmetic::add(b, old, v)),
+        codes::COPY => Ok(v),
+        codes::ADD => Ok(word::arithmetic::add(b, old, v)),
         codes::SUBTRACT => subtracted(b, old, v),
-        codes::MULTIPLY => Computed::Made(word::arithmetic::multiply(b, old, v)),
+        codes::MULTIPLY => Ok(word::arithmetic::multiply(b, old, v)),
         codes::DIVIDE => divided(old, v),
-        codes::OR => Computed::Made(word::logic::or(b, old, v)),
-        codes::AND => Computed::Made(word::logic::and(b, old, v)),
-        codes::EXCLUSIVE_OR => Computed::Made(word::logic::exclusive_or(b, old, v)),
-        codes::COMPLEMENT => Computed::Made(word::logic::complement(b, v)),
-        codes::COUNT_ONES => Computed::Made(word::count::count_ones(width_of(b, x.at), v)),
-        codes::COUNT_ZEROS => Computed::Made(word::count::count_zeros(width_of(b, x.at), v)),
-        codes::LEFTMOST_ONE => Computed::Made(word::count::leftmost_one(width_of(b, x.at), v)),
-        codes::RIGHTMOST_ONE => Computed::Made(word::count::rightmost_one(width_of(b, x.at), v)),
-        codes::LEFTMOST_ZERO => Computed::Made(word::count::leftmost_zero(width_of(b, x.at), v)),
-        codes::RIGHTMOST_ZERO => Computed::Made(word::count::rightmost_zero(width_of(b, x.at), v)),
-        codes::LEFT_SHIFT => Computed::Made(word::shifts::left_shift(width_of(b, a.at), old, v)),
-        codes::RIGHT_SHIFT => Computed::Made(word::shifts::right_shift(width_of(b, a.at), old, v)),
-        codes::BLANKS_TO_ZEROS => {
-            Computed::Made(character::blanks_to_zeros(n, width_of(b, x.at) as usize, v))
-        }
+        codes::OR => Ok(word::logic::or(b, old, v)),
+        codes::AND => Ok(word::logic::and(b, old, v)),
+        codes::EXCLUSIVE_OR => Ok(word::logic::exclusive_or(b, old, v)),
+        codes::COMPLEMENT => Ok(word::logic::complement(b, v)),
+        codes::COUNT_ONES => Ok(word::count::count_ones(width_of(b, x.at), v)),
+        codes::COUNT_ZEROS => Ok(word::count::count_zeros(width_of(b, x.at), v)),
+        codes::LEFTMOST_ONE => Ok(word::count::leftmost_one(width_of(b, x.at), v)),
+        codes::RIGHTMOST_ONE => Ok(word::count::rightmost_one(width_of(b, x.at), v)),
+        codes::LEFTMOST_ZERO => Ok(word::count::leftmost_zero(width_of(b, x.at), v)),
+        codes::RIGHTMOST_ZERO => Ok(word::count::rightmost_zero(width_of(b, x.at), v)),
+        codes::LEFT_SHIFT => Ok(word::shifts::left_shift(width_of(b, a.at), old, v)),
+        codes::RIGHT_SHIFT => Ok(word::shifts::right_shift(width_of(b, a.at), old, v)),
+        codes::BLANKS_TO_ZEROS => Ok(character::blanks_to_zeros(n, width_of(b, x.at) as usize, v)),
         codes::DECIMAL_TO_BINARY => binary(10, n, v),
         codes::OCTAL_TO_BINARY => binary(8, n, v),
-        codes::BINARY_TO_DECIMAL => Computed::Made(character::from_binary_decimal(n, v)),
-        codes::BINARY_TO_OCTAL => Computed::Made(character::from_binary_octal(n, v)),
-        _ => Computed::Made(character::zeros_to_blanks(n, v)),
+        codes::BINARY_TO_DECIMAL => Ok(character::from_binary_decimal(n, v)),
+        codes::BINARY_TO_OCTAL => Ok(character::from_binary_octal(n, v)),
+        _ => Ok(character::zeros_to_blanks(n, v)),
     }
 }

@@ -3,14 +3,16 @@ use Prim.Native.Nat.{ℕ, zero, suc, ◌+◌, ◌-◌, ◌/◌, ◌≤◌, ◌<�
 use native.Mathlib.Omega.{arith}
 use mathlib.Core.Bool.{true, false, ◌&&◌, ◌||◌, cond}
 use mathlib.Core.List.{List}
-use mathlib.Core.Logic.{◌⊎◌, ⊎_elim}
+use mathlib.Core.Logic.{⊎_elim}
 use mathlib.Core.Path.{◌≡◌, refl, sym, subst}
 use borrow.Author.Tests.{eqb-true, eqb-false, ne_eqb, lt-ltb}
 use lib.Dec.{eqb}
 use lib.ListN.{length}
 use Rattle.word.proofs.Tests.{and_true as and_parts}
 use Rattle.table.specs.declared.Row.{Row}
-use Rattle.table.specs.declared.TableCheck.TheVariants.{Lowest, BadLength}
+use Rattle.std.specs.Prelude.{Result, Ok, Err}
+use Rattle.table.specs.declared.TableError.{TableError}
+use Rattle.table.specs.declared.TableError.TheVariants.{BadLength}
 use Rattle.table.specs.Row.{length_fits, rows, row_at}
 use Rattle.table.specs.Table.{well_formed_as, well_formed, chained, usable, lowest_from, checked}
 use Rattle.machine.proofs.Checks.{or_parts}
@@ -33,13 +35,13 @@ no_lowest b table r (suc count) pos none i low high =
       | false ↦ λ bad here. absurd (omega arith)
     ] refl none
 
-lowest_same : {n m : ℕ} → Lowest n ≡ Lowest m → n ≡ m
+lowest_same : {n m : ℕ} → ◌≡◌ {A = Result ℕ TableError} (Ok n) (Ok m) → n ≡ m
 lowest_same e = cc
 
-fine_rows : (b : ℕ) (table : List ℕ) → checked b table ≡ Lowest 0 → (r : ℕ) → 0 < r → r < rows table → Fine b table r
+fine_rows : (b : ℕ) (table : List ℕ) → checked b table ≡ Ok 0 → (r : ℕ) → 0 < r → r < rows table → Fine b table r
 unfolding checked
 fine_rows b table k r pos less =
-    elim (length_fits table) as (λ t. cond t (Lowest (lowest_from b table 1 (rows table - 1))) BadLength ≡ Lowest 0 → Fine b table r) [
+    elim (length_fits table) as (λ t. cond t (Ok (lowest_from b table 1 (rows table - 1))) (Err BadLength) ≡ Ok 0 → Fine b table r) [
       | true ↦ λ e. no_lowest b table 1 (rows table - 1) (omega arith) (lowest_same e) r (omega arith) (omega arith)
       | false ↦ λ e. let never : ◌≡◌ {A = ℕ} 0 1 = cc in absurd (omega arith)
     ] k
@@ -65,7 +67,7 @@ other_kind kind b n r row h = rw (ne_eqb row.kind kind h)
 
 -- the kind of a row that is there tells
 module _ (kind b : ℕ) (table : List ℕ) (r : ℕ) where
-  pub kind_tells : checked b table ≡ Lowest 0 → 1 ≤ r → r < length table / 10 → {row : Row} → row ≡ row_at table r → eqb row.kind kind ≡ usable kind b table r
+  pub kind_tells : checked b table ≡ Ok 0 → 1 ≤ r → r < length table / 10 → {row : Row} → row ≡ row_at table r → eqb row.kind kind ≡ usable kind b table r
   unfolding usable rows
   kind_tells k low high {row} is =
       rw (is, lt-ltb 0 r low, lt-ltb r (length table / 10) high)

@@ -1,4 +1,5 @@
 -- Tests by what led to them, and the tests of a line one after the other. Assumes nothing.
+use Rattle.std.specs.Prelude.{Ok, Err}
 use Prim.Native.Nat.{ℕ, zero, suc, ◌+◌, ◌-◌, ◌≤◌, ◌<◌}
 use native.Mathlib.Omega.{arith}
 use mathlib.Core.Bool.{Bool, true, false, not, ◌||◌, cond, beq}
@@ -14,7 +15,6 @@ use Rattle.machine.specs.Answer.{refused, passed, told, ◌>>=◌, ◌>>◌, nee
 use Rattle.machine.specs.Locate.{World, Value, operand}
 use Rattle.machine.specs.Test.{compared, settling, settled_as, Made, testing, satisfied}
 use Rattle.machine.proofs.Checks.{need_passed, bind_passed, passed_same}
-use Rattle.plans.specs.declared.Settled.TheVariants as line
 use Rattle.plans.specs.Answers.{told_settled}
 use Rattle.plans.proofs.Rows.{used}
 
@@ -76,11 +76,11 @@ module _ (b : ℕ) (w : World) (table : List ℕ) (mode first : ℕ) where
 
   -- no test is left
   pub open_ends : {r : ℕ} → Open b w table mode first r → r ≡ 0 → {t : Bool} → t ≡ settled_as mode
-      → told_settled (line.Holds (not t)) ≡ told (satisfied b table w mode (rows table) first)
+      → told_settled (Ok (not t)) ≡ told (satisfied b table w mode (rows table) first)
   unfolding satisfied told_settled told
   open_ends {r} o z {t} is = rw (o.same, is) (none o.left)
     where
-      none : (count : ℕ) → told_settled (line.Holds (not (settled_as mode))) ≡ told (satisfied b table w mode count r)
+      none : (count : ℕ) → told_settled (Ok (not (settled_as mode))) ≡ told (satisfied b table w mode count r)
       none zero = refl
       none (suc count) = rw (eq-eqb r 0 z)
 
@@ -93,20 +93,20 @@ module _ (b : ℕ) (w : World) (table : List ℕ) (mode first : ℕ) where
         by zero e = absurd (let low = (o.enough some).0 in omega arith)
         by (suc n) e = f n e
 
-    pub open_stopped : {q : Refusal} → testing b table w r ≡ refused q → told_settled (line.Stopped q) ≡ told (satisfied b table w mode (rows table) first)
+    pub open_stopped : {q : Refusal} → testing b table w r ≡ refused q → told_settled (Err q) ≡ told (satisfied b table w mode (rows table) first)
     unfolding satisfied told_settled told ◌>>=◌
     open_stopped {q} k = one_more (λ count e. rw (o.same, e) (here count))
       where
-        here : (count : ℕ) → told_settled (line.Stopped q) ≡ told (satisfied b table w mode (suc count) r)
+        here : (count : ℕ) → told_settled (Err q) ≡ told (satisfied b table w mode (suc count) r)
         here count = rw (ne_eqb r 0 some, k)
 
     module _ {t : Made} (k : testing b table w r ≡ passed t) where
       pub open_settles : beq t.holds (settling mode) ≡ true → {s : Bool} → s ≡ settled_as mode
-          → told_settled (line.Holds s) ≡ told (satisfied b table w mode (rows table) first)
+          → told_settled (Ok s) ≡ told (satisfied b table w mode (rows table) first)
       unfolding satisfied told_settled told ◌>>=◌
       open_settles j {s} is = one_more (λ count e. rw (o.same, e, is) (here count))
         where
-          here : (count : ℕ) → told_settled (line.Holds (settled_as mode)) ≡ told (satisfied b table w mode (suc count) r)
+          here : (count : ℕ) → told_settled (Ok (settled_as mode)) ≡ told (satisfied b table w mode (suc count) r)
           here count = rw (ne_eqb r 0 some, k, j)
 
       pub open_next : beq t.holds (settling mode) ≡ false → Open b w table mode first t.next

@@ -8,21 +8,15 @@ mod tests;
 use machine::{Place, Refusal};
 use operations::Action;
 
-// Whether a test holds and the row of the next one, or why it is refused.
+// Whether a test holds, and the row of the next one.
 #[derive(Clone, Copy)]
-pub enum Tested {
-    Outcome { holds: bool, next: u64 },
-    Stopped(Refusal),
+pub struct Outcome {
+    pub holds: bool,
+    pub next: u64,
 }
 
-// Whether a line is satisfied, or why that is not told.
-#[derive(Clone, Copy)]
-pub enum Settled {
-    Holds(bool),
-    Stopped(Refusal),
-}
-
-// What a step does: the place to go to and the action there, or why it is refused.
+// What a step does: the place to go to and the action there, or why it is refused. An enum, and no Result of a struct: that takes 5 to 8
+// in 100 instructions more at each step of a run.
 #[derive(Clone, Copy)]
 pub enum Step {
     Goes { to: Place, action: Action },

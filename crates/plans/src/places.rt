@@ -29,12 +29,12 @@ pub fn operation_or_exit(row: u64, line: u16) -> Place
         return Place {
             kind: machine::AT_EXIT,
             row: 0,
-            line: line,
+            line,
         };
     }
     Place {
         kind: machine::AT_OPERATION,
         row: row as u16,
-        line: line,
+        line,
     }
 }

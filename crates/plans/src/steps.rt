@@ -1,6 +1,5 @@
 // The plan of a step: at a line's tests, at an operation, at a line's exit.
 ghost use Rattle.std.specs.Prelude.{true, ◌≡◌, ◌≤◌, length};
-ghost use Rattle.table.specs.declared.TableCheck.TheVariants.{Lowest};
 ghost use Rattle.table.specs.Row.{as_row, length_fits};
 ghost use Rattle.table.specs.Table.{checked};
 ghost use Rattle.operands.specs.Reading.{Readable};
@@ -12,15 +11,15 @@ ghost use Rattle.operations.specs.Seen.{seen_by, sees, Ready};
 ghost use Rattle.plans.specs.Answers.{told_step};
 ghost use Rattle.plans.specs.Steps.{tests_plan, operation_plan, ordered_plan, exit_plan, step_plan};
 
+use crate::Step;
 use crate::places::{next_line, operation_or_exit};
 use crate::tests::{can_use, satisfied};
-use crate::{Settled, Step};
 use machine::{BugWords, Entries, MapBytes, Place, Refusal};
 use operands::packing::PackedFields;
 use operations::actions::plan_set_up;
 use operations::codes::plan_by_code;
 use operations::places::tests_of;
-use operations::{Action, Known, Planned};
+use operations::{Action, Known};
 use table::codes;
 use table::rows::{CODE, FIRST, FIRST_FORM, NEXT, SECOND_FORM, from_row};
 
@@ -29,7 +28,7 @@ fn going_to(to: Place) -> Step
     ensures { result ≡ Step.Goes to Nothing }
 {
     Step::Goes {
-        to: to,
+        to,
         action: Action::Nothing,
     }
 }
@@ -45,7 +44,7 @@ fn plan_tests(
     table: &[u64],
 ) -> Step
     requires { Readable known.b (seen_by known bugs.now fields.now map.now storage.now)
-        × (length_fits table.now ≡ true) × (known.judged ≡ true → checked known.b table.now ≡ Lowest 0) }
+        × (length_fits table.now ≡ true) × (known.judged ≡ true → checked known.b table.now ≡ Ok 0) }
     ensures { told_step result ≡ told (tests_plan known.b
         (seen_by known bugs.now fields.now map.now storage.now)
         table.now line) }
@@ -55,24 +54,16 @@ fn plan_tests(
         return Step::Stopped(Refusal::BadRow);
     }
     let row = from_row(table, i);
-    let held = satisfied(
-        known,
-        bugs,
-        fields,
-        map,
-        storage,
-        table,
-        row[CODE],
-        row[FIRST_FORM],
-    );
-    match held {
-        Settled::Holds(holds) => {
+    let mode = row[CODE];
+    let first = row[FIRST_FORM];
+    match satisfied(known, bugs, fields, map, storage, table, mode, first) {
+        Ok(holds) => {
             if holds {
                 return going_to(operation_or_exit(row[FIRST], line));
             }
             going_to(next_line(row[NEXT]))
         }
-        Settled::Stopped(r) => Step::Stopped(r),
+        Err(r) => Step::Stopped(r),
     }
 }
 
@@ -86,7 +77,7 @@ fn plan_ordered(
     entries: &Entries,
     input: &[u8],
     row: &[u64],
-) -> Planned
+) -> Result<Action, Refusal>
     requires { Ready known.b (sees known bugs.now fields.now map.now storage.now entries.now input.now)
         × (((as_row row.now).code ≡ 1 → ⊥) → Operates known.b (as_row row.now)) × (10 ≤ length row.now) }
     ensures { told_planned result ≡ told (ordered_plan known.b
@@ -96,12 +87,12 @@ fn plan_ordered(
     let setup = known.setup;
     if row[CODE] == codes::SET_UP {
         if setup.d != 0 {
-            return Planned::Stopped(Refusal::SecondSetUp);
+            return Err(Refusal::SecondSetUp);
         }
         return plan_set_up(storage.len(), row);
     }
     if setup.d == 0 {
-        return Planned::Stopped(Refusal::BeforeSetUp);
+        return Err(Refusal::BeforeSetUp);
     }
     plan_by_code(known, bugs, fields, map, storage, entries, input, row)
 }
@@ -119,7 +110,7 @@ fn plan_operation(
     place: Place,
 ) -> Step
     requires { Ready known.b (sees known bugs.now fields.now map.now storage.now entries.now input.now)
-        × (length_fits table.now ≡ true) × (known.judged ≡ true → checked known.b table.now ≡ Lowest 0) }
+        × (length_fits table.now ≡ true) × (known.judged ≡ true → checked known.b table.now ≡ Ok 0) }
     ensures { told_step result ≡ told (operation_plan known.b
         (sees known bugs.now fields.now map.now storage.now
         entries.now input.now) table.now place) }
@@ -130,20 +121,16 @@ fn plan_operation(
     }
     let row = from_row(table, i);
     let to = operation_or_exit(row[NEXT], place.line);
-    let planned = plan_ordered(known, bugs, fields, map, storage, entries, input, row);
-    match planned {
-        Planned::Does(action) => Step::Goes {
-            to: to,
-            action: action,
-        },
-        Planned::Stopped(r) => Step::Stopped(r),
+    match plan_ordered(known, bugs, fields, map, storage, entries, input, row) {
+        Ok(action) => Step::Goes { to, action },
+        Err(r) => Step::Stopped(r),
     }
 }
 
 // The step at a line's exit: DONE, the go-to, or the next line.
 fn plan_exit(known: Known, line: u16, table: &[u64]) -> Step
     requires { (length_fits table.now ≡ true)
-        × (known.judged ≡ true → checked known.b table.now ≡ Lowest 0) }
+        × (known.judged ≡ true → checked known.b table.now ≡ Ok 0) }
     ensures { told_step result ≡ told (exit_plan known.b known.counts.calls table.now line) }
 {
     let counts = known.counts;
@@ -181,7 +168,7 @@ pub fn plan_step(
     table: &[u64],
 ) -> Step
     requires { Ready known.b (sees known bugs.now fields.now map.now storage.now entries.now input.now)
-        × (length_fits table.now ≡ true) × (known.judged ≡ true → checked known.b table.now ≡ Lowest 0) }
+        × (length_fits table.now ≡ true) × (known.judged ≡ true → checked known.b table.now ≡ Ok 0) }
     ensures { told_step result ≡ told (step_plan known.b
         (sees known bugs.now fields.now map.now storage.now
         entries.now input.now) table.now place) }

@@ -1,6 +1,5 @@
 // The tests of a line, one after the other, up to the first that settles it.
 ghost use Rattle.std.specs.Prelude.{true, ◌≡◌, ◌≤◌, ◌<◌};
-ghost use Rattle.table.specs.declared.TableCheck.TheVariants.{Lowest};
 ghost use Rattle.table.specs.Row.{rows};
 ghost use Rattle.table.specs.Table.{usable, checked};
 ghost use Rattle.machine.specs.Test.{compared as compared_by, settling as settling_of, settled_as, testing, satisfied as satisfied_by};
@@ -9,19 +8,18 @@ ghost use Rattle.operations.specs.Seen.{seen_by};
 ghost use Rattle.machine.specs.Answer.{told};
 ghost use Rattle.plans.specs.Answers.{told_tested, told_settled};
 
-use crate::{Settled, Tested};
+use crate::Outcome;
 use machine::{BugWords, MapBytes, Refusal};
-use operands::Linked;
 use operands::packing::PackedFields;
 use operands::references::operand;
 use operations::Known;
 use table::check::is_usable;
-use table::rows::{CODE, FIRST, FIRST_FORM, KIND, NEXT, NUMBERS, SECOND, SECOND_FORM, from_row};
-use table::{Pair, codes};
+use table::codes;
+use table::rows::{CODE, FIRST_FORM, KIND, NEXT, NUMBERS, SECOND_FORM, from_row, pair_at};
 
 // Row r can be used as this kind. Where the whole table is judged well-formed, its kind alone tells.
 pub fn can_use(kind: u64, b: u64, table: &[u64], r: usize, judged: bool) -> bool
-    requires { judged ≡ true → checked b table.now ≡ Lowest 0 }
+    requires { judged ≡ true → checked b table.now ≡ Ok 0 }
     ensures { result ≡ usable kind b table.now r }
 {
     if !judged {
@@ -76,9 +74,9 @@ fn test_at(
     storage: &[u64],
     table: &[u64],
     r: u64,
-) -> Tested
+) -> Result<Outcome, Refusal>
     requires { Readable known.b (seen_by known bugs.now fields.now map.now storage.now)
-        × (known.judged ≡ true → checked known.b table.now ≡ Lowest 0) }
+        × (known.judged ≡ true → checked known.b table.now ≡ Ok 0) }
     ensures { told_tested result ≡ told (testing known.b table.now
         (seen_by known bugs.now fields.now map.now storage.now) r) }
 {
@@ -86,30 +84,17 @@ fn test_at(
     let setup = known.setup;
     let i = r as usize;
     if !can_use(codes::TEST, b, table, i, known.judged) {
-        return Tested::Stopped(Refusal::BadRow);
+        return Err(Refusal::BadRow);
     }
     let row = from_row(table, i);
-    let first = Pair {
-        form: row[FIRST_FORM],
-        value: row[FIRST],
-    };
-    let second = Pair {
-        form: row[SECOND_FORM],
-        value: row[SECOND],
-    };
-    let x = operand(b, bugs, fields, setup, map, storage, first);
-    let c = match x {
-        Linked::At(v) => v.holds,
-        Linked::Stopped(q) => return Tested::Stopped(q),
-    };
-    let y = operand(b, bugs, fields, setup, map, storage, second);
-    match y {
-        Linked::At(cd) => Tested::Outcome {
-            holds: compared(b, row[CODE], c, cd.holds),
-            next: row[NEXT],
-        },
-        Linked::Stopped(q) => Tested::Stopped(q),
-    }
+    let first = pair_at(row, FIRST_FORM);
+    let second = pair_at(row, SECOND_FORM);
+    let c = operand(b, bugs, fields, setup, map, storage, first)?;
+    let cd = operand(b, bugs, fields, setup, map, storage, second)?;
+    Ok(Outcome {
+        holds: compared(b, row[CODE], c.holds, cd.holds),
+        next: row[NEXT],
+    })
 }
 
 // Whether a line is satisfied: its tests from a row on, left at the first that settles it.
@@ -122,28 +107,20 @@ pub fn satisfied(
     table: &[u64],
     mode: u64,
     first: u64,
-) -> Settled
+) -> Result<bool, Refusal>
     requires { Readable known.b (seen_by known bugs.now fields.now map.now storage.now)
-        × (known.judged ≡ true → checked known.b table.now ≡ Lowest 0) × (1 ≤ rows table.now) }
+        × (known.judged ≡ true → checked known.b table.now ≡ Ok 0) × (1 ≤ rows table.now) }
     ensures { told_settled result ≡ told (satisfied_by known.b table.now
         (seen_by known bugs.now fields.now map.now storage.now)
         mode (rows table.now) first) }
 {
     let mut r = first;
-    let outcome = loop {
-        if r == 0 {
-            break Settled::Holds(!settled_as(mode));
+    while r != 0 {
+        let test = test_at(known, bugs, fields, map, storage, table, r)?;
+        if test.holds == settling(mode) {
+            return Ok(settled_as(mode));
         }
-        let answer = test_at(known, bugs, fields, map, storage, table, r);
-        match answer {
-            Tested::Outcome { holds, next } => {
-                if holds == settling(mode) {
-                    break Settled::Holds(settled_as(mode));
-                }
-                r = next;
-            }
-            Tested::Stopped(q) => break Settled::Stopped(q),
-        }
-    };
-    outcome
+        r = test.next;
+    }
+    Ok(!settled_as(mode))
 }

@@ -1,5 +1,4 @@
 -- `operands::packing::pack_all` meets its contract. The loop's invariant: the first i numbers stand for the first i definitions. Assumes nothing.
-use Prim.Native.Nat.{◌-◌}
 use native.Mathlib.Omega.{arith}
 use mathlib.Core.Path.{◌∙◌}
 use Rattle.machine.specs.State.{undefined}
@@ -26,9 +25,3 @@ bounds-definitions-i array-copy-out-pack = omega arith
 
 pub bounds-fields-i : goal.bounds-fields-i
 bounds-fields-i element-write-fields = omega arith
-
-pub overflow_add-i : goal.overflow_add-i
-overflow_add-i add-i = omega arith
-
-pub loop-i-smaller : goal.loop-i-smaller
-loop-i-smaller loop-less = omega arith

@@ -1,4 +1,3 @@
-use Prim.Native.Nat.{◌-◌}
 use mathlib.Core.Path.{◌≡◌}
 use lib.ListN.{length}
 use Rattle.operands.specs.Packing.{unpacked_all}
@@ -8,6 +7,3 @@ use Rattle.operands.proofs.packing.pack_all.Given as goal
 abbrev pub invariant-loop-i : goal.invariant-loop-i
 invariant-loop-i l =
     (length l.fields ≡ 36) × Fills 0 36 l.definitions (unpacked_all l.initial.fields) (unpacked_all l.fields) l.i
-
-abbrev pub decreases-loop-i : goal.decreases-loop-i
-decreases-loop-i l = 36 - l.i

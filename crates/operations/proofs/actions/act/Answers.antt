@@ -8,7 +8,7 @@ use Rattle.operations.proofs.actions.act.Goals as goal
 pub get-requires : goal.get-requires
 unfolding as_row pair_at
 get-requires c =
-    (c.requires.0, c.requires.2, c.requires.6, c.requires.7)
+    (c.requires.0, c.requires.2, rw c.pair_at-third.ensures c.requires.6, c.requires.7)
 
 pub free-requires : goal.free-requires
 free-requires c =
@@ -36,7 +36,7 @@ make-requires c =
 
 pub returns-in-3 : goal.returns-in-3
 unfolding as_row pair_at
-returns-in-3 c = follows (act_get _ _ _ _ _ _ _ _ c.in-3.is) c.get.ensures
+returns-in-3 c = follows (act_get _ _ _ _ _ _ _ _ c.in-3.is) (rw c.pair_at-third.ensures at c.get.ensures)
 
 pub returns-in-4 : goal.returns-in-4
 unfolding as_row

@@ -7,33 +7,33 @@ use Rattle.machine.proofs.Checks.{bind_yes, bind_no}
 use Rattle.operands.proofs.Answers.{at_is, holds_is, stopped_is}
 use Rattle.operations.specs.Deeds.{meant}
 use Rattle.operations.specs.Plans.{swap_plan}
-use Rattle.operations.proofs.Answers.{does, stops}
+use Rattle.operations.proofs.Answers.{does, exits_planned}
 use Rattle.operations.proofs.Doing.{swaps}
 use Rattle.operations.proofs.actions.plan_swap.Goals as goal
 
-pub locate-found-requires : goal.locate-found-requires
+pub locate-requires : goal.locate-requires
 unfolding as_row pair_at
-locate-found-requires c = (c.requires.0, c.requires.1)
+locate-requires c = (c.requires.0, c.requires.1)
 
-pub returns-in-Stopped : goal.returns-in-Stopped
+pub returns-in_err-a : goal.returns-in_err-a
 unfolding swap_plan locate leads as_row pair_at
-returns-in-Stopped c = stops (bind_no _ _ (stopped_is _ _ c.locate-found.ensures c.in-Stopped.is))
+returns-in_err-a c = exits_planned _ c.from_residual.ensures.1 (bind_no _ _ (stopped_is _ _ c.locate.ensures c.in_err-a.was))
 
-pub locate-other-requires : goal.locate-other-requires
+pub locate-requires-2 : goal.locate-requires-2
 unfolding as_row pair_at
-locate-other-requires c =
+locate-requires-2 c =
     (c.requires.0, c.requires.2)
 
-pub returns-in-Stopped-other : goal.returns-in-Stopped-other
+pub returns-in_err-c : goal.returns-in_err-c
 unfolding swap_plan locate leads as_row pair_at
-returns-in-Stopped-other c =
-    stops (bind_yes _ _ (at_is _ _ c.locate-found.ensures c.in-At.is) ∙ bind_no _ _
-    (stopped_is _ _ c.locate-other.ensures c.in-Stopped-other.is))
+returns-in_err-c c =
+    exits_planned _ c.from_residual-in_err-c.ensures.1 (bind_yes _ _ (at_is _ _ c.locate.ensures c.in_ok-a.was) ∙ bind_no _ _
+    (stopped_is _ _ c.locate-2.ensures c.in_err-c.was))
 
 pub returns : goal.returns
 unfolding locate leads as_row pair_at meant
 returns c =
-    does _ (swaps _ _ _ (at_is _ _ c.locate-found.ensures c.in-At.is)
-    (at_is _ _ c.locate-other.ensures c.in-At-other.is)
-    (holds_is _ _ c.locate-other.ensures c.in-At-other.is)
-    (holds_is _ _ c.locate-found.ensures c.in-At.is))
+    does _ (swaps _ _ _ (at_is _ _ c.locate.ensures c.in_ok-a.was)
+    (at_is _ _ c.locate-2.ensures c.in_ok-c.was)
+    (holds_is _ _ c.locate-2.ensures c.in_ok-c.was)
+    (holds_is _ _ c.locate.ensures c.in_ok-a.was))

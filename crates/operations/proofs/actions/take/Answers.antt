@@ -1,4 +1,8 @@
 -- `operations::actions::take` meets its contract: 10, then an input of length 0, then 5, 4. Assumes nothing.
+use Rattle.std.specs.Result.{result_ok}
+use mathlib.Core.Path.{ap, ◌∙◌}
+use Rattle.operands.proofs.Answers.{exits_with}
+use Rattle.operations.specs.Answers.{told_planned}
 use native.Mathlib.Omega.{arith}
 use Rattle.operations.specs.Deeds.{meant}
 use Rattle.operations.proofs.Answers.{does, stops}
@@ -22,24 +26,25 @@ returns-then-input-taken c =
     let short = c.if-input-taken.true in
     stops (take_short _ _ _ _ _ c.if-b-n.false c.if-input-eq0.false (omega arith))
 
-pub pack_input-packed-requires : goal.pack_input-packed-requires
-pack_input-packed-requires c =
+pub pack_input-requires : goal.pack_input-requires
+pack_input-requires c =
     let room = c.requires.1 in
     let there = c.if-input-taken.false in
     let few = c.if-b-n.false in
     (omega (arith, c.requires.0), omega arith)
 
-pub returns-in-Value : goal.returns-in-Value
+pub returns : goal.returns
 unfolding meant
-returns-in-Value c =
+returns c =
     let room = c.requires.1 in
     let there = c.if-input-taken.false in
-    does _ (take_value _ _ _ _ _ c.if-b-n.false c.if-input-eq0.false (omega arith) c.pack_input-packed.ensures
-    c.in-Value.is)
+    does _ (take_value _ _ _ _ _ c.if-b-n.false c.if-input-eq0.false (omega arith) c.pack_input.ensures
+    (c.ok_or.ensures.ok_part ∙ ap result_ok c.in_ok-value.was))
 
-pub returns-in-TooLarge : goal.returns-in-TooLarge
-returns-in-TooLarge c =
+pub returns-in_err-value : goal.returns-in_err-value
+returns-in_err-value c =
     let room = c.requires.1 in
     let there = c.if-input-taken.false in
-    stops (take_byte _ _ _ _ _ c.if-b-n.false c.if-input-eq0.false (omega arith) c.pack_input-packed.ensures
-    c.in-TooLarge.is)
+    let none = c.ok_or.ensures.ok_part ∙ ap result_ok c.in_err-value.was in
+    ap told_planned (exits_with c.from_residual.ensures.1 (rw none at c.in_err-value.ensures.value))
+    ∙ stops (take_byte _ _ _ _ _ c.if-b-n.false c.if-input-eq0.false (omega arith) c.pack_input.ensures none)

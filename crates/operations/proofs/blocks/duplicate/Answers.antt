@@ -2,7 +2,7 @@
 use native.Mathlib.Omega.{arith}
 use Rattle.block.proofs.Size.{top_le}
 use Rattle.operations.specs.Deeds.{meant}
-use Rattle.operations.proofs.Answers.{does, stops}
+use Rattle.operations.proofs.Answers.{does, stops, exits_planned}
 use Rattle.operations.proofs.Doing.{level_fits_lem, copy_none, copy_run, copy_no_run}
 use Rattle.operations.proofs.blocks.duplicate.Goals as goal
 
@@ -15,17 +15,17 @@ returns-then-n-eq0 c = stops (copy_none _ _ _ _ c.live_size-n.ensures c.if-n-eq0
 pub level_of-requires : goal.level_of-requires
 level_of-requires c = omega (arith, c.top_of.ensures, top_le c.args.setup.d)
 
-pub fetch-run-requires : goal.fetch-run-requires
-fetch-run-requires c =
+pub fetch-requires : goal.fetch-requires
+fetch-requires c =
     (c.requires.0, c.requires.1, level_fits_lem _ _ c.top_of.ensures c.level_of.ensures)
 
-pub returns-in-Run : goal.returns-in-Run
+pub returns : goal.returns
 unfolding meant
-returns-in-Run c =
+returns c =
     does _ (copy_run _ _ _ _ c.live_size-n.ensures c.if-n-eq0.false c.top_of.ensures
-    c.level_of.ensures c.fetch-run.ensures c.in-Run.is)
+    c.level_of.ensures c.fetch.ensures c.in_ok-run.was)
 
-pub returns-in-Stopped : goal.returns-in-Stopped
-returns-in-Stopped c =
-    stops (copy_no_run _ _ _ _ c.live_size-n.ensures c.if-n-eq0.false c.top_of.ensures
-    c.level_of.ensures c.fetch-run.ensures c.in-Stopped.is)
+pub returns-in_err-run : goal.returns-in_err-run
+returns-in_err-run c =
+    exits_planned _ c.from_residual.ensures.1 (copy_no_run _ _ _ _ c.live_size-n.ensures c.if-n-eq0.false c.top_of.ensures
+    c.level_of.ensures c.fetch.ensures c.in_err-run.was)

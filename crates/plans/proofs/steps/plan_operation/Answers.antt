@@ -27,23 +27,23 @@ operation_or_exit-to-requires c =
     next_few _ _ _ c.requires.1 c.from_row-row.ensures.0 3
     (known_true c.can_use.ensures c.if-not-can_use.false-raw)
 
-pub plan_ordered-planned-requires : goal.plan_ordered-planned-requires
-plan_ordered-planned-requires c = (
+pub plan_ordered-requires : goal.plan_ordered-requires
+plan_ordered-requires c = (
   c.requires.0,
   operates _ _ _ (known_true c.can_use.ensures c.if-not-can_use.false-raw) c.from_row-row.ensures.0,
   c.from_row-row.ensures.1,
 )
 
-pub returns-in-Does : goal.returns-in-Does
+pub returns-in-Ok : goal.returns-in-Ok
 unfolding as_row
-returns-in-Does c =
+returns-in-Ok c =
     goes _ (operation_goes _ _ _ _ (known_true c.can_use.ensures c.if-not-can_use.false-raw)
     c.from_row-row.ensures.0
-    (plan_is _ c.plan_ordered-planned.ensures c.in-Does.is)
+    (plan_is _ c.plan_ordered.ensures c.in-Ok.is)
     c.operation_or_exit-to.ensures)
 
-pub returns-in-Stopped : goal.returns-in-Stopped
-returns-in-Stopped c =
+pub returns-in-Err : goal.returns-in-Err
+returns-in-Err c =
     halts (operation_stops _ _ _ _ (known_true c.can_use.ensures c.if-not-can_use.false-raw)
     c.from_row-row.ensures.0
-    (no_plan_is _ c.plan_ordered-planned.ensures c.in-Stopped.is))
+    (no_plan_is _ c.plan_ordered.ensures c.in-Err.is))

@@ -19,8 +19,8 @@ returns-then-not-can_use c = halts (need_no _ _ _ (known_false c.can_use.ensures
 pub from_row-row-requires : goal.from_row-row-requires
 from_row-row-requires c = (used 1 _ _ _ (known_true c.can_use.ensures c.if-not-can_use.false-raw)).room
 
-pub satisfied-held-requires : goal.satisfied-held-requires
-satisfied-held-requires c =
+pub satisfied-requires : goal.satisfied-requires
+satisfied-requires c =
     (c.requires.0, c.requires.2, some_rows _ c.requires.1)
 
 pub operation_or_exit-requires : goal.operation_or_exit-requires
@@ -33,7 +33,7 @@ pub returns-then-holds : goal.returns-then-holds
 unfolding as_row pair_at
 returns-then-holds c =
     goes_there c.going_to.ensures (tests_hold _ _ _ _ (known_true c.can_use.ensures c.if-not-can_use.false-raw)
-    c.from_row-row.ensures.0 (holds_is _ c.satisfied-held.ensures c.in-Holds.is)
+    c.from_row-row.ensures.0 (holds_is _ c.satisfied.ensures c.in-Ok.is)
     c.if-holds.true c.operation_or_exit.ensures)
 
 pub next_line-requires : goal.next_line-requires
@@ -45,12 +45,12 @@ next_line-requires c =
 pub returns-else-holds : goal.returns-else-holds
 unfolding as_row pair_at
 returns-else-holds c =
-    goes_there c.going_to-in-Holds.ensures (tests_fail _ _ _ _ (known_true c.can_use.ensures c.if-not-can_use.false-raw)
-    c.from_row-row.ensures.0 (holds_is _ c.satisfied-held.ensures c.in-Holds.is)
+    goes_there c.going_to-in-Ok.ensures (tests_fail _ _ _ _ (known_true c.can_use.ensures c.if-not-can_use.false-raw)
+    c.from_row-row.ensures.0 (holds_is _ c.satisfied.ensures c.in-Ok.is)
     c.if-holds.false c.next_line.ensures)
 
-pub returns-in-Stopped : goal.returns-in-Stopped
+pub returns-in-Err : goal.returns-in-Err
 unfolding as_row pair_at
-returns-in-Stopped c =
+returns-in-Err c =
     halts (tests_stopped _ _ _ _ (known_true c.can_use.ensures c.if-not-can_use.false-raw)
-    c.from_row-row.ensures.0 (not_settled_is _ c.satisfied-held.ensures c.in-Stopped.is))
+    c.from_row-row.ensures.0 (not_settled_is _ c.satisfied.ensures c.in-Err.is))
