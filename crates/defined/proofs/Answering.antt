@@ -8,29 +8,31 @@ use lib.Dec.{eqb}
 use borrow.Author.Tests.{eq-eqb, ne_eqb}
 use Rattle.word.specs.Word.{is_width}
 use Rattle.table.specs.Row.{length_fits}
-use Rattle.defined.specs.declared.FieldsCheck.{FieldsCheck}
-use Rattle.defined.specs.declared.FieldsCheck.TheVariants.{Yes, No, NoWidth, BadLength, IllFormed, WrongKind}
-use Rattle.defined.specs.declared.FirstUse.{FirstUse}
-use Rattle.defined.specs.declared.FirstUse.TheVariants.{At, Nowhere}
+use Rattle.std.specs.Prelude.{Option, Some, None, Err}
+use Rattle.defined.specs.declared.FieldsError.TheVariants.{NoWidth, BadLength, IllFormed, WrongKind}
+use Rattle.defined.specs.declared.Use.{Use}
+use Rattle.defined.specs.declared.accepted.Table.{Table}
+use Rattle.std.proofs.Common.{Bor, ap₂}
 use Rattle.defined.specs.Kinds.{wrong_row}
-use Rattle.defined.specs.Search.{first_use, told_first_use}
+use Rattle.defined.specs.Search.{first_use, told_first_use, first_use_told}
 use Rattle.word.specs.Told.{Told, tells, gives, refuses}
-use Rattle.defined.specs.Answer.{Accepted, ill_formed_row, saying, fields_checked, Meant, told_fields, fields_told}
-use Rattle.defined.proofs.Decides.{meant}
-use Rattle.defined.proofs.Telling.{first_use_told_lem}
+use Rattle.defined.specs.Answer.{ill_formed_row, FieldsCheck, saying, fields_checked, Meant, told_fields, fields_told}
+use Rattle.defined.proofs.Decides.{meant, passing}
+use Rattle.defined.proofs.Loops.{accepted}
+use Rattle.defined.proofs.Telling.{first_use_is, first_use_told_lem}
 
 -- no width
-pub no_width : (b : ℕ) (table : List ℕ) → is_width b ≡ false → NoWidth ≡ fields_checked b table
+pub no_width : (b : ℕ) (table : List ℕ) → is_width b ≡ false → Err NoWidth ≡ fields_checked b table
 unfolding fields_checked
 no_width b table w = rw w
 
 module _ (b : ℕ) (table : List ℕ) (wide : is_width b ≡ true) where
-  pub bad_length : length_fits table ≡ false → BadLength ≡ fields_checked b table
+  pub bad_length : length_fits table ≡ false → Err BadLength ≡ fields_checked b table
   unfolding fields_checked
   bad_length short = rw (wide, short)
 
   module _ (long : length_fits table ≡ true) {r : ℕ} (is : r ≡ ill_formed_row b table) where
-    pub ill_formed_lem : (r ≡ 0 → ⊥) → IllFormed r ≡ fields_checked b table
+    pub ill_formed_lem : (r ≡ 0 → ⊥) → Err (IllFormed r) ≡ fields_checked b table
     unfolding fields_checked
     ill_formed_lem o = rw (wide, long, ← is, ne_eqb r 0 o)
 
@@ -38,21 +40,16 @@ module _ (b : ℕ) (table : List ℕ) (wide : is_width b ≡ true) where
       none : ill_formed_row b table ≡ 0
       none = sym is ∙ z
 
-      pub wrong_kind : {w : ℕ} → w ≡ wrong_row table → (w ≡ 0 → ⊥) → WrongKind w ≡ fields_checked b table
+      pub wrong_kind : {w : ℕ} → (wrong_row table ≡ 0 → ⊥) × (w ≡ wrong_row table) → Err (WrongKind w) ≡ fields_checked b table
       unfolding fields_checked
-      wrong_kind {w} found o = rw (wide, long, eq-eqb _ 0 none, ← found, ne_eqb w 0 o)
+      wrong_kind {w} found = rw (wide, long, eq-eqb _ 0 none, ne_eqb _ 0 found.0, found.1)
 
-      module _ (k : wrong_row table ≡ 0) where
-        pub accepted : Accepted table
-        accepted = record { width = b; passes = record { wide = wide; long = long; formed = none; kinds = k } }
-
-        pub answers_no : (q n : ℕ) → At q n ≡ first_use table → No q n ≡ fields_checked b table
-        unfolding fields_checked saying
-        answers_no q n f = rw (wide, long, eq-eqb _ 0 none, eq-eqb _ 0 k, ← f)
-
-        pub answers_yes : Nowhere ≡ first_use table → Yes ≡ fields_checked b table
-        unfolding fields_checked saying
-        answers_yes f = rw (wide, long, eq-eqb _ 0 none, eq-eqb _ 0 k, ← f)
+-- a table that is accepted, and what is found in it
+pub answered : (t : Table) {b : ℕ} {numbers : Bor (List ℕ)} → (t.width ≡ b) × (t.numbers ≡ numbers) → (u : Option Use)
+    → told_first_use u ≡ first_use_told t.numbers.now → saying u ≡ fields_checked b numbers.now
+answered t same u told =
+    ap saying (first_use_is t.numbers.now told) ∙ sym (passing t.width t.numbers.now (accepted t).passes)
+    ∙ ap₂ (λ w (n : Bor (List ℕ)). fields_checked w n.now) same.0 same.1
 
 -- the promises: equality with what is computed, what it means, and the papers' numbers
 pub promised : (b : ℕ) (table : List ℕ) {x : FieldsCheck} → x ≡ fields_checked b table
@@ -64,11 +61,11 @@ promised b table {x} is =
     let so = tell (is_width b) (length_fits table) (eqb ill 0) (eqb wrong 0) (first_use table) ill wrong (first_use_told_lem table) in
     (is, (meant b table x is, ap told_fields is ∙ so))
   where
-    tell : (w x y z : Bool) (u : FirstUse) (ill wrong : ℕ) {t : Told ℕ} → told_first_use u ≡ t
-        → told_fields (cond w (cond x (cond y (cond z (saying u) (WrongKind wrong)) (IllFormed ill)) BadLength) NoWidth)
+    tell : (w x y z : Bool) (u : Option Use) (ill wrong : ℕ) {t : Told ℕ} → told_first_use u ≡ t
+        → told_fields (cond w (cond x (cond y (cond z (saying u) (Err (WrongKind wrong))) (Err (IllFormed ill))) (Err BadLength)) (Err NoWidth))
         ≡ cond w (cond x (cond y (cond z t (tells 30 (wrong ∷ []))) (gives ill)) (refuses 1)) (refuses 31)
-    tell true true true true (At r n) ill wrong k = k
-    tell true true true true Nowhere ill wrong k = k
+    tell true true true true (Some u) ill wrong k = k
+    tell true true true true None ill wrong k = k
     tell true true true false u ill wrong k = refl
     tell true true false z u ill wrong k = refl
     tell true false y z u ill wrong k = refl

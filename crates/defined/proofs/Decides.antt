@@ -13,17 +13,15 @@ use Rattle.word.specs.Word.{is_width}
 use Rattle.table.specs.declared.FieldName.{FieldName}
 use Rattle.table.specs.Row.{length_fits, rows, row_at}
 use Rattle.machine.proofs.Checks.{or_parts, clash}
-use Rattle.defined.specs.declared.FieldsCheck.{FieldsCheck}
-use Rattle.defined.specs.declared.FieldsCheck.TheVariants.{Yes, No, NoWidth, BadLength, IllFormed, WrongKind}
-use Rattle.defined.specs.declared.FirstUse.{FirstUse}
-use Rattle.defined.specs.declared.FirstUse.TheVariants.{At, Nowhere}
-use Rattle.defined.specs.declared.Used.{Used}
-use Rattle.defined.specs.declared.Used.TheVariants.{Field, Nothing}
+use Rattle.std.specs.Prelude.{Option, Some, None, Ok, Err}
+use Rattle.defined.specs.declared.FieldsError.TheVariants.{NotDefined, NoWidth, BadLength, IllFormed, WrongKind}
+use Rattle.defined.specs.declared.Use.{Use}
 use Rattle.defined.specs.Kinds.{is_kind, wrong_row}
 use Rattle.defined.specs.Paths.{names, fields_of, UsesUndefined, SomeUse, FirstSuch, here, later, ToldUse}
-use Rattle.defined.specs.Search.{has, set_at, Rounds, final_sets, final_marks, first_in, use_at, or_later}
+use Rattle.defined.specs.declared.rounds.Rounds.{Rounds}
+use Rattle.defined.specs.Search.{has, set_at, final_sets, final_marks, first_in, use_at, or_later}
 use Rattle.defined.specs.Search.{lowest_using, lowest_use, first_use}
-use Rattle.defined.specs.Answer.{Passes, ill_formed_row, saying, fields_checked, Meant, IsRow}
+use Rattle.defined.specs.Answer.{Passes, ill_formed_row, FieldsCheck, saying, fields_checked, Meant, IsRow}
 use Rattle.defined.proofs.Refers.{or_right}
 use Rattle.defined.proofs.Final.{final_rounds, final_same, final_holds}
 use Rattle.defined.proofs.Fit.{few_rows, other_row, test_below, operation_below}
@@ -66,12 +64,12 @@ module _ (b : ℕ) (table : List ℕ) (h : Passes b table) where
     abbrev x : ℕ
     x = set_at (final_marks table) r
 
-    first_such : (fs : List FieldName) (n : ℕ) → ((m : ℕ) → names fs m ≡ true → names (fields_of (row_at table r)) m ≡ true) → first_in fs x ≡ Field n
+    first_such : (fs : List FieldName) (n : ℕ) → ((m : ℕ) → names fs m ≡ true → names (fields_of (row_at table r)) m ≡ true) → first_in fs x ≡ Some n
         → FirstSuch (UsesUndefined table r) fs n
     unfolding first_in names
     first_such [] n among e = let never : ◌≡◌ {A = ℕ} 0 1 = cc in absurd (omega arith)
     first_such (f ∷ fs) n among e =
-        elim (has x f.0) as (λ t. has x f.0 ≡ t → cond t (Field f.0) (first_in fs x) ≡ Field n → FirstSuch (UsesUndefined table r) (f ∷ fs) n) [
+        elim (has x f.0) as (λ t. has x f.0 ≡ t → cond t (Some f.0) (first_in fs x) ≡ Some n → FirstSuch (UsesUndefined table r) (f ∷ fs) n) [
           | true ↦ λ q k.
               let is : f.0 ≡ n = same_field k in
               let named = among f.0 (rw (eq-eqb f.0 f.0 refl)) in
@@ -80,14 +78,14 @@ module _ (b : ℕ) (table : List ℕ) (h : Passes b table) where
               later (λ u. clash (sym q ∙ mark_has r f.0 u)) (first_such fs n (λ m p. among m (or_right (eqb f.0 m) _ p)) k)
         ] refl e
       where
-        same_field : Field f.0 ≡ Field n → f.0 ≡ n
+        same_field : Some f.0 ≡ Some n → f.0 ≡ n
         same_field k = cc
 
-    none_such : (fs : List FieldName) → first_in fs x ≡ Nothing → (n : ℕ) → names fs n ≡ true → UsesUndefined table r n → ⊥
+    none_such : (fs : List FieldName) → first_in fs x ≡ None → (n : ℕ) → names fs n ≡ true → UsesUndefined table r n → ⊥
     unfolding first_in names
     none_such [] e n named u = clash named
     none_such (f ∷ fs) e n named u =
-        elim (has x f.0) as (λ t. has x f.0 ≡ t → cond t (Field f.0) (first_in fs x) ≡ Nothing → ⊥) [
+        elim (has x f.0) as (λ t. has x f.0 ≡ t → cond t (Some f.0) (first_in fs x) ≡ None → ⊥) [
           | true ↦ λ q k. let never : ◌≡◌ {A = ℕ} 0 1 = cc in omega arith
           | false ↦ λ q k.
               ⊎_elim (λ p. clash (sym q ∙ subst (λ m. has x m ≡ true) (sym (eqb-true f.0 n p)) (mark_has r n u))) (λ p. none_such fs k n p u)
@@ -106,14 +104,14 @@ module _ (b : ℕ) (table : List ℕ) (h : Passes b table) where
   used_inside r n u = ⊎_elim (λ i. (i.low, i.high)) (λ i. (i.low, i.high)) (used_row_at r n u)
 
   row_told : (r : ℕ) → 0 < r → r < rows table
-      → ((n : ℕ) → use_at table r (set_at (final_marks table) r) ≡ Field n → FirstSuch (UsesUndefined table r) (fields_of (row_at table r)) n)
-      × (use_at table r (set_at (final_marks table) r) ≡ Nothing → (n : ℕ) → UsesUndefined table r n → ⊥)
+      → ((n : ℕ) → use_at table r (set_at (final_marks table) r) ≡ Some n → FirstSuch (UsesUndefined table r) (fields_of (row_at table r)) n)
+      × (use_at table r (set_at (final_marks table) r) ≡ None → (n : ℕ) → UsesUndefined table r n → ⊥)
   unfolding use_at is_kind
   row_told r low high =
       elim (eqb (row_at table r).kind 1) as (λ t. eqb (row_at table r).kind 1 ≡ t
-      → ((n : ℕ) → cond t Nothing (first_in (fields_of (row_at table r)) (set_at (final_marks table) r)) ≡ Field n
+      → ((n : ℕ) → cond t None (first_in (fields_of (row_at table r)) (set_at (final_marks table) r)) ≡ Some n
       → FirstSuch (UsesUndefined table r) (fields_of (row_at table r)) n)
-      × (cond t Nothing (first_in (fields_of (row_at table r)) (set_at (final_marks table) r)) ≡ Nothing → (n : ℕ) → UsesUndefined table r n → ⊥)) [
+      × (cond t None (first_in (fields_of (row_at table r)) (set_at (final_marks table) r)) ≡ None → (n : ℕ) → UsesUndefined table r n → ⊥)) [
         | true ↦ λ e. (λ n k. let never : ◌≡◌ {A = ℕ} 0 1 = cc in absurd (omega arith), λ k n u. uses_row r n u (eqb-true _ _ e))
         | false ↦ λ e.
             let below : (n : ℕ) → names (fields_of (row_at table r)) n ≡ true → n < 36
@@ -122,13 +120,13 @@ module _ (b : ℕ) (table : List ℕ) (h : Passes b table) where
       ] refl
 
   -- what is found from row r on, where nothing is found before
-  Right : FirstUse → Type 0
-  Right u = ((p n : ℕ) → u ≡ At p n → ToldUse table p n) × (u ≡ Nowhere → (q m : ℕ) → q < rows table → UsesUndefined table q m → ⊥)
+  Right : Option Use → Type 0
+  Right u = ((v : Use) → u ≡ Some v → ToldUse table v.row v.field) × (u ≡ None → (q m : ℕ) → q < rows table → UsesUndefined table q m → ⊥)
 
   Clear : ℕ → Type 0
   Clear r = (q m : ℕ) → q < r → UsesUndefined table q m → ⊥
 
-  clear_on : (r : ℕ) → 0 < r → r < rows table → Clear r → use_at table r (set_at (final_marks table) r) ≡ Nothing → Clear (suc r)
+  clear_on : (r : ℕ) → 0 < r → r < rows table → Clear r → use_at table r (set_at (final_marks table) r) ≡ None → Clear (suc r)
   unfolding Clear
   clear_on r low high none e q m less u =
       elim (eqb q r) as (λ t. eqb q r ≡ t → ⊥) [
@@ -136,28 +134,21 @@ module _ (b : ℕ) (table : List ℕ) (h : Passes b table) where
         | false ↦ λ s. let o : (q ≡ r → ⊥) = eqb-false q r s in none q m (omega arith) u
       ] refl
 
-  right_by : (r : ℕ) (u : Used) (rest : FirstUse) → 0 < r → r < rows table → Clear r → use_at table r (set_at (final_marks table) r) ≡ u
+  right_by : (r : ℕ) (u : Option ℕ) (rest : Option Use) → 0 < r → r < rows table → Clear r → use_at table r (set_at (final_marks table) r) ≡ u
       → (Clear (suc r) → Right rest) → Right (or_later r u rest)
   unfolding Right Clear or_later
-  right_by r (Field n) rest low high none e then = (
-    λ p m k.
-        let same : r ≡ p = at_row k in
-        let same' : n ≡ m = at_field k in
-        subst (λ j. ToldUse table j m) same (subst (ToldUse table r) same' (record { lowest = none; is_first = (row_told r low high).0 n e })),
+  right_by r (Some n) rest low high none e then = (
+    λ v k.
+        let same : record { row = r; field = n } ≡ v = cc in
+        subst (λ (w : Use). ToldUse table w.row w.field) same (record { lowest = none; is_first = (row_told r low high).0 n e }),
     λ k. let never : ◌≡◌ {A = ℕ} 0 1 = cc in absurd (omega arith),
   )
-    where
-      at_row : {p m : ℕ} → At r n ≡ At p m → r ≡ p
-      at_row k = cc
-
-      at_field : {p m : ℕ} → At r n ≡ At p m → n ≡ m
-      at_field k = cc
-  right_by r Nothing rest low high none e then = then (clear_on r low high none e)
+  right_by r None rest low high none e then = then (clear_on r low high none e)
 
   rows_right : (count r : ℕ) → 0 < r → r + count ≡ rows table → Clear r → Right (lowest_using count table r (final_marks table))
   unfolding lowest_using Right Clear
   rows_right zero r low end none = (
-    λ p n k. let never : ◌≡◌ {A = ℕ} 0 1 = cc in absurd (omega arith),
+    λ v k. let never : ◌≡◌ {A = ℕ} 0 1 = cc in absurd (omega arith),
     λ k q m less u. none q m (omega arith) u,
   )
   rows_right (suc count) r low end none =
@@ -170,25 +161,25 @@ module _ (b : ℕ) (table : List ℕ) (h : Passes b table) where
       rows_right (rows table - 1) 1 (omega arith) (omega arith) (λ q m less u. let low = (used_inside q m u).0 in omega arith)
 
   -- the search tells what is to be told, and finds nothing exactly where there is nothing
-  pub finds : (r n : ℕ) → first_use table ≡ At r n → ToldUse table r n
+  pub finds : (v : Use) → first_use table ≡ Some v → ToldUse table v.row v.field
   unfolding Right
   finds = use_right.0
 
-  pub finds_none : first_use table ≡ Nowhere → SomeUse table → ⊥
+  pub finds_none : first_use table ≡ None → SomeUse table → ⊥
   unfolding Right
   finds_none e u = use_right.1 e u.row u.name (used_inside u.row u.name u.uses).1 u.uses
 
 -- yes and no are said of tables that pass what comes before
 verdict : FieldsCheck → Bool
-verdict Yes = true
-verdict (No r n) = true
-verdict NoWidth = false
-verdict BadLength = false
-verdict (IllFormed r) = false
-verdict (WrongKind r) = false
+verdict (Ok u) = true
+verdict (Err (NotDefined r n)) = true
+verdict (Err NoWidth) = false
+verdict (Err BadLength) = false
+verdict (Err (IllFormed r)) = false
+verdict (Err (WrongKind r)) = false
 
 verdict_parts : (v x y z : Bool) (m a : FieldsCheck) (w i : ℕ)
-    → cond v (cond x (cond y (cond z m (WrongKind w)) (IllFormed i)) BadLength) NoWidth ≡ a → verdict a ≡ true
+    → cond v (cond x (cond y (cond z m (Err (WrongKind w))) (Err (IllFormed i))) (Err BadLength)) (Err NoWidth) ≡ a → verdict a ≡ true
     → (v ≡ true) × ((x ≡ true) × ((y ≡ true) × ((z ≡ true) × (m ≡ a))))
 unfolding verdict
 verdict_parts true true true true m a w i e k = (refl, (refl, (refl, (refl, e))))
@@ -213,43 +204,43 @@ module _ (b : ℕ) (table : List ℕ) where
       (saying (first_use table)) a (wrong_row table) (ill_formed_row b table) e v in
       (record { wide = wide; long = long; formed = eqb-true _ _ formed; kinds = eqb-true _ _ kinds }, is)
 
-  passing : Passes b table → fields_checked b table ≡ saying (first_use table)
+  pub passing : Passes b table → fields_checked b table ≡ saying (first_use table)
   unfolding fields_checked
   passing h = rw (h.wide, h.long, eq-eqb _ 0 h.formed, eq-eqb _ 0 h.kinds)
 
-  saying_no : (u : FirstUse) (r n : ℕ) → saying u ≡ No r n → u ≡ At r n
+  saying_no : (u : Option Use) (r n : ℕ) → saying u ≡ Err (NotDefined r n) → u ≡ Some (record { row = r; field = n })
   unfolding saying
-  saying_no (At q m) r n e = cc
-  saying_no Nowhere r n e = let never : ◌≡◌ {A = ℕ} 0 1 = cc in absurd (omega arith)
+  saying_no (Some u) r n e = let row : u.row ≡ r = cc in let field : u.field ≡ n = cc in rw (← row, ← field)
+  saying_no None r n e = let never : ◌≡◌ {A = ℕ} 0 1 = cc in absurd (omega arith)
 
-  saying_yes : (u : FirstUse) → saying u ≡ Yes → u ≡ Nowhere
+  saying_yes : (u : Option Use) → saying u ≡ Ok tt → u ≡ None
   unfolding saying
-  saying_yes (At q m) e = let never : ◌≡◌ {A = ℕ} 0 1 = cc in absurd (omega arith)
-  saying_yes Nowhere e = refl
+  saying_yes (Some u) e = let never : ◌≡◌ {A = ℕ} 0 1 = cc in absurd (omega arith)
+  saying_yes None e = refl
 
-  no_tells : (r n : ℕ) → fields_checked b table ≡ No r n → Passes b table × ToldUse table r n
+  no_tells : (r n : ℕ) → fields_checked b table ≡ Err (NotDefined r n) → Passes b table × ToldUse table r n
   unfolding verdict
-  no_tells r n e = let (h, is) = says (No r n) e refl in (h, finds b table h r n (saying_no _ r n is))
+  no_tells r n e = let (h, is) = says (Err (NotDefined r n)) e refl in (h, finds b table h _ (saying_no _ r n is))
 
-  used_no : Passes b table → SomeUse table → (r : ℕ) × ((n : ℕ) × (fields_checked b table ≡ No r n))
+  used_no : Passes b table → SomeUse table → (r : ℕ) × ((n : ℕ) × (fields_checked b table ≡ Err (NotDefined r n)))
   unfolding saying
   used_no h u = by_use (first_use table) refl
     where
-      by_use : (f : FirstUse) → first_use table ≡ f → (r : ℕ) × ((n : ℕ) × (fields_checked b table ≡ No r n))
-      by_use (At r n) e = (r, (n, passing h ∙ ap saying e))
-      by_use Nowhere e = absurd (finds_none b table h e u)
+      by_use : (f : Option Use) → first_use table ≡ f → (r : ℕ) × ((n : ℕ) × (fields_checked b table ≡ Err (NotDefined r n)))
+      by_use (Some u) e = (u.row, (u.field, passing h ∙ ap saying e))
+      by_use None e = absurd (finds_none b table h e u)
 
-  pub yes_none : fields_checked b table ≡ Yes → Passes b table × (SomeUse table → ⊥)
+  pub yes_none : fields_checked b table ≡ Ok tt → Passes b table × (SomeUse table → ⊥)
   unfolding verdict
-  yes_none e = let (h, is) = says Yes e refl in (h, finds_none b table h (saying_yes _ is))
+  yes_none e = let (h, is) = says (Ok tt) e refl in (h, finds_none b table h (saying_yes _ is))
 
-  none_yes : Passes b table → (SomeUse table → ⊥) → fields_checked b table ≡ Yes
+  none_yes : Passes b table → (SomeUse table → ⊥) → fields_checked b table ≡ Ok tt
   unfolding saying
   none_yes h none = by_use (first_use table) refl
     where
-      by_use : (f : FirstUse) → first_use table ≡ f → fields_checked b table ≡ Yes
-      by_use (At r n) e = absurd (none (told_some table r n (finds b table h r n e)))
-      by_use Nowhere e = passing h ∙ ap saying e
+      by_use : (f : Option Use) → first_use table ≡ f → fields_checked b table ≡ Ok tt
+      by_use (Some u) e = absurd (none (told_some table u.row u.field (finds b table h u e)))
+      by_use None e = passing h ∙ ap saying e
 
   -- no exactly when some path uses a field that is not defined there, with the row and the field that a no tells; yes exactly when none does
   pub meant : (answer : FieldsCheck) → answer ≡ fields_checked b table → Meant b table answer

@@ -17,8 +17,9 @@ use Rattle.word.specs.Word.{either, ones}
 use Rattle.table.specs.declared.Row.{Row}
 use Rattle.table.specs.Row.{rows, row_at, first_test, first_operation, go_to_of, done}
 use Rattle.defined.specs.Kinds.{is_kind}
+use Rattle.defined.specs.declared.rounds.Rounds.{Rounds}
 use Rattle.defined.specs.Search.{has, Sets, set_at, joined_at, joined_to, leaving, entering, Visit, visited, walking}
-use Rattle.defined.specs.Search.{chain_walked, tests_walked, line_walked, each_line, Rounds, changed_walked, lines_walked}
+use Rattle.defined.specs.Search.{chain_walked, tests_walked, line_walked, each_line, changed_walked, lines_walked}
 use Rattle.defined.specs.Search.{rests_walked, returns_walked, rounded, times, everything, first_sets, first_rounds}
 use Rattle.defined.specs.Answer.{IsRow}
 use Rattle.defined.proofs.Numbers.{has_either, either_below, either_grows, ones_few}

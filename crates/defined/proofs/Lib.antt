@@ -4,7 +4,9 @@ pub mod Safe
 pub mod Changes
 pub mod Codes
 pub mod Standing
+pub mod Testing
 pub mod Never
+pub mod Running
 pub mod Numbers
 pub mod Fit
 pub mod Final

@@ -1,22 +1,23 @@
 -- The loops: what is left of a chain, of the lines, of the rows and of the rounds gives what the whole gives.
 -- Assumes nothing.
-use Prim.Native.Nat.{ℕ, zero, suc, ◌+◌, ◌*◌, ◌-◌, ◌/◌, ◌≤◌, ◌<◌}
+use Prim.Native.Nat.{ℕ, zero, suc, ◌+◌, ◌-◌, ◌≤◌, ◌<◌}
 use native.Mathlib.Omega.{arith}
 use mathlib.Core.Bool.{Bool, true, false, cond}
 use mathlib.Core.List.{List, [], ◌∷◌}
 use mathlib.Core.Logic.{⊎_elim}
-use mathlib.Core.Path.{◌≡◌, refl, ap, ap₂, sym, subst, ◌∙◌}
+use mathlib.Core.Path.{◌≡◌, refl, ap, ap₂, sym, ◌∙◌}
 use borrow.Author.Tests.{eq-eqb, ne_eqb, eqb-true, eqb-false}
 use lib.Dec.{eqb}
 use lib.ListN.{get_or, length, drop}
-use lib.Seq.{drop-cons, ext_get_or}
+use lib.Seq.{drop-cons}
 use Rattle.table.specs.declared.FieldName.{FieldName}
 use Rattle.table.specs.Row.{rows, row_at, first_test, first_operation, go_to_of, done}
-use Rattle.defined.specs.declared.FirstUse.TheVariants.{At, Nowhere}
-use Rattle.defined.specs.declared.Used.TheVariants.{Field, Nothing}
+use Rattle.std.specs.Prelude.{Some, None}
 use Rattle.machine.proofs.Places.{rows_few}
 use Rattle.defined.specs.Kinds.{is_kind}
-use Rattle.defined.specs.Search.{has, Sets, set_at, Visit, visited, each_line, joined_at, line_walked, Rounds, changed_walked}
+use Rattle.defined.specs.declared.accepted.Table.{Table}
+use Rattle.defined.specs.declared.rounds.Rounds.{Rounds}
+use Rattle.defined.specs.Search.{has, Sets, set_at, Visit, visited, each_line, joined_at, line_walked, changed_walked}
 use Rattle.defined.specs.Search.{lines_walked, rests_walked, returns_walked, rounded, times, first_in, use_at, or_later}
 use Rattle.defined.specs.Search.{lowest_using}
 use Rattle.defined.specs.Answer.{Passes, Accepted, IsRow, RowOrNone}
@@ -24,11 +25,14 @@ use Rattle.defined.proofs.Final.{round_grows, times_same}
 use Rattle.defined.proofs.Fit.{References, next_row, test_row_lem, operation_row_lem, go_to_row_lem, do_row, other_row}
 use Rattle.defined.proofs.Fit.{operation_name, operation_references, test_references}
 use Rattle.defined.proofs.Chains.{Place, begins, goes_on, set_inside}
-use Rattle.defined.proofs.Reading.{whole_rows}
 
 -- what falls as a chain is followed: the rows after row r, none once it has ended
 abbrev pub rows_left : List ℕ → ℕ → ℕ
 rows_left table r = cond (eqb r 0) 0 (rows table - r)
+
+-- a table that is accepted
+abbrev pub accepted : (t : Table) → Accepted t.numbers.now
+accepted t = record { width = t.width; passes = record { wide = t.wide; long = t.long; formed = t.formed; kinds = t.kinds } }
 
 module _ (table : List ℕ) (a : Accepted table) where
   abbrev b : ℕ
@@ -37,13 +41,7 @@ module _ (table : List ℕ) (a : Accepted table) where
   abbrev h : Passes b table
   h = a.passes
 
-  pub row_there : (r : ℕ) → r < rows table → 10 * r + 10 ≤ length table
-  row_there r high = let whole = whole_rows table h.long in omega arith
-
-  -- a row that is there can be read, and its place among the sets
-  pub row_inside : (kind r : ℕ) → IsRow table kind r → 10 * r + 10 ≤ length table
-  row_inside kind r i = row_there r i.high
-
+  -- the places of rows among the sets
   pub rows_inside : rows table ≤ 800
   rows_inside = rows_few table h.long
 
@@ -126,43 +124,51 @@ module _ (v : Visit) (table : List ℕ) (a : Accepted table) (kind first start :
 
 -- lines from l on
 module _ {A : Type 0} (f : ℕ → A → A) (table : List ℕ) (l : ℕ) (s : A) where
-  pub each_step : l < length table / 10
-      → each_line f (length table / 10 - l) table l s ≡ each_line f (length table / 10 - suc l) table (suc l) (cond (is_kind table 1 l) (f l s) s)
+  pub each_step : {t : A} → l < rows table → t ≡ cond (is_kind table 1 l) (f l s) s
+      → each_line f (rows table - l) table l s ≡ each_line f (rows table - suc l) table (suc l) t
   unfolding each_line
-  each_step inside = let more : length table / 10 - l ≡ suc (length table / 10 - suc l) = omega arith in rw (more, each_line) refl
+  each_step inside e = let more : rows table - l ≡ suc (rows table - suc l) = omega arith in rw (more, each_line, e) refl
 
-  pub each_over : length table / 10 ≤ l → s ≡ each_line f (length table / 10 - l) table l s
+  pub each_over : rows table ≤ l → s ≡ each_line f (rows table - l) table l s
   unfolding each_line
-  each_over past = let none : length table / 10 - l ≡ 0 = omega arith in rw none
+  each_over past = let none : rows table - l ≡ 0 = omega arith in rw none
 
 -- a row that is a line, and one that is not
-module _ {A : Type 0} (table : List ℕ) (l : ℕ) (x y : A) where
-  pub row_taken_lem : {t : A} → (row_at table l).kind ≡ 1 → t ≡ x → t ≡ cond (is_kind table 1 l) x y
-  unfolding is_kind
-  row_taken_lem k e = rw (eq-eqb _ 1 k) e
+pub line_here : (table : List ℕ) (l : ℕ) → 1 ≤ l → l < rows table → is_kind table 1 l ≡ true → IsRow table 1 l
+unfolding is_kind
+line_here table l low high e = record { low = omega arith; high = high; is = eqb-true _ _ e }
 
-  pub row_passed : {t : A} → ((row_at table l).kind ≡ 1 → ⊥) → t ≡ y → t ≡ cond (is_kind table 1 l) x y
-  unfolding is_kind
-  row_passed o e = rw (ne_eqb _ 1 o) e
+pub other_kind : (table : List ℕ) (r : ℕ) → is_kind table 1 r ≡ false → (row_at table r).kind ≡ 1 → ⊥
+unfolding is_kind
+other_kind table r e = eqb-false _ _ e
+
+-- the case that a test picks
+module _ {A : Type 0} (t : Bool) (x y : A) {z : A} where
+  pub picks_first : t ≡ true → z ≡ x → z ≡ cond t x y
+  picks_first e i = rw e i
+
+  pub picks_second : t ≡ false → z ≡ y → z ≡ cond t x y
+  picks_second e i = rw e i
 
 -- rows from r on
 module _ (table : List ℕ) (r : ℕ) (marks : Sets) where
-  pub lowest_here : (n : ℕ) → r < length table / 10 → Field n ≡ use_at table r (set_at marks r) → At r n ≡ lowest_using (length table / 10 - r) table r marks
+  pub lowest_here : (n : ℕ) → r < rows table → Some n ≡ use_at table r (set_at marks r)
+      → Some (record { row = r; field = n }) ≡ lowest_using (rows table - r) table r marks
   unfolding lowest_using or_later
-  lowest_here n inside u = let more : length table / 10 - r ≡ suc (length table / 10 - suc r) = omega arith in rw (more, lowest_using, ← u)
+  lowest_here n inside u = let more : rows table - r ≡ suc (rows table - suc r) = omega arith in rw (more, lowest_using, ← u)
 
-  pub lowest_later : r < length table / 10 → Nothing ≡ use_at table r (set_at marks r)
-      → lowest_using (length table / 10 - r) table r marks ≡ lowest_using (length table / 10 - suc r) table (suc r) marks
+  pub lowest_later : r < rows table → None ≡ use_at table r (set_at marks r)
+      → lowest_using (rows table - r) table r marks ≡ lowest_using (rows table - suc r) table (suc r) marks
   unfolding lowest_using or_later
-  lowest_later inside u = let more : length table / 10 - r ≡ suc (length table / 10 - suc r) = omega arith in rw (more, lowest_using, ← u)
+  lowest_later inside u = let more : rows table - r ≡ suc (rows table - suc r) = omega arith in rw (more, lowest_using, ← u)
 
-  pub lowest_none : length table / 10 ≤ r → Nowhere ≡ lowest_using (length table / 10 - r) table r marks
+  pub lowest_none : rows table ≤ r → None ≡ lowest_using (rows table - r) table r marks
   unfolding lowest_using
-  lowest_none past = let none : length table / 10 - r ≡ 0 = omega arith in rw none
+  lowest_none past = let none : rows table - r ≡ 0 = omega arith in rw none
 
 -- names from place i on
 module _ (fields : List FieldName) (x i : ℕ) (five : length fields ≡ 5) (d : FieldName) where
-  pub first_here : i < 5 → has x (get_or fields i d).0 ≡ true → Field (get_or fields i d).0 ≡ first_in (drop i fields) x
+  pub first_here : i < 5 → has x (get_or fields i d).0 ≡ true → Some (get_or fields i d).0 ≡ first_in (drop i fields) x
   unfolding first_in
   first_here inside k = let there : i < length fields = rw five inside in rw (drop-cons fields i d there, first_in, k)
 
@@ -170,7 +176,7 @@ module _ (fields : List FieldName) (x i : ℕ) (five : length fields ≡ 5) (d :
   unfolding first_in
   first_later inside k = let there : i < length fields = rw five inside in rw (drop-cons fields i d there, first_in, k)
 
-  pub first_none : 5 ≤ i → Nothing ≡ first_in (drop i fields) x
+  pub first_none : 5 ≤ i → None ≡ first_in (drop i fields) x
   unfolding first_in
   first_none past = rw (drop_past fields i (rw five past))
     where
@@ -179,20 +185,6 @@ module _ (fields : List FieldName) (x i : ℕ) (five : length fields ≡ 5) (d :
       drop_past [] (suc i) h = refl
       drop_past (f ∷ fs) zero h = absurd (omega arith)
       drop_past (f ∷ fs) (suc i) h = drop_past fs i (omega arith)
-
--- sets that agree up to place i, and so everywhere
-pub agree_on : (s t : Sets) (i : ℕ) → ((k : ℕ) → k < i → get_or s k 0 ≡ get_or t k 0) → get_or s i 0 ≡ get_or t i 0 → (k : ℕ) → k < i + 1 → get_or s k 0 ≡ get_or t k 0
-agree_on s t i h e k less =
-    elim (eqb k i) as (λ u. eqb k i ≡ u → get_or s k 0 ≡ get_or t k 0) [
-      | true ↦ λ q. subst (λ j. get_or s j 0 ≡ get_or t j 0) (sym (eqb-true k i q)) e
-      | false ↦ λ q. h k (below (eqb-false k i q))
-    ] refl
-  where
-    below : (k ≡ i → ⊥) → k < i
-    below o = omega arith
-
-pub agree_all : (s t : Sets) (i : ℕ) → length s ≡ 800 → length t ≡ 800 → 800 ≤ i → ((k : ℕ) → k < i → get_or s k 0 ≡ get_or t k 0) → s ≡ t
-agree_all s t i n m past h = ext_get_or 0 s t (n ∙ sym m) (λ k less. h k (let l : k < 800 = rw n at less in omega arith))
 
 -- a place that was walked with its present set, and one that was not
 module _ (table : List ℕ) (s : Rounds) where
@@ -244,6 +236,3 @@ module _ (table : List ℕ) (s : Rounds) where
     pub round_over : 59200 ≤ round → times (59200 - round) (rounded table) s ≡ s
     unfolding times
     round_over h = let none : 59200 - round ≡ 0 = omega arith in rw none
-
-    pub round_long : length s.sets ≡ 800 → length s.walked ≡ 800 → (length (rounded table s).sets ≡ 800) × (length (rounded table s).walked ≡ 800)
-    round_long e f = ((round_grows table s).sets.long ∙ e, (round_grows table s).walked.long ∙ f)

@@ -19,8 +19,9 @@ use Rattle.table.specs.declared.Row.{Row}
 use Rattle.table.specs.Reference.{reference_of, names_of}
 use Rattle.table.specs.Row.{length_fits, rows, row_at, as_row, first_test, go_to_of, done}
 use Rattle.defined.specs.Kinds.{is_kind, names_kind, line_names, operation_names, row_names, lowest_wrong, wrong_row}
-use Rattle.defined.specs.declared.Used.{Used}
-use Rattle.defined.specs.declared.Used.TheVariants.{Field, Nothing}
+use Rattle.std.specs.Prelude.{Option, Some, None, MatchOption}
+use Rattle.std.specs.Option.{option_or, option_copied, option_map, unwrap_or}
+use Rattle.std.proofs.Common.{Bor, min, leb-true, leb-false}
 use Rattle.defined.specs.Paths.{pair_fields, fields_of}
 use Rattle.defined.specs.Search.{has, without, including, set_after, Sets, joined_at, joined_to, leaving, set_past, entering}
 use Rattle.defined.specs.Search.{tests_walked, first_in}
@@ -42,11 +43,18 @@ whole_rows table h =
     let whole : length table % 10 ≡ 0 = eqb-true _ _ (and_parts (leb 20 (length table) && leb (length table) 8000) (eqb (length table % 10) 0) h).1 in
     omega arith
 
-pub kind_missing : (table : List ℕ) (r : ℕ) → length_fits table ≡ true → length table / 10 ≤ r → 0 ≡ (row_at table r).kind
-unfolding rows
-kind_missing table r h past =
-    let whole = whole_rows table h in
-    sym (sym (kind_there table r) ∙ get_d_past table (10 * r) (omega arith))
+pub kind_found : (table : List ℕ) (r : ℕ) {at : ℕ} → at ≡ min (10 * r) (2 ^ 64 - 1) → length table ≤ 2 ^ 64 - 1
+    → get_or table at 0 ≡ (row_at table r).kind
+kind_found table r {at} e long = go (leb (10 * r) (2 ^ 64 - 1)) refl ∙ kind_there table r
+  where
+    go : (t : Bool) → leb (10 * r) (2 ^ 64 - 1) ≡ t → get_or table at 0 ≡ get_or table (10 * r) 0
+    go true i = let inside = leb-true _ _ i in ap (λ n. get_or table n 0) (omega arith)
+    go false i = let past = leb-false _ _ i in get_d_past table at (omega arith) ∙ sym (get_d_past table (10 * r) (omega arith))
+
+-- what is copied out of a slice, or 0
+pub copied_or : (o : Option (Bor ℕ)) {p : Option ℕ} {n : ℕ} → p ≡ option_copied o → unwrap_or (option_map (λ x. x.now) o) 0 ≡ n → unwrap_or p 0 ≡ n
+copied_or None e f = ap (λ q. unwrap_or q 0) e ∙ f
+copied_or (Some x) e f = ap (λ q. unwrap_or q 0) e ∙ f
 
 -- a row's tests: its next of another kind, a line, an operation, a test
 module _ (table : List ℕ) (row : Row) where
@@ -160,47 +168,44 @@ module _ (r x : ℕ) (sets : Sets) where
   joins_none z = rw (eq-eqb r 0 z)
 
 -- a pair of another form, and a reference by its names
-pub pair_not : (p : Pair) (x : ℕ) → (p.form ≡ 2 → ⊥) → Nothing ≡ first_in (pair_fields p) x
+pub pair_not : (p : Pair) (x : ℕ) → (p.form ≡ 2 → ⊥) → None ≡ first_in (pair_fields p) x
 unfolding first_in
 pair_not p x o = rw (other_fields p o)
 
-pub pair_is : (p : Pair) (x : ℕ) (names : Names) {t : Used} → p.form ≡ 2 → names_of names ≡ reference_of p.value
+pub pair_is : (p : Pair) (x : ℕ) (names : Names) {t : Option ℕ} → p.form ≡ 2 → names_of names ≡ reference_of p.value
     → t ≡ first_in (names_of names).fields x → t ≡ first_in (pair_fields p) x
 pair_is p x names form same e = rw (reference_fields p form) (e ∙ ap (λ r. first_in r.fields x) same)
 
 -- the first field of one list after the other
-either_first : Used → Used → Used
-either_first (Field n) u = Field n
-either_first Nothing u = u
-
-append_first : (fs gs : List FieldName) (x : ℕ) → first_in (fs ++ gs) x ≡ either_first (first_in fs x) (first_in gs x)
-unfolding first_in either_first
+append_first : (fs gs : List FieldName) (x : ℕ) → first_in (fs ++ gs) x ≡ option_or (first_in fs x) (first_in gs x)
+unfolding first_in
 append_first [] gs x = refl
 append_first (f ∷ fs) gs x =
-    elim (has x f.0) as (λ t. cond t (Field f.0) (first_in (fs ++ gs) x) ≡ either_first (cond t (Field f.0) (first_in fs x)) (first_in gs x)) [
+    elim (has x f.0) as (λ t. cond t (Some f.0) (first_in (fs ++ gs) x) ≡ option_or (cond t (Some f.0) (first_in fs x)) (first_in gs x)) [
       | true ↦ refl
       | false ↦ append_first fs gs x
     ]
 
 -- of a row's pairs, in their order
-module _ (row : Row) (x : ℕ) where
-  in_order : first_in (fields_of row) x
-      ≡ either_first (first_in (pair_fields row.first) x) (either_first (first_in (pair_fields row.second) x) (first_in (pair_fields row.third) x))
-  unfolding fields_of
-  in_order =
-      append_first (pair_fields row.first) _ x
-      ∙ ap (either_first (first_in (pair_fields row.first) x)) (append_first (pair_fields row.second) (pair_fields row.third) x)
+in_order : (row : Row) (x : ℕ) → option_or (option_or (first_in (pair_fields row.first) x) (first_in (pair_fields row.second) x))
+    (first_in (pair_fields row.third) x) ≡ first_in (fields_of row) x
+unfolding fields_of
+in_order row x =
+    sym (append_first (pair_fields row.first) _ x
+    ∙ ap (option_or (first_in (pair_fields row.first) x)) (append_first (pair_fields row.second) (pair_fields row.third) x)
+    ∙ grouped (first_in (pair_fields row.first) x) _ _)
+  where
+    grouped : (o p q : Option ℕ) → option_or o (option_or p q) ≡ option_or (option_or o p) q
+    grouped None p q = refl
+    grouped (Some n) p q = refl
 
-  pub first_uses : (n : ℕ) → Field n ≡ first_in (pair_fields row.first) x → Field n ≡ first_in (fields_of row) x
-  unfolding either_first
-  first_uses n e = sym (in_order ∙ rw (← e))
+pub pairs_asked : (row : Row) (x : ℕ) {o p q : Option ℕ} → o ≡ first_in (pair_fields row.first) x
+    → p ≡ option_or o (first_in (pair_fields row.second) x) → q ≡ option_or p (first_in (pair_fields row.third) x) → q ≡ first_in (fields_of row) x
+pairs_asked row x e f g =
+    let two = f ∙ ap (λ o. option_or o (first_in (pair_fields row.second) x)) e in
+    g ∙ ap (λ p. option_or p (first_in (pair_fields row.third) x)) two ∙ in_order row x
 
-  pub second_uses : (n : ℕ) → Nothing ≡ first_in (pair_fields row.first) x → Field n ≡ first_in (pair_fields row.second) x
-      → Field n ≡ first_in (fields_of row) x
-  unfolding either_first
-  second_uses n e q = sym (in_order ∙ rw (← e, ← q))
-
-  pub third_uses : {u : Used} → Nothing ≡ first_in (pair_fields row.first) x → Nothing ≡ first_in (pair_fields row.second) x
-      → u ≡ first_in (pair_fields row.third) x → u ≡ first_in (fields_of row) x
-  unfolding either_first
-  third_uses e q t = t ∙ sym (in_order ∙ rw (← e, ← q))
+-- where there was none, another is asked
+pub or_asked : (o : Option ℕ) {r s : Option ℕ} {P : Type 0} → MatchOption o P (λ n. r ≡ Some n) → (P → r ≡ s) → r ≡ option_or o s
+or_asked None m f = f m
+or_asked (Some n) m f = m

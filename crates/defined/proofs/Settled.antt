@@ -14,8 +14,9 @@ use Rattle.table.specs.declared.Row.{Row}
 use Rattle.table.specs.Row.{rows, row_at, first_test, first_operation, go_to_of, done}
 use Rattle.machine.proofs.Checks.{clash}
 use Rattle.defined.specs.Kinds.{is_kind}
+use Rattle.defined.specs.declared.rounds.Rounds.{Rounds}
 use Rattle.defined.specs.Search.{has, without, including, set_after, Sets, set_at, joined_at, joined_to, leaving, set_past}
-use Rattle.defined.specs.Search.{entering, walking, chain_walked, tests_walked, line_walked, each_line, Rounds, changed_walked}
+use Rattle.defined.specs.Search.{entering, walking, chain_walked, tests_walked, line_walked, each_line, changed_walked}
 use Rattle.defined.specs.Search.{lines_walked, rests_walked, returns_walked, rounded, everything, first_sets, first_rounds}
 use Rattle.defined.specs.Answer.{Passes, IsRow}
 use Rattle.defined.proofs.Numbers.{Sub, sub_same, either_sub, either_absorbs, has_everything, has_nothing, has_without}
@@ -26,9 +27,6 @@ use Rattle.defined.proofs.Final.{each_changed_grows, changed_grows, lines_grow, 
 use Rattle.defined.proofs.Final.{long_first}
 use Rattle.defined.proofs.Fit.{next_row, operation_row_lem, go_to_row_lem, do_row}
 use Rattle.defined.proofs.Chains.{Comes, here, on, begins, set_inside, visited_settles, lines_settled}
-
-sub_trans : (x y z : ℕ) → Sub x y → Sub y z → Sub x z
-sub_trans x y z s t n few k = t n few (s n few k)
 
 -- a join puts a set where it is to be
 pub joined_sub : (r x : ℕ) (sets : Sets) → r < 800 → length sets ≡ 800 → Sub x (set_at (joined_at r x sets) r)

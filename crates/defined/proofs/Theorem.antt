@@ -9,12 +9,13 @@ use Rattle.machine.specs.declared.Refusal.TheVariants.{UndefinedField}
 use Rattle.machine.specs.State.{fresh}
 use Rattle.machine.specs.Sound.{Lent, Engine}
 use Rattle.machine.specs.Step.{Outcome, RunOutcome, step, run, engine_of, engine_ran}
-use Rattle.defined.specs.declared.FieldsCheck.TheVariants.{Yes}
+use Rattle.std.specs.Prelude.{Ok}
 use Rattle.defined.specs.Paths.{SomeUse}
 use Rattle.defined.specs.Answer.{fields_checked}
 use Rattle.defined.specs.Alone.{Alone, begin, stepping, running}
 use Rattle.defined.proofs.Standing.{OnPath}
-use Rattle.defined.proofs.Never.{step_right, run_right, fresh_on_path}
+use Rattle.defined.proofs.Never.{step_right}
+use Rattle.defined.proofs.Running.{run_right, fresh_on_path}
 use Rattle.defined.proofs.Decides.{yes_none}
 
 module _ (table : List ℕ) (none : SomeUse table → ⊥) where
@@ -35,7 +36,7 @@ module _ (table : List ℕ) (none : SomeUse table → ⊥) where
       (subst (λ t. OnPath t (engine_ran (run limit l before)).state.core) is
       (run_right 0 limit l (lent_none l is) before (subst (λ t. OnPath t before.state.core) (sym is) (alone_on_path before c))).1)
 
-module _ (b : ℕ) (table : List ℕ) (h : fields_checked b table ≡ Yes) where
+module _ (b : ℕ) (table : List ℕ) (h : fields_checked b table ≡ Ok tt) where
   none : SomeUse table → ⊥
   none = (yes_none b table h).1
 
@@ -54,6 +55,6 @@ module _ (b : ℕ) (table : List ℕ) (h : fields_checked b table ≡ Yes) where
         (run_right 0 limit l (lent_none table none l is) e on_path).0 (ap (λ (x : RunOutcome). x.ran.answer) (sym eq) ∙ k)
 
 -- as the ticket has it: a run alone from a fresh engine, of whatever width
-pub yes_never_undefined : (b c limit : ℕ) (l : Lent) (storage : List ℕ) → fields_checked b l.table ≡ Yes
+pub yes_never_undefined : (b c limit : ℕ) (l : Lent) (storage : List ℕ) → fields_checked b l.table ≡ Ok tt
     → (run limit l (record { state = fresh c; storage = storage })).ran.answer ≡ Refused UndefinedField → ⊥
 yes_never_undefined b c limit l storage h = yes_run b l.table h _ (begin c storage) l refl limit _ refl

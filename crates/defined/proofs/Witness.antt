@@ -19,9 +19,10 @@ use Rattle.machine.proofs.Checks.{or_parts, clash}
 use Rattle.defined.specs.Paths.{Point, line, test, operation, exit, operation_or, InChain, first, further, after_do, Leads}
 use Rattle.defined.specs.Paths.{to_tests, no_tests, next_test, satisfied, otherwise, doing, next_operation, going, next_line}
 use Rattle.defined.specs.Paths.{returning, Fields, no_field, after, passing, Path, start, along, StandsAt, at_test, at_operation}
+use Rattle.defined.specs.declared.rounds.Rounds.{Rounds}
 use Rattle.defined.specs.Search.{has, reached, everything, without, including, set_after, Sets, set_at, joined_at, joined_to}
 use Rattle.defined.specs.Search.{leaving, set_past, entering, Visit, visited, walking, chain_walked, tests_walked, line_walked}
-use Rattle.defined.specs.Search.{Rounds, changed_walked, lines_walked, rests_walked, returns_walked, rounded, first_sets}
+use Rattle.defined.specs.Search.{changed_walked, lines_walked, rests_walked, returns_walked, rounded, first_sets}
 use Rattle.defined.specs.Search.{first_rounds, marking, tests_marked, chain_marked, line_marked_of, lines_marked}
 use Rattle.defined.specs.Answer.{Passes, IsRow}
 use Rattle.defined.proofs.Numbers.{has_either, has_without, has_including, has_nothing}

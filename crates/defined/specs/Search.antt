@@ -5,15 +5,14 @@
 -- says is proved in proofs/Decides.antt.
 -- Document 02: ticket 8. Assumes nothing.
 use Rattle.std.specs.Prelude.{ℕ, zero, suc, ◌-◌, ◌*◌, ◌/◌, ◌%◌, ◌^◌, Bool, cond, List, [], ◌∷◌, eqb, get_or, set, replicate}
+use Rattle.std.specs.Prelude.{Option, Some, None}
 use Rattle.word.specs.Told.{Told, tells, gives}
 use Rattle.word.specs.Word.{either, both, differing}
 use Rattle.table.specs.declared.FieldName.{FieldName}
 use Rattle.table.specs.declared.Row.{Row}
 use Rattle.table.specs.Row.{rows, row_at, first_test, first_operation, go_to_of, done}
-use Rattle.defined.specs.declared.FirstUse.{FirstUse}
-use Rattle.defined.specs.declared.FirstUse.TheVariants.{At, Nowhere}
-use Rattle.defined.specs.declared.Used.{Used}
-use Rattle.defined.specs.declared.Used.TheVariants.{Field, Nothing}
+use Rattle.defined.specs.declared.Use.{Use}
+use Rattle.defined.specs.declared.rounds.Rounds.{Rounds}
 use Rattle.defined.specs.Kinds.{is_kind}
 use Rattle.defined.specs.Paths.{fields_of}
 
@@ -101,11 +100,6 @@ unfoldable pub each_line : {A : Type 0} → (ℕ → A → A) → ℕ → List �
 each_line f zero table l s = s
 each_line f (suc count) table l s = each_line f count table (suc l) (cond (is_kind table 1 l) (f l s) s)
 
--- the sets, and those with which the lines and what follows the DOs were last walked
-pub record Rounds : Type 0 where
-  pub sets : Sets
-  pub walked : Sets
-
 -- a line, if its set has changed since it was last walked
 unfoldable pub changed_walked : List ℕ → ℕ → Rounds → Rounds
 changed_walked table l s =
@@ -168,41 +162,41 @@ unfoldable pub final_marks : List ℕ → Sets
 final_marks table = lines_marked table (final_sets table)
 
 -- the first of these fields that is in the set
-unfoldable pub first_in : List FieldName → ℕ → Used
-first_in [] x = Nothing
-first_in (f ∷ fs) x = cond (has x f.0) (Field f.0) (first_in fs x)
+unfoldable pub first_in : List FieldName → ℕ → Option ℕ
+first_in [] x = None
+first_in (f ∷ fs) x = cond (has x f.0) (Some f.0) (first_in fs x)
 
 -- that of row r, which is no line
-unfoldable pub use_at : List ℕ → ℕ → ℕ → Used
-use_at table r x = cond (is_kind table 1 r) Nothing (first_in (fields_of (row_at table r)) x)
+unfoldable pub use_at : List ℕ → ℕ → ℕ → Option ℕ
+use_at table r x = cond (is_kind table 1 r) None (first_in (fields_of (row_at table r)) x)
 
 -- row r where it uses such a field, otherwise what comes later
-unfoldable pub or_later : ℕ → Used → FirstUse → FirstUse
-or_later r (Field n) u = At r n
-or_later r Nothing u = u
+unfoldable pub or_later : ℕ → Option ℕ → Option Use → Option Use
+or_later r (Some n) u = Some (record { row = r; field = n })
+or_later r None u = u
 
 -- the lowest of count rows from row r on
-unfoldable pub lowest_using : ℕ → List ℕ → ℕ → Sets → FirstUse
-lowest_using zero table r marks = Nowhere
+unfoldable pub lowest_using : ℕ → List ℕ → ℕ → Sets → Option Use
+lowest_using zero table r marks = None
 lowest_using (suc count) table r marks = or_later r (use_at table r (set_at marks r)) (lowest_using count table (suc r) marks)
 
-unfoldable pub lowest_use : List ℕ → Sets → FirstUse
+unfoldable pub lowest_use : List ℕ → Sets → Option Use
 lowest_use table marks = lowest_using (rows table - 1) table 1 marks
 
 -- the lowest row that uses a field that is not defined on some path to it, and its first such field
-unfoldable pub first_use : List ℕ → FirstUse
+unfoldable pub first_use : List ℕ → Option Use
 first_use table = lowest_use table (final_marks table)
 
 -- what the search answers in numbers: 0 and the field, 0 and no value where there is none. The papers give these answers no other
 -- number
-unfoldable pub told_used : Used → Told ℕ
-told_used (Field n) = gives n
-told_used Nothing = tells 0 []
+unfoldable pub told_used : Option ℕ → Told ℕ
+told_used (Some n) = gives n
+told_used None = tells 0 []
 
 -- the same of the lowest row: 0, the row and the field, or no values
-unfoldable pub told_first_use : FirstUse → Told ℕ
-told_first_use (At r n) = tells 0 (r ∷ n ∷ [])
-told_first_use Nowhere = tells 0 []
+unfoldable pub told_first_use : Option Use → Told ℕ
+told_first_use (Some u) = tells 0 (u.row ∷ u.field ∷ [])
+told_first_use None = tells 0 []
 
 -- what the definitions above tell: the first of these fields, that of row r, the lowest row's of count rows from row r on, of all
 -- rows, and with the sets that the search finds
@@ -213,9 +207,9 @@ first_told (f ∷ fs) x = cond (has x f.0) (gives f.0) (first_told fs x)
 unfoldable pub use_told : List ℕ → ℕ → ℕ → Told ℕ
 use_told table r x = cond (is_kind table 1 r) (tells 0 []) (first_told (fields_of (row_at table r)) x)
 
-unfoldable pub later_told : ℕ → Used → Told ℕ → Told ℕ
-later_told r (Field n) t = tells 0 (r ∷ n ∷ [])
-later_told r Nothing t = t
+unfoldable pub later_told : ℕ → Option ℕ → Told ℕ → Told ℕ
+later_told r (Some n) t = tells 0 (r ∷ n ∷ [])
+later_told r None t = t
 
 unfoldable pub using_told : ℕ → List ℕ → ℕ → Sets → Told ℕ
 using_told zero table r marks = tells 0 []

@@ -1,13 +1,14 @@
 // Sets joined where a line leads: the walk of a line's tests and operations with what is known at its start and at the DONEs.
-ghost use Rattle.std.specs.Prelude.{◌≡◌, ◌<◌, ◌*◌, ◌+◌, ◌≤◌, length};
-ghost use Rattle.table.specs.Row.{row_at, go_to_of, done};
-ghost use Rattle.defined.specs.Answer.{Accepted, IsRow};
+ghost use Rattle.std.specs.Prelude.{◌≡◌, ◌<◌};
+ghost use Rattle.table.specs.Row.{go_to_of, done};
+ghost use Rattle.defined.specs.Answer.{IsRow};
 ghost use Rattle.defined.specs.Search.{joined_at, joined_to, leaving, entering, set_past, tests_walked, chain_walked, line_walked};
 
+use super::accepted::Table;
 use super::sets::{BITS, set_after};
 use table::Row;
 use table::codes::{DO, DONE};
-use table::rows::{MOST, row_at};
+use table::rows::MOST;
 use word::logic;
 
 // x joined to the set in place r.
@@ -67,24 +68,16 @@ pub fn set_past(done: u64, row: Row, x: u64) -> u64
     set_after(row, x)
 }
 
-// A row that is there.
-pub fn row_of(table: &[u64], r: u64) -> Row
-    requires { 10 * r + 10 ≤ length table.now }
-    ensures { result ≡ row_at table.now r }
-{
-    row_at(table, r as usize)
-}
-
 // The operations of a line with the set at its start and that of the DONEs, to its exit.
-pub fn walk_chain(table: &[u64], l: u64, start: u64, done: u64, sets: &mut [u64; MOST])
-    requires { Accepted table.now × IsRow table.now 1 l }
-    ensures { sets.new ≡ chain_walked table.now l start done sets.old }
+pub fn walk_chain(table: &Table, l: u64, start: u64, done: u64, sets: &mut [u64; MOST])
+    requires { IsRow table.now.numbers.now 1 l }
+    ensures { sets.new ≡ chain_walked table.now.numbers.now l start done sets.old }
 {
-    let line = row_of(table, l);
+    let line = table.row(l);
     let mut r = line.first.value;
     let mut x = start;
     while r != 0 {
-        let row = row_of(table, r);
+        let row = table.row(r);
         enter(sets, row, x);
         x = set_past(done, row, x);
         r = row.next;
@@ -103,10 +96,10 @@ fn walk_tests(line: Row, x: u64, sets: &mut [u64; MOST])
 }
 
 // A line with the set at its start; what follows its DOs is walked by itself.
-pub fn walk_line(table: &[u64], l: u64, x: u64, sets: &mut [u64; MOST])
-    requires { Accepted table.now × IsRow table.now 1 l }
-    ensures { sets.new ≡ line_walked table.now l x sets.old }
+pub fn walk_line(table: &Table, l: u64, x: u64, sets: &mut [u64; MOST])
+    requires { IsRow table.now.numbers.now 1 l }
+    ensures { sets.new ≡ line_walked table.now.numbers.now l x sets.old }
 {
-    walk_tests(row_of(table, l), x, sets);
+    walk_tests(table.row(l), x, sets);
     walk_chain(table, l, x, 0, sets);
 }

@@ -6,7 +6,7 @@ ghost use Rattle.tour.specs.Tour.{decimal};
 ghost use Rattle.tour.specs.Put.{put_before};
 ghost use Rattle.diagnosis.specs.Diagnosis.{field_character, no_line_of, finding_line, printed};
 
-use defined::{FieldsCheck, check_fields};
+use defined::{FieldsError, check_fields};
 use table::rows::ALL;
 use tour::numbers::read_table;
 use tour::text::{put, put_decimal, put_word};
@@ -58,24 +58,26 @@ fn put_no(text: &mut [u8; LINE], row: u64, field: u64) -> usize
 }
 
 // What the check found, in words.
-fn put_finding(text: &mut [u8; LINE], found: FieldsCheck) -> usize
+fn put_finding(text: &mut [u8; LINE], found: Result<(), FieldsError>) -> usize
     ensures found_value { result + length (finding_line found) ≡ 128 }
     ensures text_after { text.new ≡ put_before 128 (finding_line found) text.old }
 {
-    match found {
-        FieldsCheck::Yes => put_word(text, LINE, b"yes\n"),
-        FieldsCheck::No { row: r, field: n } => put_no(text, r, n),
-        FieldsCheck::NoWidth => put_word(text, LINE, b"refusal 31: words have 36 or 48 bits\n"),
-        FieldsCheck::BadLength => put_word(
+    let Err(error) = found else {
+        return put_word(text, LINE, b"yes\n");
+    };
+    match error {
+        FieldsError::NotDefined { row, field } => put_no(text, row, field),
+        FieldsError::NoWidth => put_word(text, LINE, b"refusal 31: words have 36 or 48 bits\n"),
+        FieldsError::BadLength => put_word(
             text,
             LINE,
             b"refusal 1: the table has fewer than 20 numbers, more than 8,000, or no multiple of ten\n",
         ),
-        FieldsCheck::IllFormed(r) => put_row(text, b"row ", r, b" is ill-formed\n"),
-        FieldsCheck::WrongKind(r) => put_row(
+        FieldsError::IllFormed(row) => put_row(text, b"row ", row, b" is ill-formed\n"),
+        FieldsError::WrongKind(row) => put_row(
             text,
             b"refusal 30: row ",
-            r,
+            row,
             b" names a row of the wrong kind, or is row 1 and no line\n",
         ),
     }

@@ -8,6 +8,3 @@ use Rattle.defined.proofs.kinds.wrong_row.Given as goal
 abbrev pub invariant-loop-r : goal.invariant-loop-r
 invariant-loop-r l =
     (1 ≤ l.r) × (lowest_wrong l.table 1 (rows l.table - 1) ≡ lowest_wrong l.table l.r (length l.table / 10 - l.r))
-
-abbrev pub decreases-loop-r : goal.decreases-loop-r
-decreases-loop-r l = length l.table - l.r

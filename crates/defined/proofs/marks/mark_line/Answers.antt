@@ -1,39 +1,31 @@
 -- `defined::marks::mark_line` meets its contract: the calls' answers one after the other are the definition, and an accepted table's rows
 -- lie inside it. Assumes nothing.
-use Rattle.defined.proofs.Loops.{row_inside, place_inside, first_test_lem, first_operation_lem}
+use Rattle.defined.proofs.Loops.{accepted, place_inside, first_test_lem, first_operation_lem}
 use native.Mathlib.Omega.{arith}
 use mathlib.Core.Path.{refl, ◌∙◌}
 use Rattle.defined.specs.Search.{line_marked_of}
 use Rattle.defined.proofs.marks.mark_line.Goals as goal
 
-pub row_of-line-requires : goal.row_of-line-requires
-row_of-line-requires c = row_inside c.args.table.now c.requires.0 1 _ c.requires.1
+pub row-line-requires : goal.row-line-requires
+row-line-requires c = c.requires.high
 
-pub offset_bounds-sets-at : goal.offset_bounds-sets-at
-offset_bounds-sets-at c =
-    let at-args = c.args in
-    let at_pre = c.requires in
-    let inside = place_inside at-args.table.now at_pre.0 1 at-args.l at_pre.1 in omega arith
+pub offset_bounds-sets-l : goal.offset_bounds-sets-l
+offset_bounds-sets-l c =
+    let t = c.args.table.now in
+    let inside = place_inside t.numbers.now (accepted t) 1 c.args.l c.requires in omega arith
 
-pub bounds-sets-at : goal.bounds-sets-at
-bounds-sets-at c =
-    let at-args = c.args in
-    let at_pre = c.requires in
-    place_inside at-args.table.now at_pre.0 1 _ at_pre.1
+pub bounds-sets-l : goal.bounds-sets-l
+bounds-sets-l c = let t = c.args.table.now in place_inside t.numbers.now (accepted t) 1 _ c.requires
 
 pub mark_tests-requires : goal.mark_tests-requires
 mark_tests-requires c =
-    let at_pre = c.requires in
-    let at-args = c.args in
-    (at_pre.0, rw c.row_of-line.ensures (first_test_lem at-args.table.now at_pre.0 at-args.l at_pre.1))
+    let t = c.args.table.now in rw c.row-line.ensures (first_test_lem t.numbers.now (accepted t) c.args.l c.requires)
 
 pub mark_chain-requires : goal.mark_chain-requires
 mark_chain-requires c =
-    let at_pre = c.requires in
-    let at-args = c.args in
-    (at_pre.0, rw c.row_of-line.ensures (first_operation_lem at-args.table.now at_pre.0 at-args.l at_pre.1))
+    let t = c.args.table.now in rw c.row-line.ensures (first_operation_lem t.numbers.now (accepted t) c.args.l c.requires)
 
 pub returns : goal.returns
 unfolding line_marked_of
 returns c =
-    c.mark_chain.ensures ∙ rw (c.mark_tests.ensures, c.row_of-line.ensures) refl
+    c.mark_chain.ensures ∙ rw (c.mark_tests.ensures, c.row-line.ensures) refl

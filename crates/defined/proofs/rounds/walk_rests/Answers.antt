@@ -1,33 +1,25 @@
 -- `defined::rounds::walk_rests` meets its contract. The invariant: what is left of the lines gives what all give. Assumes nothing.
-use Rattle.defined.proofs.Loops.{each_step, each_over}
-use native.Mathlib.Omega.{arith}
-use mathlib.Core.Path.{refl, sym, ◌∙◌}
-use Rattle.defined.specs.Search.{rests_walked}
-use Prim.Native.Nat.{◌-◌}
-use native.Mathlib.Numerals.{add-one}
+use Rattle.std.proofs.Common.{◌≡◌, cond, sym, ◌∙◌, add-one, arith}
+use Rattle.defined.specs.Kinds.{is_kind}
+use Rattle.defined.specs.Search.{chain_walked, rests_walked}
+use Rattle.defined.proofs.Loops.{each_step, each_over, line_here, picks_first, picks_second}
 use Rattle.defined.proofs.rounds.walk_rests.Goals as goal
+use Rattle.defined.proofs.rounds.walk_rests.Goals.{then-is_line, else-is_line}
 
-pub loop-l-init : goal.loop-l-init
-unfolding Rattle.table.specs.Row.rows
-loop-l-init c = (omega arith, refl)
-
-pub walk_rest-requires : goal.walk_rest-requires
-unfolding Rattle.table.specs.Row.rows
-walk_rest-requires c = (c.requires, omega arith, omega arith)
+pub walk_chain-requires : goal.walk_chain-requires
+walk_chain-requires c = line_here c.args.table.now.numbers.now c.loop-l.l c.loop-l.invariant.0 (omega arith) (sym c.is_line.ensures ∙ c.if-is_line.true)
 
 pub loop-l-preserved : goal.loop-l-preserved
 loop-l-preserved c =
-    let at-args = c.args in
-    (omega arith, rw (add-one, c.walk_rest.ensures) (c.loop-l.invariant.1 ∙ each_step _ at-args.table.now c.loop-l.l c.loop-l.sets (omega arith)))
+    let table = c.args.table.now.numbers.now in
+    let l = c.loop-l.l in
+    let s = c.loop-l.sets in
+    let next : c.if-is_line.sets ≡ cond (is_kind table 1 l) (chain_walked table l 0 c.args.done s) s = elim c.if-is_line.branch [
+      | then-is_line w ↦ picks_first _ _ _ (sym c.is_line.ensures ∙ w.if-is_line.true) (w.sets-is ∙ w.walk_chain.ensures)
+      | else-is_line w ↦ picks_second _ _ _ (sym c.is_line.ensures ∙ w.if-is_line.false) w.sets-is
+    ] in
+    (omega arith, rw add-one (c.loop-l.invariant.1 ∙ each_step _ table l s (omega arith) next))
 
 pub returns : goal.returns
 unfolding rests_walked
-returns c =
-    let at-args = c.args in
-    each_over _ at-args.table.now c.loop-l.l c.loop-l.sets (omega arith) ∙ sym c.loop-l.invariant.1
-
-pub overflow_add-l : goal.overflow_add-l
-overflow_add-l add-l = omega arith
-
-pub loop-l-smaller : goal.loop-l-smaller
-loop-l-smaller loop-less = omega arith
+returns c = each_over _ c.args.table.now.numbers.now c.loop-l.l c.loop-l.sets (omega arith) ∙ sym c.loop-l.invariant.1

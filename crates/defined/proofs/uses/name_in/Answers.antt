@@ -3,9 +3,8 @@ use Rattle.defined.proofs.Loops.{first_here, first_later, first_none}
 use Rattle.defined.proofs.Telling.{first_tells}
 use native.Mathlib.Omega.{arith}
 use mathlib.Core.Path.{refl, ap, sym, ◌∙◌}
-use Rattle.defined.specs.declared.Used.TheVariants.{Field}
+use Rattle.std.specs.Prelude.{Some}
 use Rattle.defined.specs.Search.{has}
-use Prim.Native.Nat.{◌-◌}
 use native.Mathlib.Numerals.{add-one}
 use Rattle.table.specs.Reference.{names_of}
 use Rattle.defined.proofs.uses.name_in.Goals as goal
@@ -19,9 +18,9 @@ returns-then-contains c =
     let at-args = c.args in
     let at_pre = c.requires in
     let names = at-args.names in
-    first_tells _ _ (ap Field c.wide-then-contains.ensures
+    first_tells _ _ (ap Some c.from-n.ensures
     ∙ first_here names.fields at-args.x c.loop-i.i (at_pre) (record { 0 = 0 }) (omega arith)
-    (ap (λ n. has at-args.x n) (sym c.wide.ensures) ∙ sym c.contains.ensures ∙ c.if-contains.true) ∙ sym c.loop-i.invariant)
+    (ap (λ n. has at-args.x n) (sym c.from-n.ensures) ∙ sym c.contains.ensures ∙ c.if-contains.true) ∙ sym c.loop-i.invariant)
 
 pub loop-i-preserved : goal.loop-i-preserved
 loop-i-preserved c =
@@ -29,7 +28,7 @@ loop-i-preserved c =
     let at_pre = c.requires in
     let names = at-args.names in
     rw add-one (c.loop-i.invariant ∙ first_later names.fields at-args.x c.loop-i.i (at_pre) (record { 0 = 0 }) (omega arith)
-    (ap (λ n. has at-args.x n) (sym c.wide.ensures) ∙ sym c.contains.ensures ∙ c.if-contains.false))
+    (ap (λ n. has at-args.x n) (sym c.from-n.ensures) ∙ sym c.contains.ensures ∙ c.if-contains.false))
 
 pub returns : goal.returns
 unfolding names_of
@@ -40,9 +39,3 @@ returns c =
 
 pub bounds-names-i : goal.bounds-names-i
 bounds-names-i element-copy-out-field = omega arith
-
-pub overflow_add-i : goal.overflow_add-i
-overflow_add-i add-i = omega arith
-
-pub loop-i-smaller : goal.loop-i-smaller
-loop-i-smaller loop-less = omega arith

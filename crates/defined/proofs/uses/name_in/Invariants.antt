@@ -1,11 +1,7 @@
 use mathlib.Core.Path.{◌≡◌}
 use Rattle.defined.specs.Search.{first_in}
-use Prim.Native.Nat.{◌-◌}
 use lib.ListN.{drop}
 use Rattle.defined.proofs.uses.name_in.Given as goal
 
 abbrev pub invariant-loop-i : goal.invariant-loop-i
 invariant-loop-i l = first_in (drop l.names.from l.names.fields) l.x ≡ first_in (drop l.i l.names.fields) l.x
-
-abbrev pub decreases-loop-i : goal.decreases-loop-i
-decreases-loop-i l = 5 - l.i

@@ -1,28 +1,13 @@
--- `defined::uses::row_use` meets its contract: the first of its pairs that has a use gives the row's (`first_uses`, `second_uses`,
--- `third_uses`). Assumes nothing.
-use Rattle.defined.proofs.Reading.{first_uses, second_uses, third_uses}
+-- `defined::uses::row_use` meets its contract: the first of its pairs that has a use gives the row's (`pairs_asked`). Assumes nothing.
+use Rattle.std.proofs.Common.{rules}
+use Rattle.defined.specs.Paths.{pair_fields}
+use Rattle.defined.proofs.Reading.{pairs_asked, or_asked}
 use Rattle.defined.proofs.Telling.{first_tells, first_is}
 use Rattle.defined.proofs.uses.row_use.Goals as goal
 
-pub pair_use-first-requires : goal.pair_use-first-requires
-pair_use-first-requires c = c.requires.0
-
-pub returns-in-Field : goal.returns-in-Field
-returns-in-Field c =
-    first_tells _ _ (first_uses _ _ _ (rw c.in-Field.is at (first_is _ _ c.pair_use-first.ensures)))
-
-pub pair_use-second-requires : goal.pair_use-second-requires
-pair_use-second-requires c = c.requires.1
-
-pub returns-in-Field-second : goal.returns-in-Field-second
-returns-in-Field-second c =
-    first_tells _ _ (second_uses _ _ _ (rw c.in_default.is at (first_is _ _ c.pair_use-first.ensures))
-    (rw c.in-Field-second.is at (first_is _ _ c.pair_use-second.ensures)))
-
-pub pair_use-requires : goal.pair_use-requires
-pair_use-requires c = c.requires.2
-
 pub returns : goal.returns
 returns c =
-    first_tells _ _ (third_uses _ _ (rw c.in_default.is at (first_is _ _ c.pair_use-first.ensures))
-    (rw c.in_default-second.is at (first_is _ _ c.pair_use-second.ensures)) (first_is _ _ c.pair_use.ensures))
+    let args = c.args in
+    let second = or_asked _ c.or_else.ensures (λ p. first_is (pair_fields args.row.second) args.x (search rules)) in
+    let third = or_asked _ c.or_else-2.ensures (λ p. first_is (pair_fields args.row.third) args.x (search rules)) in
+    first_tells _ _ (pairs_asked args.row args.x (first_is _ _ c.pair_use.ensures) second third)

@@ -5,7 +5,9 @@ use Rattle.defined.proofs.walk.walk_chain.Given as goal
 
 abbrev pub invariant-loop-r : goal.invariant-loop-r
 invariant-loop-r l =
-    Walks (walking l.table (row_at l.table l.l) l.done) l.table 3 (first_operation (row_at l.table l.l)) l.start l.initial.sets l.sets l.r l.x
+    let table = l.table.numbers.now in
+    let line = row_at table l.l in
+    Walks (walking table line l.done) table 3 (first_operation line) l.start l.initial.sets l.sets l.r l.x
 
 abbrev pub decreases-loop-r : goal.decreases-loop-r
-decreases-loop-r l = rows_left l.table l.r
+decreases-loop-r l = rows_left l.table.numbers.now l.r
