@@ -15,10 +15,10 @@ use Rattle.machine.specs.Answer.{refusal_number, told_answer}
 use Rattle.machine.proofs.Numbers.{number_same}
 use Rattle.machine.specs.Sound.{Lent, Engine}
 use Rattle.machine.specs.Step.{Outcome, RunOutcome, step, run, engine_of, engine_ran}
-use Rattle.defined.specs.declared.FieldsCheck.{FieldsCheck}
-use Rattle.defined.specs.declared.FieldsCheck.TheVariants as checks
-use Rattle.defined.specs.declared.FieldsCheck.TheVariants.{Yes, No, BadLength, IllFormed, WrongKind}
-use Rattle.defined.specs.Answer.{fields_checked, told_fields}
+use Rattle.std.specs.Prelude.{Ok, Err}
+use Rattle.defined.specs.declared.FieldsError.TheVariants as errors
+use Rattle.defined.specs.declared.FieldsError.TheVariants.{NotDefined, BadLength, IllFormed, WrongKind}
+use Rattle.defined.specs.Answer.{FieldsCheck, fields_checked, told_fields}
 use Rattle.defined.specs.Alone.{Alone, begin, stepping, running}
 use Rattle.defined.proofs.Theorem.{yes_step, yes_run}
 use Rattle.layout.specs.Layout.{state_length}
@@ -27,16 +27,16 @@ use Rattle.player.specs.Defined.{after_defined, defined_left}
 use Rattle.player.specs.Playing.{Playing, freshly, step_called, run_called}
 
 -- 0 is the answer of a yes alone
-yes_answer : (a : FieldsCheck) (row field : ℕ) → (after_defined a row field).answer ≡ 0 → a ≡ Yes
+yes_answer : (a : FieldsCheck) (row field : ℕ) → (after_defined a row field).answer ≡ 0 → a ≡ Ok tt
 unfolding after_defined told_fields number
-yes_answer Yes row field e = refl
-yes_answer (No r n) row field e = absurd (omega arith)
-yes_answer checks.NoWidth row field e = absurd (omega arith)
-yes_answer BadLength row field e = absurd (omega arith)
-yes_answer (IllFormed r) row field e = absurd (omega arith)
-yes_answer (WrongKind r) row field e = absurd (omega arith)
+yes_answer (Ok u) row field e = refl
+yes_answer (Err (NotDefined r n)) row field e = absurd (omega arith)
+yes_answer (Err errors.NoWidth) row field e = absurd (omega arith)
+yes_answer (Err BadLength) row field e = absurd (omega arith)
+yes_answer (Err (IllFormed r)) row field e = absurd (omega arith)
+yes_answer (Err (WrongKind r)) row field e = absurd (omega arith)
 
-pub defined_yes : (b : ℕ) (table : List ℕ) (row field : ℕ) → (defined_left b table row field).answer ≡ 0 → fields_checked b table ≡ Yes
+pub defined_yes : (b : ℕ) (table : List ℕ) (row field : ℕ) → (defined_left b table row field).answer ≡ 0 → fields_checked b table ≡ Ok tt
 unfolding defined_left
 defined_yes b table row field e = yes_answer (fields_checked b table) row field e
 
@@ -57,7 +57,7 @@ code_only Running e = absurd (omega arith)
 code_only Finished e = absurd (omega arith)
 code_only (Refused r) e = ap Refused (undefined_only r e)
 
-module _ (b : ℕ) (table : List ℕ) (h : fields_checked b table ≡ Yes) (e : Engine) (c : Alone table e) (l : Lent) (is : l.table ≡ table) where
+module _ (b : ℕ) (table : List ℕ) (h : fields_checked b table ≡ Ok tt) (e : Engine) (c : Alone table e) (l : Lent) (is : l.table ≡ table) where
   -- the engine's own calls, by the equations and the numbers that they promise
   pub step_never : (o : Outcome) → o ≡ step l e → number (told_answer o.stepped.answer) ≡ 14 → ⊥
   step_never o eq k = yes_step b table h e c l is o eq (answer_only _ k)

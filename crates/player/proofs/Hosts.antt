@@ -6,9 +6,9 @@ use mathlib.Core.List.{List, [], ◌∷◌}
 use mathlib.Core.Path.{◌≡◌, refl, sym, ap, subst, ◌∙◌}
 use borrow.Author.Tests.{eq-eqb}
 use lib.ListN.{length}
+use Rattle.std.specs.Prelude.{Ok}
 use Rattle.word.specs.Word.{is_width}
 use Rattle.machine.specs.declared.State.{State}
-use Rattle.machine.specs.declared.FreshAnswer.TheVariants.{Done}
 use Rattle.machine.specs.State.{fresh, fresh_of}
 use Rattle.machine.specs.Sound.{Lent, Engine}
 use Rattle.machine.specs.Step.{step, run, engine_of, engine_ran}
@@ -29,7 +29,7 @@ fresh_is : (b : ℕ) → is_width b ≡ true → (fresh_of b).state ≡ fresh b
 unfolding fresh_of
 fresh_is b w = rw w
 
-fresh_done : (b : ℕ) → is_width b ≡ true → (fresh_of b).answer ≡ Done
+fresh_done : (b : ℕ) → is_width b ≡ true → (fresh_of b).answer ≡ Ok tt
 unfolding fresh_of
 fresh_done b w = rw w
 

@@ -6,10 +6,11 @@ use mathlib.Core.List.{List}
 use mathlib.Core.Path.{◌≡◌, refl, sym, ap, ◌∙◌}
 use borrow.Author.Tests.{eq-eqb, ne_eqb}
 use lib.ListN.{length}
+use Rattle.std.specs.Prelude.{Result, Ok, Err}
 use Rattle.word.specs.Told.{number}
 use Rattle.machine.specs.declared.Extended.{Extended}
-use Rattle.machine.specs.declared.ExtensionAnswer.{ExtensionAnswer}
-use Rattle.machine.specs.declared.ExtensionAnswer.TheVariants.{Done, NoWidth, Unsound, BeforeSetUp, LastAddress}
+use Rattle.machine.specs.declared.ExtensionError.{ExtensionError}
+use Rattle.machine.specs.declared.ExtensionError.TheVariants.{NoWidth, Unsound, BeforeSetUp, LastAddress}
 use Rattle.machine.specs.declared.State.{State}
 use Rattle.machine.specs.Sound.{Engine}
 use Rattle.machine.specs.Extend.{Extension, told_extension, is_done, extend, engine_left}
@@ -19,21 +20,18 @@ use Rattle.player.specs.Calls.{wrong_state, engine_at}
 use Rattle.player.specs.Extending.{ExtendLeft, after_extension, extend_left}
 
 -- an answer is no refusal where its number is 0
-number_done : (a : ExtensionAnswer) → 0 ≡ number (told_extension a) → is_done a ≡ true
+number_done : (a : Result (Unit {0}) ExtensionError) → 0 ≡ number (told_extension a) → is_done a ≡ true
 unfolding told_extension number is_done
-number_done Done e = refl
-number_done NoWidth e = absurd (omega arith)
-number_done Unsound e = absurd (omega arith)
-number_done BeforeSetUp e = absurd (omega arith)
-number_done LastAddress e = absurd (omega arith)
+number_done (Ok _) e = refl
+number_done (Err NoWidth) e = absurd (omega arith)
+number_done (Err Unsound) e = absurd (omega arith)
+number_done (Err BeforeSetUp) e = absurd (omega arith)
+number_done (Err LastAddress) e = absurd (omega arith)
 
-number_refused : (a : ExtensionAnswer) → (number (told_extension a) ≡ 0 → ⊥) → is_done a ≡ false
+number_refused : (a : Result (Unit {0}) ExtensionError) → (number (told_extension a) ≡ 0 → ⊥) → is_done a ≡ false
 unfolding told_extension number is_done
-number_refused Done h = absurd (h refl)
-number_refused NoWidth h = refl
-number_refused Unsound h = refl
-number_refused BeforeSetUp h = refl
-number_refused LastAddress h = refl
+number_refused (Ok _) h = absurd (h refl)
+number_refused (Err _) h = refl
 
 module _ (last : ℕ) (storage bytes : List ℕ) where
   pub extend_short : (length bytes ≡ state_length → ⊥)

@@ -1,17 +1,14 @@
 -- The library's calls: what each answers, and what it leaves in the memory lent to it. The state is its bytes
 -- (layout/specs/Layout). Assumes nothing.
-use Rattle.std.specs.Prelude.{ℕ, ◌*◌, Bool, true, false, not, ◌&&◌, ◌||◌, cond, List, [], ◌∷◌, ◌++◌, eqb, ltb, length}
+use Rattle.std.specs.Prelude.{ℕ, ◌*◌, Bool, true, false, not, ◌&&◌, ◌||◌, cond, List, [], ◌∷◌, ◌++◌, eqb, ltb, length, Result, Ok, Err}
 use Rattle.word.specs.Told.{number}
 use Rattle.word.specs.Word.{is_width}
-use Rattle.table.specs.declared.TableCheck.{TableCheck}
-use Rattle.table.specs.declared.TableCheck.TheVariants as table-check
-use Rattle.table.specs.declared.TableCheck.TheVariants.{Lowest, BadLength}
+use Rattle.table.specs.declared.TableError.{TableError}
 use Rattle.table.specs.Table.{table_checked, told_check}
 use Rattle.machine.specs.declared.Answer.{Answer}
 use Rattle.machine.specs.declared.Answer.TheVariants.{Running, Finished, Refused}
 use Rattle.machine.specs.declared.Refusal.TheVariants as refusals
 use Rattle.machine.specs.declared.Refusal.TheVariants.{Unsound}
-use Rattle.machine.specs.declared.FreshAnswer.TheVariants.{NoWidth}
 use Rattle.machine.specs.declared.Report.{Report}
 use Rattle.machine.specs.declared.State.{State}
 use Rattle.machine.specs.declared.Store.{Store}
@@ -71,7 +68,7 @@ fresh_left b bytes =
     cond (is_width b)
     (cond (eqb (length bytes) state_length) (record { answer = 0; state = bytes_of_state (fresh b) })
     (record { answer = wrong_state; state = bytes }))
-    (record { answer = number (told_fresh NoWidth); state = bytes })
+    (record { answer = number (told_fresh (Err (record {}))); state = bytes })
 
 -- a report as twelve numbers
 unfoldable pub numbers_of_store : Store → List ℕ
@@ -156,10 +153,9 @@ pub record CheckLeft : Type 0 where
   pub answer : ℕ
   pub row : ℕ
 
-unfoldable pub after_check : TableCheck → ℕ → CheckLeft
-after_check (Lowest r) row = record { answer = number (told_check (Lowest r)); row = r }
-after_check BadLength row = record { answer = number (told_check BadLength); row = row }
-after_check (table-check.NoWidth) row = record { answer = number (told_check table-check.NoWidth); row = row }
+unfoldable pub after_check : Result ℕ TableError → ℕ → CheckLeft
+after_check (Ok r) row = record { answer = number (told_check (Ok r)); row = r }
+after_check (Err e) row = record { answer = number (told_check (Err e)); row = row }
 
 unfoldable pub check_left : ℕ → List ℕ → ℕ → CheckLeft
 check_left b table row = after_check (table_checked b table) row

@@ -1,17 +1,8 @@
 -- l6_save and l6_load: what they answer, and what they leave in the memory lent to them. Assumes nothing.
 use Rattle.std.specs.Prelude.{ℕ, List}
 use Rattle.word.specs.Told.{number}
-use Rattle.columns.specs.declared.Kept.{Kept}
-use Rattle.columns.specs.declared.Kept.TheVariants.{Count, NoWidth, WordTooWide, NotSaved, OutputShort}
+use Rattle.player.specs.Counted.{count_after}
 use Rattle.columns.specs.Columns.{Left, saving, loading, told_kept}
-
--- how many were written, otherwise the count as it was
-unfoldable pub count_of : Kept → ℕ → ℕ
-count_of (Count n) count = n
-count_of NoWidth count = count
-count_of WordTooWide count = count
-count_of NotSaved count = count
-count_of OutputShort count = count
 
 -- l6_save
 pub record SaveLeft : Type 0 where
@@ -20,7 +11,7 @@ pub record SaveLeft : Type 0 where
   pub count : ℕ
 
 unfoldable pub after_save : ℕ → Left → SaveLeft
-after_save count l = record { answer = number (told_kept l.answer); bytes = l.output; count = count_of l.answer count }
+after_save count l = record { answer = number (told_kept l.answer); bytes = l.output; count = count_after l.answer count }
 
 unfoldable pub save_left : ℕ → List ℕ → List ℕ → ℕ → SaveLeft
 save_left width words bytes count = after_save count (saving width words bytes)

@@ -1,5 +1,6 @@
 -- What the library's calls answer and leave.
 pub mod Calls
+pub mod Counted
 pub mod Defined
 pub mod Extending
 pub mod Hosting

@@ -1,16 +1,8 @@
 -- l6_recordings: what it answers, and what it leaves in the memory lent to it. Assumes nothing.
 use Rattle.std.specs.Prelude.{ℕ, List}
 use Rattle.word.specs.Told.{number}
-use Rattle.recordings.specs.declared.Written.{Written}
-use Rattle.recordings.specs.declared.Written.TheVariants.{Count, BadList, RowTwice, OutputShort}
+use Rattle.player.specs.Counted.{count_after}
 use Rattle.recordings.specs.Recordings.{Left, correcting, told_written}
-
--- how many were written, otherwise the count as it was
-unfoldable pub count_after : Written → ℕ → ℕ
-count_after (Count n) count = n
-count_after BadList count = count
-count_after RowTwice count = count
-count_after OutputShort count = count
 
 pub record RecordingsLeft : Type 0 where
   pub answer : ℕ

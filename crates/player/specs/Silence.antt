@@ -1,21 +1,16 @@
 -- l6_silent and l6_repeated: what they answer, and what they leave in the memory lent to them. Assumes nothing.
-use Rattle.std.specs.Prelude.{ℕ, List}
+use Rattle.std.specs.Prelude.{ℕ, List, Result}
 use Rattle.word.specs.Told.{number}
-use Rattle.silence.specs.declared.Listed.{Listed}
-use Rattle.silence.specs.declared.Listed.TheVariants.{Count, OutputShort}
+use Rattle.silence.specs.declared.OutputShort.{OutputShort}
+use Rattle.player.specs.Counted.{count_after}
 use Rattle.silence.specs.Silence.{Left, telling, told_listed}
-
--- how many were written, otherwise the count as it was
-unfoldable pub count_after : Listed → ℕ → ℕ
-count_after (Count n) count = n
-count_after OutputShort count = count
 
 pub record CountedLeft : Type 0 where
   pub answer : ℕ
   pub count : ℕ
 
 -- 0, or the number of the refusal
-unfoldable pub counted_as : Listed → ℕ → CountedLeft
+unfoldable pub counted_as : Result ℕ OutputShort → ℕ → CountedLeft
 counted_as told count = record { answer = number (told_listed told); count = count_after told count }
 
 pub record StopsLeft : Type 0 where

@@ -1,25 +1,23 @@
 -- l6_read: what it answers, and what it leaves in the memory lent to it. Assumes nothing.
 use Rattle.std.specs.Prelude.{ℕ, List}
 use Rattle.word.specs.Told.{number}
-use Rattle.lines.specs.declared.Read.{Read}
-use Rattle.lines.specs.declared.Read.TheVariants.{Rows, NoWidth, BadLine, BadLabel, TooLong}
+use Rattle.std.specs.Prelude.{Result, Ok, Err}
+use Rattle.lines.specs.declared.ReadError.{ReadError}
+use Rattle.lines.specs.declared.ReadError.TheVariants.{NoWidth, BadLine, BadLabel, TooLong}
 use Rattle.lines.specs.Program.{Left, read_at, told_read}
 
 -- the row count, otherwise the count as it was
-unfoldable pub rows_after : Read → ℕ → ℕ
-rows_after (Rows n) count = n
-rows_after NoWidth count = count
-rows_after (BadLine line) count = count
-rows_after (BadLabel line) count = count
-rows_after (TooLong line) count = count
+unfoldable pub rows_after : Result ℕ ReadError → ℕ → ℕ
+rows_after (Ok n) count = n
+rows_after (Err e) count = count
 
 -- the line of the fault, otherwise the line as it was
-unfoldable pub line_after : Read → ℕ → ℕ
-line_after (Rows n) before = before
-line_after NoWidth before = before
-line_after (BadLine line) before = line
-line_after (BadLabel line) before = line
-line_after (TooLong line) before = line
+unfoldable pub line_after : Result ℕ ReadError → ℕ → ℕ
+line_after (Ok n) before = before
+line_after (Err NoWidth) before = before
+line_after (Err (BadLine line)) before = line
+line_after (Err (BadLabel line)) before = line
+line_after (Err (TooLong line)) before = line
 
 pub record ReadLeft : Type 0 where
   pub answer : ℕ

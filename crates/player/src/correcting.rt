@@ -2,7 +2,7 @@
 ghost use Rattle.std.specs.Prelude.{◌≡◌};
 ghost use Rattle.player.specs.Recordings.{recordings_left};
 
-use recordings::{Written, write_standing};
+use recordings::{CorrectionError, write_standing};
 
 // Stop and recording of each record of a list that stands, and how many they are.
 #[unsafe(no_mangle)]
@@ -11,13 +11,11 @@ pub extern "C" fn l6_recordings(list: &[u64], output: &mut [u64], count: &mut u6
         ≡ recordings_left list.now output.old count.old }
 {
     let written = write_standing(list, output);
+    *count = written.map_or(*count, |n| n as u64);
     match written {
-        Written::Count(n) => {
-            *count = n as u64;
-            0
-        }
-        Written::BadList => 26,
-        Written::RowTwice => 27,
-        Written::OutputShort => 28,
+        Ok(_) => 0,
+        Err(CorrectionError::BadList) => 26,
+        Err(CorrectionError::RowTwice) => 27,
+        Err(CorrectionError::OutputShort) => 28,
     }
 }

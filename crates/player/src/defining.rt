@@ -3,7 +3,7 @@ ghost use Rattle.std.specs.Prelude.{◌≡◌};
 ghost use Rattle.player.specs.Defined.{defined_left};
 
 use crate::{ILL_FORMED, NO_WIDTH, NOT_DEFINED, TABLE_LENGTH};
-use defined::{FieldsCheck, check_fields};
+use defined::{FieldsError, check_fields};
 
 // The refusal of a row that names a row of the wrong kind.
 const WRONG_KIND: u64 = 30;
@@ -15,21 +15,22 @@ pub extern "C" fn l6_defined(width: u64, table: &[u64], row: &mut u64, field: &m
     ensures { record { answer = result; row = row.new; field = field.new }
         ≡ defined_left width table.now row.old field.old }
 {
-    let found = check_fields(width, table);
-    match found {
-        FieldsCheck::Yes => 0,
-        FieldsCheck::No { row: r, field: n } => {
+    let Err(error) = check_fields(width, table) else {
+        return 0;
+    };
+    match error {
+        FieldsError::NotDefined { row: r, field: n } => {
             *row = r;
             *field = n;
             NOT_DEFINED
         }
-        FieldsCheck::NoWidth => NO_WIDTH,
-        FieldsCheck::BadLength => TABLE_LENGTH,
-        FieldsCheck::IllFormed(r) => {
+        FieldsError::NoWidth => NO_WIDTH,
+        FieldsError::BadLength => TABLE_LENGTH,
+        FieldsError::IllFormed(r) => {
             *row = r;
             ILL_FORMED
         }
-        FieldsCheck::WrongKind(r) => {
+        FieldsError::WrongKind(r) => {
             *row = r;
             WRONG_KIND
         }

@@ -23,12 +23,10 @@ pub extern "C" fn l6_extend(storage: &mut [u64], state: &mut [u8], last: u64) ->
         return STATE_LENGTH;
     }
     let extended = extend(storage, read_state(&*state), last);
-    let after = extended.state;
-    let answer = extended.answer;
-    let number = number_of(answer);
+    let number = number_of(extended.answer);
     if number != 0 {
         return number;
     }
-    write_state(state, after);
+    write_state(state, extended.state);
     0
 }

@@ -2,34 +2,21 @@
 ghost use Rattle.std.specs.Prelude.{◌≡◌};
 ghost use Rattle.word.specs.Told.{number};
 ghost use Rattle.columns.specs.Columns.{told_kept};
-ghost use Rattle.player.specs.Keeping.{count_of, save_left, load_left};
+ghost use Rattle.player.specs.Keeping.{save_left, load_left};
 
 use crate::NO_WIDTH;
-use columns::{Kept, load, save};
+use columns::{KeepError, load, save};
 
-// The number of an answer that is no count.
-fn number_of(answer: Kept) -> u64
+// The number of an answer.
+fn number_of(answer: Result<usize, KeepError>) -> u64
     ensures { result ≡ number (told_kept answer) }
 {
     match answer {
-        Kept::Count(_) => 0,
-        Kept::NoWidth => NO_WIDTH,
-        Kept::WordTooWide => 33,
-        Kept::NotSaved => 34,
-        Kept::OutputShort => 35,
-    }
-}
-
-// The count of an answer, otherwise what it was.
-fn count_of(answer: Kept, before: u64) -> u64
-    ensures { result ≡ count_of answer before }
-{
-    match answer {
-        Kept::Count(n) => n as u64,
-        Kept::NoWidth => before,
-        Kept::WordTooWide => before,
-        Kept::NotSaved => before,
-        Kept::OutputShort => before,
+        Ok(_) => 0,
+        Err(KeepError::NoWidth) => NO_WIDTH,
+        Err(KeepError::WordTooWide) => 33,
+        Err(KeepError::NotSaved) => 34,
+        Err(KeepError::OutputShort) => 35,
     }
 }
 
@@ -40,7 +27,7 @@ pub extern "C" fn l6_save(width: u64, words: &[u64], bytes: &mut [u8], count: &m
         ≡ save_left width words.now bytes.old count.old }
 {
     let kept = save(width, words, bytes);
-    *count = count_of(kept, *count);
+    *count = kept.map_or(*count, |n| n as u64);
     number_of(kept)
 }
 

@@ -27,7 +27,7 @@ use layout::reading::{read_state, setup_at, width_at};
 use layout::writing::write_state;
 use listing::{are_blocks, count_blocks, list_blocks};
 use machine::{Answer, Report, State, Store};
-use table::TableCheck;
+use table::TableError;
 use table::check::check_table;
 use word::is_width;
 
@@ -97,30 +97,16 @@ fn keep_state(bytes: &mut [u8], kind: u8, answer: Answer, count: u64, after: Sta
     write_state(bytes, after);
 }
 
-// Four numbers from a place on.
-fn put_four(report: &mut [u64], at: usize, a: u64, b: u64, c: u64, d: u64)
-    requires { (length report.old ≡ 12) × (at ≤ 8) }
-    ensures { report.new ≡ placed at (a ∷ b ∷ c ∷ d ∷ []) report.old }
+// A store as four numbers.
+fn numbers_of(store: Store) -> [u64; 4]
+    ensures { result ≡ numbers_of_store store }
 {
-    report[at] = a;
-    report[at + 1] = b;
-    report[at + 2] = c;
-    report[at + 3] = d;
-}
-
-// A store, from a place on.
-fn put_store(report: &mut [u64], at: usize, of: Store)
-    requires { (length report.old ≡ 12) × (at ≤ 8) }
-    ensures { report.new ≡ placed at (numbers_of_store of) report.old }
-{
-    put_four(
-        report,
-        at,
-        of.address,
-        of.left as u64,
-        of.right as u64,
-        of.bits,
-    );
+    [
+        store.address,
+        u64::from(store.left),
+        u64::from(store.right),
+        store.bits,
+    ]
 }
 
 // A report as twelve numbers.
@@ -128,9 +114,9 @@ fn put_report(report: &mut [u64], of: Report)
     requires { length report.old ≡ 12 }
     ensures { report.new ≡ numbers_of_report of }
 {
-    put_four(report, 0, of.freed, of.delivered, of.size, of.copied);
-    put_store(report, 4, of.first);
-    put_store(report, 8, of.second);
+    report[..4].copy_from_slice(&[of.freed, of.delivered, of.size, of.copied]);
+    report[4..8].copy_from_slice(&numbers_of(of.first));
+    report[8..].copy_from_slice(&numbers_of(of.second));
 }
 
 // The version of the library, which its header and module have too.
@@ -196,14 +182,11 @@ pub extern "C" fn l6_step(
         return unreported(&*state);
     }
     let before = read_state(&*state);
-    let core = before.core;
-    let place = core.place;
+    let kind = before.core.place.kind;
     let stepped = step(table, storage, input, output, before);
-    let after = stepped.state;
-    let answer = stepped.answer;
     put_report(report, stepped.report);
-    keep_state(state, place.kind, answer, 1, after);
-    code_of(answer)
+    keep_state(state, kind, stepped.answer, 1, stepped.state);
+    code_of(stepped.answer)
 }
 
 // A run, with its count.
@@ -228,14 +211,11 @@ pub extern "C" fn l6_run(
         return STATE_LENGTH;
     }
     let before = read_state(&*state);
-    let core = before.core;
-    let place = core.place;
+    let kind = before.core.place.kind;
     let ran = run(table, storage, input, output, before, limit);
-    let after = ran.state;
-    let answer = ran.answer;
     *count = ran.count;
-    keep_state(state, place.kind, answer, ran.count, after);
-    code_of(answer)
+    keep_state(state, kind, ran.answer, ran.count, ran.state);
+    code_of(ran.answer)
 }
 
 // The table check for words of width bits.
@@ -243,14 +223,13 @@ pub extern "C" fn l6_run(
 pub extern "C" fn l6_check(width: u64, table: &[u64], row: &mut u64) -> u64
     ensures { record { answer = result; row = row.new } ≡ check_left width table.now row.old }
 {
-    let found = check_table(width, table);
-    match found {
-        TableCheck::Lowest(r) => {
+    match check_table(width, table) {
+        Ok(r) => {
             *row = r;
             0
         }
-        TableCheck::BadLength => TABLE_LENGTH,
-        TableCheck::NoWidth => NO_WIDTH,
+        Err(TableError::BadLength) => TABLE_LENGTH,
+        Err(TableError::NoWidth) => NO_WIDTH,
     }
 }
 
@@ -284,10 +263,8 @@ pub extern "C" fn l6_count_blocks(state: &[u8], counts: &mut [u64]) -> u64
     if !are_blocks(setup, map) {
         return UNSOUND;
     }
-    let live = count_blocks(true, setup, map);
-    let free = count_blocks(false, setup, map);
-    counts[0] = live;
-    counts[1] = free;
+    counts[0] = count_blocks(true, setup, map);
+    counts[1] = count_blocks(false, setup, map);
     0
 }
 

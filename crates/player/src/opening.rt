@@ -3,7 +3,7 @@ ghost use Rattle.std.specs.Prelude.{◌≡◌};
 ghost use Rattle.player.specs.Hours.{hours_left};
 
 use crate::CLOSED;
-use hours::{Opening, open_at};
+use hours::{BadHours, open_at};
 
 // The row of the entry line on a day at a minute.
 #[unsafe(no_mangle)]
@@ -17,13 +17,12 @@ pub extern "C" fn l6_hours(
     ensures { record { answer = result; row = row.new }
         ≡ hours_left windows.now exceptions.now day minute row.old }
 {
-    let found = open_at(windows, exceptions, day, minute);
-    match found {
-        Opening::Row(r) => {
-            *row = r;
+    match open_at(windows, exceptions, day, minute) {
+        Ok(Some(found)) => {
+            *row = found;
             0
         }
-        Opening::Closed => CLOSED,
-        Opening::Refused => 29,
+        Ok(None) => CLOSED,
+        Err(BadHours) => 29,
     }
 }

@@ -3,18 +3,16 @@ ghost use Rattle.std.specs.Prelude.{◌≡◌};
 ghost use Rattle.silence.specs.Silence.{silent, repeated};
 ghost use Rattle.player.specs.Silence.{counted_as, stops_left};
 
-use silence::{Listed, write_repeated, write_silent};
+use silence::{OutputShort, write_repeated, write_silent};
 
 // The number of an answer, with the count put in its place.
-fn tell(told: Listed, count: &mut u64) -> u64
+fn tell(told: Result<usize, OutputShort>, count: &mut u64) -> u64
     ensures { record { answer = result; count = count.new } ≡ counted_as told count.old }
 {
+    *count = told.map_or(*count, |n| n as u64);
     match told {
-        Listed::Count(n) => {
-            *count = n as u64;
-            0
-        }
-        Listed::OutputShort => 28,
+        Ok(_) => 0,
+        Err(OutputShort) => 28,
     }
 }
 

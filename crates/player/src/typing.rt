@@ -3,7 +3,7 @@ ghost use Rattle.std.specs.Prelude.{◌≡◌};
 ghost use Rattle.player.specs.Typed.{read_left};
 
 use crate::NO_WIDTH;
-use lines::{BAD_LABEL, BAD_LINE, Read, TOO_LONG};
+use lines::{BAD_LABEL, BAD_LINE, ReadError, TOO_LONG};
 use typed::read;
 
 // The table of a text for words of width bits and how many rows it has, or the line of its fault.
@@ -18,22 +18,21 @@ pub extern "C" fn l6_read(
     ensures { record { answer = result; table = table.new; count = count.new; line = line.new }
         ≡ read_left width text.now table.old count.old line.old }
 {
-    let answer = read(width, text, table);
-    match answer {
-        Read::Rows(n) => {
+    match read(width, text, table) {
+        Ok(n) => {
             *count = n;
             0
         }
-        Read::NoWidth => NO_WIDTH,
-        Read::BadLine(n) => {
+        Err(ReadError::NoWidth) => NO_WIDTH,
+        Err(ReadError::BadLine(n)) => {
             *line = n;
             BAD_LINE
         }
-        Read::BadLabel(n) => {
+        Err(ReadError::BadLabel(n)) => {
             *line = n;
             BAD_LABEL
         }
-        Read::TooLong(n) => {
+        Err(ReadError::TooLong(n)) => {
             *line = n;
             TOO_LONG
         }

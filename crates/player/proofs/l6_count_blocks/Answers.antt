@@ -24,11 +24,11 @@ returns-then-not-are_blocks c =
     counts_unsound c.args.state.now c.args.counts.now (sym c.state_fault-fault.ensures
     ∙ c.if-fault-ne0.false) c.setup_at-setup.ensures c.if-counts-ne2.false (known_false c.are_blocks.ensures c.if-not-are_blocks.true-raw)
 
-pub count_blocks-live-requires : goal.count_blocks-live-requires
-count_blocks-live-requires c = can_list _ _ (known_true c.are_blocks.ensures c.if-not-are_blocks.false-raw)
+pub count_blocks-requires : goal.count_blocks-requires
+count_blocks-requires c = can_list _ _ (known_true c.are_blocks.ensures c.if-not-are_blocks.false-raw)
 
-pub count_blocks-free-requires : goal.count_blocks-free-requires
-count_blocks-free-requires c = can_list _ _ (known_true c.are_blocks.ensures c.if-not-are_blocks.false-raw)
+pub count_blocks-requires-2 : goal.count_blocks-requires-2
+count_blocks-requires-2 c = can_list _ _ (known_true c.are_blocks.ensures c.if-not-are_blocks.false-raw)
 
 pub bounds-counts-1 : goal.bounds-counts-1
 bounds-counts-1 c = simp length-set (omega (arith, c.if-counts-ne2.false))
@@ -40,4 +40,4 @@ pub returns : goal.returns
 returns c =
     counts_leave c.args.state.now c.args.counts.now (sym c.state_fault-fault.ensures
     ∙ c.if-fault-ne0.false) c.setup_at-setup.ensures c.if-counts-ne2.false (known_true c.are_blocks.ensures c.if-not-are_blocks.false-raw)
-    c.count_blocks-live.ensures.value c.count_blocks-free.ensures.value
+    c.count_blocks.ensures.value c.count_blocks-2.ensures.value

@@ -1,18 +1,17 @@
 -- `player::opening::l6_hours` meets its contract: by the answer. Assumes nothing.
-use mathlib.Core.Path.{sym, ◌∙◌}
 use Rattle.word.specs.Told.{number}
 use Rattle.hours.specs.Hours.{told_opening}
 use Rattle.player.specs.Hours.{after_hours, hours_left}
 use Rattle.player.proofs.opening.l6_hours.Goals as goal
 
-pub returns-in-Row : goal.returns-in-Row
+pub returns-in-Ok-Some : goal.returns-in-Ok-Some
 unfolding hours_left after_hours told_opening number
-returns-in-Row c = rw (sym c.open_at-found.ensures.value ∙ c.in-Row.is)
+returns-in-Ok-Some c = rw (← c.open_at.ensures.value, c.in-Ok-Some.is, c.in-Ok-Some.field-0-is)
 
-pub returns-in-Closed : goal.returns-in-Closed
+pub returns-in-Ok-None : goal.returns-in-Ok-None
 unfolding hours_left after_hours
-returns-in-Closed c = rw (sym c.open_at-found.ensures.value ∙ c.in-Closed.is)
+returns-in-Ok-None c = rw (← c.open_at.ensures.value, c.in-Ok-None.is, c.in-Ok-None.field-0-is)
 
-pub returns-in-Refused : goal.returns-in-Refused
+pub returns-in-Err : goal.returns-in-Err
 unfolding hours_left after_hours told_opening number
-returns-in-Refused c = rw (sym c.open_at-found.ensures.value ∙ c.in-Refused.is)
+returns-in-Err c = rw (← c.open_at.ensures.value, c.in-Err.is)

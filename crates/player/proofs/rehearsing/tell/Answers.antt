@@ -1,13 +1,19 @@
 -- `player::rehearsing::tell` meets its contract: by the answer. Assumes nothing.
+use Rattle.std.proofs.Common.{rules}
 use Rattle.word.specs.Told.{number}
 use Rattle.silence.specs.Silence.{told_listed}
-use Rattle.player.specs.Silence.{count_after, counted_as}
+use Rattle.player.specs.Silence.{counted_as}
+use Rattle.player.proofs.Telling.{counted_is}
 use Rattle.player.proofs.rehearsing.tell.Goals as goal
 
-pub returns-in-Count : goal.returns-in-Count
-unfolding counted_as count_after told_listed number
-returns-in-Count c = rw c.in-Count.is
+pub returns-in-Ok : goal.returns-in-Ok
+unfolding counted_as told_listed number
+returns-in-Ok c =
+    let count = counted_is c.args.told c.args.count.now c.map_or.result _ c.map_or.ensures (λ x is. search rules) in
+    rw (count, c.in-Ok.is)
 
-pub returns-in-OutputShort : goal.returns-in-OutputShort
-unfolding counted_as count_after told_listed number
-returns-in-OutputShort c = rw c.in-OutputShort.is
+pub returns-in-Err : goal.returns-in-Err
+unfolding counted_as told_listed number
+returns-in-Err c =
+    let count = counted_is c.args.told c.args.count.now c.map_or.result _ c.map_or.ensures (λ x is. search rules) in
+    rw (count, c.in-Err.is)

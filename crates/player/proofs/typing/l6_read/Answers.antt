@@ -4,22 +4,22 @@ use Rattle.lines.specs.Program.{told_read}
 use Rattle.player.specs.Typed.{rows_after, line_after, after_reading, read_left}
 use Rattle.player.proofs.typing.l6_read.Goals as goal
 
-pub returns-in-Rows : goal.returns-in-Rows
+pub returns-in-Ok : goal.returns-in-Ok
 unfolding read_left after_reading rows_after line_after told_read number
-returns-in-Rows c = rw (← c.read-answer.ensures.table_after, c.in-Rows.is)
+returns-in-Ok c = rw (← c.read.ensures.table_after, c.in-Ok.is)
 
-pub returns-in-NoWidth : goal.returns-in-NoWidth
+pub returns-in-Err-NoWidth : goal.returns-in-Err-NoWidth
 unfolding read_left after_reading rows_after line_after told_read number
-returns-in-NoWidth c = rw (← c.read-answer.ensures.table_after, c.in-NoWidth.is)
+returns-in-Err-NoWidth c = rw (← c.read.ensures.table_after, c.in-Err-NoWidth.is, c.in-Err-NoWidth.field-0-is)
 
-pub returns-in-BadLine : goal.returns-in-BadLine
+pub returns-in-Err-BadLine : goal.returns-in-Err-BadLine
 unfolding read_left after_reading rows_after line_after told_read number
-returns-in-BadLine c = rw (← c.read-answer.ensures.table_after, c.in-BadLine.is)
+returns-in-Err-BadLine c = rw (← c.read.ensures.table_after, c.in-Err-BadLine.is, c.in-Err-BadLine.field-0-is)
 
-pub returns-in-BadLabel : goal.returns-in-BadLabel
+pub returns-in-Err-BadLabel : goal.returns-in-Err-BadLabel
 unfolding read_left after_reading rows_after line_after told_read number
-returns-in-BadLabel c = rw (← c.read-answer.ensures.table_after, c.in-BadLabel.is)
+returns-in-Err-BadLabel c = rw (← c.read.ensures.table_after, c.in-Err-BadLabel.is, c.in-Err-BadLabel.field-0-is)
 
-pub returns-in-TooLong : goal.returns-in-TooLong
+pub returns-in-Err-TooLong : goal.returns-in-Err-TooLong
 unfolding read_left after_reading rows_after line_after told_read number
-returns-in-TooLong c = rw (← c.read-answer.ensures.table_after, c.in-TooLong.is)
+returns-in-Err-TooLong c = rw (← c.read.ensures.table_after, c.in-Err-TooLong.is, c.in-Err-TooLong.field-0-is)
