@@ -31,10 +31,8 @@ fn result(which: u64, a: u64, x: u64, y: u64) -> u64 {
 
 // The checksum of a function over its cases.
 fn checksum(number: u64) -> u64 {
-    let mut case = cases::before_all();
     let mut sum = 0;
-    while case.left > 0 {
-        case = cases::case_after(case);
+    for case in cases::all() {
         sum = cases::fold(sum, result(number, case.a, case.x, case.y));
     }
     sum
@@ -62,13 +60,28 @@ fn figure(which: u64) -> u64 {
     }
 }
 
+// The names of the lines.
+const NAMES: [&str; 15] = [
+    "size_of",
+    "level_of",
+    "top_of",
+    "words_of",
+    "blocks, d 8, s1 8, s2 23",
+    "blocks, d 128, s1 128, s2 1151",
+    "blocks, d 1, s1 1, s2 40",
+    "blocks, d 16, s1 32, s2 95",
+    "locate and contents",
+    "get 3, its size",
+    "get 5, its size",
+    "get 9",
+    "get 8, 8, 1",
+    "get 8, 8, 1, free the first, get 8",
+    "get 8, 8, 1, free the second, get 8",
+];
+
 fn main(rt: HostRuntime) -> io::Result<()> {
-    let names = b"size_of\nlevel_of\ntop_of\nwords_of\n\
-        blocks, d 8, s1 8, s2 23\nblocks, d 128, s1 128, s2 1151\nblocks, d 1, s1 1, s2 40\nblocks, d 16, s1 32, s2 95\nlocate and contents\n\
-        get 3, its size\nget 5, its size\nget 9\nget 8, 8, 1\n\
-        get 8, 8, 1, free the first, get 8\nget 8, 8, 1, free the second, get 8\n";
-    for which in 0..15 {
-        cases::lines::write_line(&rt, names, which, figure(which))?;
+    for (name, which) in NAMES.iter().zip(0..) {
+        cases::lines::write_line(&rt, name, figure(which))?;
     }
     Ok(())
 }

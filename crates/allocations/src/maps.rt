@@ -5,8 +5,7 @@ ghost use Rattle.block.specs.Map.{keeps};
 ghost use Rattle.block.specs.SetUp.{top, words};
 
 use block::SetUp;
-use buddy::{Found, section, sizes};
-use std::num;
+use buddy::{section, sizes};
 
 // Refusals 8, 11 and 17.
 const BAD_SIZE: u64 = cases::REFUSED + 8;
@@ -64,10 +63,8 @@ pub fn fresh(setup: SetUp) -> [u8; BYTES]
     let k = sizes::top_of(setup.d);
     let n = sizes::size_of(k);
     let end = section::words_of(setup);
-    let mut i = 0;
-    while i < end {
-        map[i] = k + k + 1;
-        i += n;
+    for first in map[..end].iter_mut().step_by(n) {
+        *first = k + k + 1;
     }
     map
 }
@@ -76,12 +73,11 @@ pub fn fresh(setup: SetUp) -> [u8; BYTES]
 fn get(setup: SetUp, map: &mut [u8], n: u64) -> u64
     requires { (words setup % size (top setup.d) ≡ 0) × (keeps setup map.old ≡ true) }
 {
-    if (setup.d as u64) <= num::wrapping_sub_u64(n, 1) {
+    if u64::from(setup.d) <= n.wrapping_sub(1) {
         return BAD_SIZE;
     }
     let j = sizes::level_of(sizes::top_of(setup.d), n);
-    let found = section::lowest_run(setup, map, j);
-    let Found::At(a) = found else {
+    let Some(a) = section::lowest_run(setup, map, j) else {
         return NO_RUN;
     };
     section::deliver(setup, map, j, a);
@@ -123,7 +119,7 @@ fn damaged(setup: SetUp, map: &mut [u8], at: usize, byte: u8) -> u64
     map[at] = byte;
     let kept = section::keeps_section(setup, map);
     map[at] = old;
-    kept as u64
+    u64::from(kept)
 }
 
 // An operation on a map that keeps its section: 1 get, 2 free, 3 the live size, 4 whether a damaged map keeps its section.
@@ -170,9 +166,9 @@ pub fn script(steps: u64) -> u64 {
 // A size that a get may ask for, or else an address, small ones more often; or what damages a map.
 fn operand(setup: SetUp, operation: u64, a: u64) -> u64 {
     match operation {
-        1 => (a / 4 % (setup.d as u64 + 3)) >> (a % 4),
+        1 => (a / 4 % (u64::from(setup.d) + 3)) >> (a % 4),
         4 => a % 20600,
-        _ => (a / 4 % (setup.s2 as u64 + 3)) >> (a % 4),
+        _ => (a / 4 % (u64::from(setup.s2) + 3)) >> (a % 4),
     }
 }
 
@@ -187,17 +183,15 @@ pub fn drawn_step(which: u64, map: &mut [u8; BYTES], turn: u64, drawn: u64) -> u
 
 // The bytes of a map folded.
 fn folded(map: &[u8; BYTES]) -> u64 {
-    cases::bytes(map)
+    cases::fold_all(1, map)
 }
 
 // The checksum of a sequence from a fresh map, of answers and bytes: by turns the operations are mostly gets and seldom gets.
 pub fn sequence(which: u64) -> u64 {
     let mut map = fresh(setup_of(which));
-    let mut left = STEPS;
     let mut state = STEPS;
     let mut sum = 0;
-    while left > 0 {
-        left -= 1;
+    for left in (0..STEPS).rev() {
         state = cases::next(state);
         let turn = left / 256 % 2 * 4;
         sum = cases::fold(sum, drawn_step(which, &mut map, turn, state));

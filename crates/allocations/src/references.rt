@@ -9,19 +9,27 @@ use buddy::section;
 use buddy::setup::fits;
 use cases::{Case, references};
 use machine::{BugWords, Definition, MapBytes, Refusal};
+use operands::FIELDS;
 use operands::locations::bits_of;
 use operands::packing::{PackedFields, pack_all};
 use operands::references::locate;
-use operands::{FIELDS, Linked};
 use soundness::are_words;
 use table::references::is_reference;
 
-// The first ten fields: halves of words or less, a null one, one outside every block, a whole word.
-const WORDS: [u8; 10] = [0, 0, 0, 0, 1, 1, 2, 0, 127, 0];
-
-const LEFTS: [u8; 10] = [18, 0, 30, 12, 18, 0, 30, 20, 0, 0];
-
-const RIGHTS: [u8; 10] = [35, 17, 35, 17, 35, 17, 35, 10, 35, 35];
+// The first ten fields, each by its word and its leftmost and rightmost bit: halves of words or less, a null one, one outside every
+// block, a whole word.
+const FIELDS_TRIED: [(u8, u8, u8); 10] = [
+    (0, 18, 35),
+    (0, 0, 17),
+    (0, 30, 35),
+    (0, 12, 17),
+    (1, 18, 35),
+    (1, 0, 17),
+    (2, 30, 35),
+    (0, 20, 10),
+    (127, 0, 35),
+    (0, 0, 35),
+];
 
 // The definitions of the first ten fields, in range by their remainders; the others are undefined.
 fn definitions() -> [Definition; 36]
@@ -34,15 +42,13 @@ fn definitions() -> [Definition; 36]
         right: 0,
     };
     let mut all = [none; 36];
-    let mut i = 0;
-    while i < 10 {
+    for (i, (word, left, right)) in FIELDS_TRIED.iter().enumerate() {
         all[i] = Definition {
             defined: true,
-            word: WORDS[i] % 128,
-            left: LEFTS[i] % 36,
-            right: RIGHTS[i] % 36,
+            word: *word % 128,
+            left: *left % 36,
+            right: *right % 36,
         };
-        i += 1;
     }
     all
 }
@@ -82,9 +88,9 @@ fn followed(
 {
     if !fits(
         storage.len(),
-        setup.d as u64,
-        setup.s1 as u64,
-        setup.s2 as u64,
+        u64::from(setup.d),
+        u64::from(setup.s1),
+        u64::from(setup.s2),
     ) {
         return maps::UNSOUND;
     }
@@ -98,22 +104,15 @@ fn followed(
         return 1000;
     }
     match locate(36, bugs, fields, setup, map, storage, v) {
-        Linked::Stopped(why) => refused(why),
-        Linked::At(spot) => {
-            let at = spot.at;
-            cases::fold(folded(at), spot.holds)
-        }
+        Ok(spot) => cases::fold(folded(spot.at), spot.holds),
+        Err(why) => refused(why),
     }
 }
 
 // A map of as many bytes as a state has: those of a shorter one, and zeros.
 fn widened(map: &[u8; maps::BYTES]) -> MapBytes {
     let mut wide = [0u8; 4096];
-    let mut i = 0;
-    while i < maps::BYTES {
-        wide[i] = map[i];
-        i += 1;
-    }
+    wide[..maps::BYTES].copy_from_slice(map);
     wide
 }
 
@@ -131,10 +130,8 @@ fn result(map: &[u8; maps::BYTES], case: Case) -> u64 {
 // The checksum over references, each after a drawn operation on the map.
 pub fn checksum() -> u64 {
     let mut map = maps::fresh(maps::small());
-    let mut case = cases::before_all();
     let mut sum = 0;
-    while case.left > 0 {
-        case = cases::case_after(case);
+    for case in cases::all() {
         sum = cases::fold(sum, maps::drawn_step(0, &mut map, 0, case.a));
         sum = cases::fold(sum, result(&map, case));
     }

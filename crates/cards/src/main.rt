@@ -4,17 +4,17 @@
 
 ghost use Rattle.std.specs.Prelude.{◌≤◌, ◌<◌, length};
 
-use columns::Kept;
+use columns::KeepError;
 use std::io;
 
 // What a call answers as a number: how many it wrote, or the refusal; 31 is a width that is none.
-fn number(kept: Kept) -> u64 {
+fn number(kept: Result<usize, KeepError>) -> u64 {
     match kept {
-        Kept::Count(n) => n as u64,
-        Kept::NoWidth => cases::REFUSED + 31,
-        Kept::WordTooWide => cases::REFUSED + 33,
-        Kept::NotSaved => cases::REFUSED + 34,
-        Kept::OutputShort => cases::REFUSED + 35,
+        Ok(n) => n as u64,
+        Err(KeepError::NoWidth) => cases::REFUSED + 31,
+        Err(KeepError::WordTooWide) => cases::REFUSED + 33,
+        Err(KeepError::NotSaved) => cases::REFUSED + 34,
+        Err(KeepError::OutputShort) => cases::REFUSED + 35,
     }
 }
 
@@ -64,11 +64,9 @@ fn words_of(right: u64, drawn: u64) -> [u64; 48]
 {
     let mut made = [0u64; 48];
     let mut state = drawn;
-    let mut i = 0;
-    while i < 48 {
+    for word in &mut made {
         state = cases::next(state);
-        made[i] = state >> right;
-        i += 1;
+        *word = state >> right;
     }
     made
 }
@@ -94,7 +92,7 @@ fn save(b: u64, a: u64, y: u64) -> u64 {
     let words = damaged(b, a, y);
     let mut bytes = [77u8; 300];
     let answer = save_into(b, &words[..n], room, &mut bytes);
-    cases::fold(answer, cases::bytes(&bytes))
+    cases::fold(answer, cases::fold_all(1, &bytes))
 }
 
 // Up to 40 words saved, one bit damaged in one case of four.
@@ -103,7 +101,7 @@ fn card(b: u64, n: usize, a: u64, y: u64) -> [u8; 300]
 {
     let words = words_of(moved(b), y);
     let mut bytes = [0u8; 300];
-    columns::save(b, &words[..n], &mut bytes);
+    let _ = columns::save(b, &words[..n], &mut bytes);
     bytes[(y / 64 % 288) as usize] ^= ((a / 4 % 4 / 3) as u8) << (a / 16 % 8);
     bytes
 }
@@ -124,7 +122,7 @@ fn load(b: u64, a: u64, y: u64) -> u64 {
     let room = seldom(a / 131072, y / 262144 % 49, 48) as usize % 49;
     let mut words = [77u64; 48];
     let answer = load_into(b, &bytes[..given], wanted, room, &mut words);
-    cases::fold(answer, cases::fold_words(1, &words))
+    cases::fold(answer, cases::fold_all(1, &words))
 }
 
 // What a line's call gives on a case.
@@ -139,20 +137,26 @@ fn result(which: u64, a: u64, x: u64, y: u64) -> u64 {
 
 // The checksum of a line over its cases.
 fn checksum(which: u64) -> u64 {
-    let mut case = cases::before_all();
     let mut sum = 0;
-    while case.left > 0 {
-        case = cases::case_after(case);
+    for case in cases::all() {
         sum = cases::fold(sum, result(which, case.a, case.x, case.state));
     }
     sum
 }
 
+// The names of the lines.
+const NAMES: [&str; 6] = [
+    "save, width 36",
+    "save, width 48",
+    "save, any width",
+    "load, width 36",
+    "load, width 48",
+    "load, any width",
+];
+
 fn main(rt: HostRuntime) -> io::Result<()> {
-    let names =
-        b"save, width 36\nsave, width 48\nsave, any width\nload, width 36\nload, width 48\nload, any width\n";
-    for which in 0..6 {
-        cases::lines::write_line(&rt, names, which, checksum(which) / 2)?;
+    for (name, which) in NAMES.iter().zip(0..) {
+        cases::lines::write_line(&rt, name, checksum(which) / 2)?;
     }
     Ok(())
 }

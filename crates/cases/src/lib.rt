@@ -6,19 +6,26 @@ pub mod lines;
 pub mod references;
 pub mod tables;
 
-ghost use Rattle.std.specs.Prelude.{◌≡◌, ◌-◌, ◌<◌, ◌≤◌};
+ghost use Rattle.std.specs.Prelude.{◌<◌, ◌≤◌};
+ghost use Rattle.std.specs.Iterator.{at_most};
 
 // An answer is a number: a value below this one, or this one and the number of a refusal.
 pub const REFUSED: u64 = 9223372036854775808;
 
-// A case: a number for choices, two values, the generator's state after it, and how many cases come after it.
+// A case: a number for choices, two values, and the generator's state after it.
 #[derive(Clone, Copy)]
 pub struct Case {
     pub a: u64,
     pub x: u64,
     pub y: u64,
     pub state: u64,
-    pub left: u64,
+}
+
+// The cases of a function: the generator's state, and how many are left.
+#[derive(Drop)]
+pub struct Cases {
+    state: u64,
+    left: u64,
 }
 
 // The generator's next state: a shift register of 64 bits.
@@ -43,31 +50,34 @@ fn spread(drawn: u64) -> u64 {
     }
 }
 
-// What stands before the 8,000 cases of a function.
-pub fn before_all() -> Case {
-    Case {
-        a: 0,
-        x: 0,
-        y: 0,
+// The 8,000 cases of a function.
+pub fn all() -> Cases {
+    Cases {
         state: 1966,
         left: 8000,
     }
 }
 
-// The case after another.
-pub fn case_after(case: Case) -> Case
-    requires { 0 < case.left }
-    ensures { result.left ≡ case.left - 1 }
-{
-    let a = next(case.state);
-    let x = next(a);
-    let y = next(x);
-    Case {
-        a: a,
-        x: spread(x),
-        y: spread(y),
-        state: y,
-        left: case.left - 1,
+impl Iterator for Cases {
+    type Item = Case;
+
+    ghost remaining = { λ s. at_most s.left };
+
+    fn next(&mut self) -> Option<Case> {
+        if self.left == 0 {
+            return None;
+        }
+        let a = next(self.state);
+        let x = next(a);
+        let y = next(x);
+        self.state = y;
+        self.left -= 1;
+        Some(Case {
+            a,
+            x: spread(x),
+            y: spread(y),
+            state: y,
+        })
     }
 }
 
@@ -87,42 +97,11 @@ pub fn below(n: u64, drawn: u64) -> u64
     drawn % n
 }
 
-// A byte as a number.
-pub fn wide(byte: u8) -> u64 {
-    byte as u64
-}
-
-// How many steps are left after one more: none if its answer is not that it is running.
-pub fn left_after(left: u64, answer: u64) -> u64
-    requires { 0 < left }
-    ensures { result < left }
-{
-    if answer == 0 { left - 1 } else { 0 }
-}
-
-// Words folded into a checksum.
-pub fn fold_words(before: u64, s: &[u64]) -> u64 {
+// Words or bytes folded into a checksum.
+pub fn fold_all<T: Copy + Into<u64>>(before: u64, numbers: &[T]) -> u64 {
     let mut sum = before;
-    let mut i = 0;
-    while i < s.len() {
-        sum = fold(sum, s[i]);
-        i += 1;
+    for number in numbers {
+        sum = fold(sum, (*number).into());
     }
     sum
-}
-
-// Bytes folded into a checksum.
-pub fn fold_bytes(before: u64, s: &[u8]) -> u64 {
-    let mut sum = before;
-    let mut i = 0;
-    while i < s.len() {
-        sum = fold(sum, wide(s[i]));
-        i += 1;
-    }
-    sum
-}
-
-// The bytes of a slice folded.
-pub fn bytes(s: &[u8]) -> u64 {
-    fold_bytes(1, s)
 }

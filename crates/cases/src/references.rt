@@ -12,11 +12,9 @@ fn addresses(drawn: u64) -> u64 {
 pub fn words_of(drawn: u64, mask: u64) -> [u64; 26] {
     let mut made = [0u64; 26];
     let mut state = drawn;
-    let mut i = 0;
-    while i < 26 {
+    for word in &mut made {
         state = next(state);
-        made[i] = addresses(state) & mask;
-        i += 1;
+        *word = addresses(state) & mask;
     }
     made
 }

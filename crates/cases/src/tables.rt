@@ -1,7 +1,6 @@
 // Drawn values that are references more or less often, and drawn tables.
 ghost use Rattle.std.specs.Prelude.{◌<◌};
 
-use crate::wide;
 use std::num;
 
 // Six base-64 digits from 5 to 36, of which a drawn count is dropped; in half of the cases one bit is then changed.
@@ -27,13 +26,7 @@ const ROWS: [u8; 80] = *b"\
 
 // The eight rows.
 fn good() -> [u64; 80] {
-    let mut t = [0u64; 80];
-    let mut i = 0;
-    while i < 80 {
-        t[i] = num::wrapping_sub_u64(wide(ROWS[i]), 48);
-        i += 1;
-    }
-    t
+    ROWS.map(|digit| u64::from(digit).wrapping_sub(48))
 }
 
 // The eight rows with a code and any number of a row drawn anew.

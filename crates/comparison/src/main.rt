@@ -31,7 +31,7 @@ struct Ended {
     left: u64,
 }
 
-// An answer's number: 0 running, 100 finished, otherwise the refusal.
+// An answer's number: 0 running, 100 finished, otherwise the refusal. laps has it too: no crate below both stands on engine.
 fn answer_number(answer: Answer) -> u64 {
     match answer {
         Answer::Running => 0,
@@ -42,19 +42,15 @@ fn answer_number(answer: Answer) -> u64 {
 
 // Fills a storage with words, most of them too wide for a set-up word.
 fn fill_words(storage: &mut [u64]) {
-    let mut i = 0;
-    while i < storage.len() {
-        storage[i] = cases::next(i as u64 + 1);
-        i += 1;
+    for (i, word) in (1..).zip(storage) {
+        *word = cases::next(i);
     }
 }
 
 // Fills an output with bytes that are no characters.
 fn fill_bytes(output: &mut [u8]) {
-    let mut i = 0;
-    while i < output.len() {
-        output[i] = 128 + (i % 128) as u8;
-        i += 1;
+    for (i, byte) in output.iter_mut().enumerate() {
+        *byte = 128 + (i % 128) as u8;
     }
 }
 
@@ -104,18 +100,15 @@ fn change(state: &mut [u8; STATE], storage: &mut [u64], i: usize, value: u64) {
         state[i] = (value % 256) as u8;
         return;
     }
-    if storage.len() <= i - STATE {
-        return;
+    if let Some(word) = storage.get_mut(i - STATE) {
+        *word = value;
     }
-    storage[i - STATE] = value;
 }
 
 // Carries damages out, each an index and a value.
 fn damage(state: &mut [u8; STATE], storage: &mut [u64], damages: &[u64]) {
-    let mut i = 0;
-    while i < damages.len() / 2 {
-        change(state, storage, damages[2 * i] as usize, damages[2 * i + 1]);
-        i += 1;
+    for pair in damages.chunks_exact(2) {
+        change(state, storage, pair[0] as usize, pair[1]);
     }
 }
 
@@ -140,7 +133,7 @@ fn start(
 
 // Whether a step was not refused.
 fn is_done(answer: u64) -> bool {
-    (answer == 0) | (answer == 100)
+    matches!(answer, 0 | 100)
 }
 
 // The checksum with a step's answer and the place after it.
@@ -195,20 +188,21 @@ fn step_all(
 ) -> Ended {
     let mut answer = 0;
     let mut steps = 1;
-    let mut taken = 0;
-    let mut left = limit;
-    while left > 0 {
+    let mut count = 0;
+    for before in 0..limit {
+        if answer != 0 {
+            break;
+        }
         let last = counted_step(state, table, storage, input, output, steps, counts);
         answer = last.answer;
         steps = last.steps;
-        taken += 1;
-        left = cases::left_after(left, answer);
+        count = before + 1;
     }
     counts::ended(counts, answer, state);
     Ended {
-        answer: answer,
-        count: taken,
-        steps: steps,
+        answer,
+        count,
+        steps,
         left: checksums::left(state, storage, output),
     }
 }
@@ -328,12 +322,9 @@ fn play_all(rt: &impl Print, file: &[u8]) -> io::Result<()> {
     let mut narrow = [0u64; COUNTS];
     let mut wide = [0u64; COUNTS];
     let first = numbers::number_at(file, 0);
-    let cases = first.value;
     let mut at = first.next;
-    let mut which = 0;
-    while which < cases {
+    for which in 0..first.value {
         at = play_at(rt, file, at, which, &mut narrow, &mut wide)?;
-        which += 1;
     }
     let rest = counts::write(rt, &narrow, file, at)?;
     counts::write(rt, &wide, file, rest)?;

@@ -5,8 +5,8 @@
 ghost use Rattle.std.specs.Prelude.{◌<◌, ◌≤◌, length};
 
 use cases::next;
-use recordings::Written;
-use std::{io, num};
+use recordings::CorrectionError;
+use std::io;
 
 // A list's rows besides row 0, and its chain: it goes on by a number of rows, round and round, from the first row to the last.
 #[derive(Clone, Copy)]
@@ -75,7 +75,7 @@ fn next_index(s: Shape, row: u64) -> u64 {
     if rows == 0 {
         return 0;
     }
-    round(rows, num::wrapping_add_u64(row - 1, s.step))
+    round(rows, (row - 1).wrapping_add(s.step))
 }
 
 // A stop: one of a few, or in one list of four any number.
@@ -116,13 +116,11 @@ fn number(s: Shape, row: u64, k: u64, many: bool, drawn: u64) -> u64 {
 fn list_of(s: Shape, many: bool, seed: u64) -> [u64; 48] {
     let mut list = [0u64; 48];
     let mut drawn = seed;
-    let mut i = 0;
-    while i < 48 {
+    for (i, entry) in (0..).zip(&mut list) {
         if i % 4 == 0 {
             drawn = next(drawn);
         }
-        list[i] = number(s, i as u64 / 4, i as u64 % 4, many, drawn);
-        i += 1;
+        *entry = number(s, i / 4, i % 4, many, drawn);
     }
     list
 }
@@ -134,7 +132,7 @@ fn near(rows: u64, x: u64) -> u64 {
         1 => 1,
         2 => 2,
         3 => rows,
-        4 => num::wrapping_add_u64(rows, 1),
+        4 => rows.wrapping_add(1),
         5 => 18446744073709551615,
         6 => x / 16 % 12,
         _ => x,
@@ -163,12 +161,12 @@ fn lent(rows: u64, a: u64) -> usize
 }
 
 // The refusal of an answer, or the count.
-fn told(answer: Written) -> u64 {
+fn told(answer: Result<usize, CorrectionError>) -> u64 {
     match answer {
-        Written::Count(n) => n as u64,
-        Written::BadList => cases::REFUSED + 26,
-        Written::RowTwice => cases::REFUSED + 27,
-        Written::OutputShort => cases::REFUSED + 28,
+        Ok(n) => n as u64,
+        Err(CorrectionError::BadList) => cases::REFUSED + 26,
+        Err(CorrectionError::RowTwice) => cases::REFUSED + 27,
+        Err(CorrectionError::OutputShort) => cases::REFUSED + 28,
     }
 }
 
@@ -206,16 +204,14 @@ fn try_case(a: u64, x: u64, y: u64, figures: &mut [u64; FIGURES]) {
     let mut output = [77u64; 26];
     let answer = write_into(&list[..n], room, &mut output);
     let at = kind(answer);
-    figures[at] = num::wrapping_add_u64(figures[at], 1);
-    figures[0] = cases::fold(figures[0], cases::fold_words(answer, &output));
+    figures[at] = figures[at].wrapping_add(1);
+    figures[0] = cases::fold(figures[0], cases::fold_all(answer, &output));
 }
 
 // All cases.
 fn try_all() -> [u64; FIGURES] {
     let mut figures = [0u64; FIGURES];
-    let mut case = cases::before_all();
-    while case.left > 0 {
-        case = cases::case_after(case);
+    for case in cases::all() {
         try_case(case.a, case.x, case.y, &mut figures);
     }
     figures[0] /= 2;
@@ -266,30 +262,37 @@ fn edge(which: u64) -> u64 {
     output[1]
 }
 
-// Writes the lines of the edges.
-fn write_edges(rt: &impl Print, names: &[u8]) -> io::Result<()> {
-    for which in 0..15 {
-        cases::lines::write_line(rt, names, which, edge(which))?;
-    }
-    Ok(())
-}
+// The names of the edges' lines, and of the figures of all cases.
+const EDGES: [&str; 15] = [
+    "no numbers",
+    "three numbers",
+    "row 0 alone",
+    "row 0 names a row that is missing",
+    "row 0 with a recording",
+    "one record",
+    "two of one day",
+    "an earlier day later in the chain",
+    "the chain from the last row",
+    "a stop again after another",
+    "a row that is its own next",
+    "a loop past the first row",
+    "a next index outside, the chain empty",
+    "room for one stop of two",
+    "a loop, and no room",
+];
 
-// Writes the lines of all cases.
-fn write_figures(rt: &impl Print, names: &[u8]) -> io::Result<()> {
-    let figures = try_all();
-    for i in 0..6 {
-        cases::lines::write_line(rt, names, 15 + i as u64, figures[i])?;
-    }
-    Ok(())
-}
+const NAMES: [&str; FIGURES] = [
+    "all answers",
+    "no stop",
+    "stops",
+    "refusals 26",
+    "refusals 27",
+    "refusals 28",
+];
 
 fn main(rt: HostRuntime) -> io::Result<()> {
-    let names =
-        b"no numbers\nthree numbers\nrow 0 alone\nrow 0 names a row that is missing\nrow 0 with a recording\n\
-        one record\ntwo of one day\nan earlier day later in the chain\nthe chain from the last row\n\
-        a stop again after another\na row that is its own next\na loop past the first row\n\
-        a next index outside, the chain empty\nroom for one stop of two\na loop, and no room\n\
-        all answers\nno stop\nstops\nrefusals 26\nrefusals 27\nrefusals 28\n";
-    write_edges(&rt, names)?;
-    write_figures(&rt, names)
+    for (name, which) in EDGES.iter().zip(0..) {
+        cases::lines::write_line(&rt, name, edge(which))?;
+    }
+    cases::lines::write_lines(&rt, &NAMES, &try_all())
 }

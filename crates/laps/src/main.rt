@@ -6,13 +6,13 @@
 
 ghost use Rattle.std.specs.Prelude.{◌≤◌};
 
-use cases::{fold_words, left_after};
+use cases::fold_all;
 use engine::answers::refusal_number;
 use files::read_file;
 use machine::{Answer, State};
 use states::checksums;
+use std::io;
 use std::rt::Env;
-use std::{io, num};
 use tour::numbers::read_table;
 
 // What is asked for: so many calls of step, or of run up to a limit, on words of a width.
@@ -35,26 +35,17 @@ struct Ended {
 // The number of decimal digits, of which the last thirteen count.
 fn number_of(digits: &[u8]) -> u64 {
     let mut number: u64 = 0;
-    let mut i = 0;
-    while i < digits.len() {
-        number = number % 1000000000000 * 10 + (digits[i] % 16) as u64;
-        i += 1;
+    for digit in digits {
+        number = number % 1000000000000 * 10 + u64::from(digit % 16);
     }
     number
-}
-
-// The lesser of a length and 4,096.
-fn at_most_4096(length: usize) -> usize
-    ensures { (result ≤ length) × (result ≤ 4096) }
-{
-    if length < 4096 { length } else { 4096 }
 }
 
 // What the steps leave folded: bugs and storage.
 fn fold_left(before: u64, state: State, storage: &[u64]) -> u64 {
     let core = state.core;
     let bugs = core.bugs;
-    fold_words(fold_words(before, &bugs), storage)
+    fold_all(fold_all(before, &bugs), storage)
 }
 
 // An answer's number: 0 running, 100 finished, otherwise the refusal.
@@ -77,8 +68,10 @@ fn run_all(
     let mut state = engine::fresh_state(asked.width);
     let mut answer = 0;
     let mut count = 0;
-    let mut left = asked.calls;
-    while left > 0 {
+    for _ in 0..asked.calls {
+        if answer != 0 {
+            break;
+        }
         let ran = engine::run(
             table,
             &mut *storage,
@@ -90,12 +83,11 @@ fn run_all(
         let given = ran.answer;
         state = ran.state;
         answer = answer_number(given);
-        count = num::wrapping_add_u64(count, ran.count);
-        left = left_after(left, answer);
+        count = ran.count.wrapping_add(count);
     }
     Ended {
-        answer: answer,
-        count: count,
+        answer,
+        count,
         sum: fold_left(1, state, storage),
     }
 }
@@ -112,20 +104,21 @@ fn step_all(
     let mut answer = 0;
     let mut sum = 1;
     let mut count = 0;
-    let mut left = asked.calls;
-    while left > 0 {
+    for before in 0..asked.calls {
+        if answer != 0 {
+            break;
+        }
         let stepped = engine::step(table, &mut *storage, input, &mut *output, state);
         let given = stepped.answer;
         let report = stepped.report;
         state = stepped.state;
         answer = answer_number(given);
         sum = checksums::report(sum, report);
-        count = num::wrapping_add_u64(count, 1);
-        left = left_after(left, answer);
+        count = before + 1;
     }
     Ended {
-        answer: answer,
-        count: count,
+        answer,
+        count,
         sum: fold_left(sum, state, storage),
     }
 }
@@ -150,7 +143,7 @@ fn play(rt: &impl Print, asked: Asked, table: &[u64], input: &[u8]) -> io::Resul
 fn play_files(rt: &impl Print, asked: Asked, tab: &[u8], stops: &[u8]) -> io::Result<()> {
     let mut table = [0u64; 8000];
     let count = read_table(tab, &mut table);
-    let given = at_most_4096(stops.len());
+    let given = stops.len().min(4096);
     play(rt, asked, &table[..count], &stops[..given])
 }
 
@@ -175,14 +168,14 @@ fn arguments(rt: &impl Env) -> Asked {
     let stepping = is_step(rt);
     if stepping {
         return Asked {
-            stepping: stepping,
+            stepping,
             limit: 1,
             calls: argument(rt, 2, 0),
             width: (argument(rt, 3, 36) % 256) as u8,
         };
     }
     Asked {
-        stepping: stepping,
+        stepping,
         limit: argument(rt, 2, 0),
         calls: argument(rt, 3, 1),
         width: (argument(rt, 4, 36) % 256) as u8,

@@ -1,8 +1,6 @@
 // Operations 24 to 31 on a generated case: a number for choices, and two values.
 ghost use Rattle.std.specs.Prelude.{◌+◌, ◌≤◌};
 
-use character::{Converted, Packed};
-
 // Refusals 4 and 6.
 const NO_CHARACTER: u64 = cases::REFUSED + 4;
 
@@ -12,10 +10,7 @@ const NO_DIGIT: u64 = cases::REFUSED + 6;
 pub fn to_binary(base: u64, n: usize, v: u64) -> u64
     requires { (base ≤ 64) × (n ≤ 10) }
 {
-    match character::to_binary(base, n, v) {
-        Converted::Value(v) => v,
-        Converted::NotADigit => NO_DIGIT,
-    }
+    character::to_binary(base, n, v).unwrap_or(NO_DIGIT)
 }
 
 // A value printed among bytes that are no characters.
@@ -31,10 +26,7 @@ pub fn printed(at: usize, count: usize, width: usize, v: u64) -> [u8; 160]
 pub fn pack_input(input: &[u8; 160], from: usize, n: usize) -> u64
     requires { (from ≤ 150) × (n ≤ 10) }
 {
-    match character::pack_input(input, from, n) {
-        Packed::Value(v) => v,
-        Packed::TooLarge => NO_CHARACTER,
-    }
+    character::pack_input(input, from, n).unwrap_or(NO_CHARACTER)
 }
 
 // Output and input: a value printed, and a part of that packed again.
@@ -46,7 +38,7 @@ fn stream_result(which: u64, a: u64, v: u64, y: u64) -> u64 {
         v,
     );
     if which == 29 {
-        return cases::bytes(&output);
+        return cases::fold_all(1, &output);
     }
     pack_input(&output, (y % 151) as usize, (a / 128 % 11) as usize)
 }

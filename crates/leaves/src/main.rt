@@ -20,10 +20,8 @@ fn result(which: u64, a: u64, x: u64, y: u64) -> u64 {
 
 // The checksum of a function over its cases.
 fn checksum(which: u64) -> u64 {
-    let mut case = cases::before_all();
     let mut sum = 0;
-    while case.left > 0 {
-        case = cases::case_after(case);
+    for case in cases::all() {
         sum = cases::fold(sum, result(which, case.a, case.x, case.y));
     }
     sum
@@ -31,10 +29,8 @@ fn checksum(which: u64) -> u64 {
 
 // A number whose decimal digits are the last 16 octal ones of a word.
 fn octal(word: u64) -> u64 {
-    let mut left: u64 = 16;
     let mut made = 0;
-    while left > 0 {
-        left -= 1;
+    for left in (0..16_u64).rev() {
         made = made % 1000000000000000 * 10 + (word >> (left * 3)) % 8;
     }
     made
@@ -69,19 +65,59 @@ fn figure(which: u64) -> u64 {
     }
 }
 
+// The names of the lines.
+const NAMES: [&str; 46] = [
+    "power",
+    "low_bits",
+    "add",
+    "subtract",
+    "multiply",
+    "divide",
+    "or",
+    "and",
+    "exclusive_or",
+    "complement",
+    "count_ones",
+    "count_zeros",
+    "leftmost_one",
+    "rightmost_one",
+    "leftmost_zero",
+    "rightmost_zero",
+    "left_shift",
+    "right_shift",
+    "width",
+    "read_field",
+    "kept_bits",
+    "store_field",
+    "holds",
+    "from_binary_octal",
+    "from_binary_decimal",
+    "to_binary, octal",
+    "to_binary, decimal",
+    "blanks_to_zeros",
+    "zeros_to_blanks",
+    "print_into",
+    "pack_input",
+    "is_reference",
+    "names_in",
+    "has_length and check by length",
+    "check",
+    "row_at",
+    "is_usable",
+    "32769 into bits 6-20 of all ones, octal",
+    "32768 - 1 into 15 bits, octal",
+    "2^35 times 3, octal",
+    "607 to decimal, octal",
+    "1000607 to decimal, octal",
+    "zeros to blanks, octal",
+    "eight printed of o60007, octal",
+    "o606060060007 to binary",
+    "o000000060007 to binary",
+];
+
 fn main(rt: HostRuntime) -> io::Result<()> {
-    let names =
-        b"power\nlow_bits\nadd\nsubtract\nmultiply\ndivide\nor\nand\nexclusive_or\ncomplement\n\
-        count_ones\ncount_zeros\nleftmost_one\nrightmost_one\nleftmost_zero\nrightmost_zero\n\
-        left_shift\nright_shift\nwidth\nread_field\nkept_bits\nstore_field\n\
-        holds\nfrom_binary_octal\nfrom_binary_decimal\nto_binary, octal\nto_binary, decimal\n\
-        blanks_to_zeros\nzeros_to_blanks\nprint_into\npack_input\n\
-        is_reference\nnames_in\nhas_length and check by length\ncheck\nrow_at\nis_usable\n\
-        32769 into bits 6-20 of all ones, octal\n32768 - 1 into 15 bits, octal\n2^35 times 3, octal\n\
-        607 to decimal, octal\n1000607 to decimal, octal\nzeros to blanks, octal\neight printed of o60007, octal\n\
-        o606060060007 to binary\no000000060007 to binary\n";
-    for which in 0..46 {
-        cases::lines::write_line(&rt, names, which, figure(which))?;
+    for (name, which) in NAMES.iter().zip(0..) {
+        cases::lines::write_line(&rt, name, figure(which))?;
     }
     Ok(())
 }

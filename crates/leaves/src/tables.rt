@@ -1,17 +1,14 @@
 // References and the table check on a generated case: a number for choices, and two values.
 use cases::tables;
-use table::{Names, Pair, Row, TableCheck, check, references, rows};
+use table::{Names, Pair, Row, TableError, check, references, rows};
 
 // The names folded, the bug first.
 fn taken_apart(n: Names) -> u64 {
     let bug = n.bug;
     let fields = n.fields;
-    let mut i = n.from;
     let mut sum = bug.0;
-    while i < 5 {
-        let name = fields[i];
-        sum = cases::fold(sum, name.0 as u64);
-        i += 1;
+    for name in fields.iter().skip(n.from) {
+        sum = cases::fold(sum, u64::from(name.0));
     }
     sum
 }
@@ -27,9 +24,9 @@ fn names_in(v: u64) -> u64 {
 // What the check answers: the row, or 1,000 for a refusal.
 fn checked(t: &[u64]) -> u64 {
     match check::check_table(36, t) {
-        TableCheck::Lowest(r) => r,
-        TableCheck::BadLength => 1000,
-        TableCheck::NoWidth => 1001,
+        Ok(r) => r,
+        Err(TableError::BadLength) => 1000,
+        Err(TableError::NoWidth) => 1001,
     }
 }
 
@@ -38,7 +35,7 @@ fn by_length(a: u64) -> u64 {
     let zeros = [0u64; 8019];
     let n = (a % 802 * 10 + a / 1024 % 24 / 20 * 9) as usize;
     let part = &zeros[..n];
-    cases::fold(check::has_length(part) as u64, checked(part))
+    cases::fold(u64::from(check::has_length(part)), checked(part))
 }
 
 // The numbers of a pair folded.
@@ -60,9 +57,9 @@ fn folded(row: Row) -> u64 {
 
 // Whether a row can be used as a line, a test and an operation.
 fn usable(t: &[u64], r: usize) -> u64 {
-    let line = check::is_usable(1, 36, t, r) as u64;
-    let test = check::is_usable(2, 36, t, r) as u64;
-    let operation = check::is_usable(3, 36, t, r) as u64;
+    let line = u64::from(check::is_usable(1, 36, t, r));
+    let test = u64::from(check::is_usable(2, 36, t, r));
+    let operation = u64::from(check::is_usable(3, 36, t, r));
     cases::fold(cases::fold(line, test), operation)
 }
 
@@ -80,7 +77,7 @@ fn table_result(which: u64, a: u64, y: u64) -> u64 {
 // What function number `which` gives on a case.
 pub fn result(which: u64, a: u64, x: u64, y: u64) -> u64 {
     match which {
-        31 => references::is_reference(tables::candidate(a, x ^ y)) as u64,
+        31 => u64::from(references::is_reference(tables::candidate(a, x ^ y))),
         32 => names_in(tables::candidate(a, x ^ y)),
         33 => by_length(a),
         _ => table_result(which, a, y),

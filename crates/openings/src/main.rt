@@ -5,8 +5,8 @@
 ghost use Rattle.std.specs.Prelude.{◌<◌, ◌≤◌};
 
 use cases::next;
-use hours::Opening;
-use std::{io, num};
+use hours::BadHours;
+use std::io;
 
 // The opening minute of a drawn entry.
 fn opening(drawn: u64) -> u64
@@ -36,7 +36,7 @@ fn name_of(n: usize, day: u64, drawn: u64) -> u64 {
     if n == 4 {
         return drawn / 1099511627776 % 7;
     }
-    num::wrapping_add_u64(day, drawn / 1099511627776 % 8)
+    day.wrapping_add(drawn / 1099511627776 % 8)
 }
 
 // A number of a drawn entry; a quarter of the exceptions are closed.
@@ -44,8 +44,8 @@ fn number(n: usize, place: usize, day: u64, drawn: u64) -> u64 {
     if place == 0 {
         return name_of(n, day, drawn);
     }
-    if (n == 5) & (drawn >> 62 == 0) {
-        return (place == 4) as u64;
+    if n == 5 && drawn >> 62 == 0 {
+        return u64::from(place == 4);
     }
     open_number(place, drawn)
 }
@@ -56,13 +56,11 @@ fn entries(n: usize, day: u64, seed: u64) -> [u64; 41]
 {
     let mut list = [0u64; 41];
     let mut drawn = seed;
-    let mut i = 0;
-    while i < 41 {
+    for (i, entry) in list.iter_mut().enumerate() {
         if i % n == 0 {
             drawn = next(drawn);
         }
-        list[i] = number(n, i % n, day, drawn);
-        i += 1;
+        *entry = number(n, i % n, day, drawn);
     }
     list
 }
@@ -115,11 +113,10 @@ fn minute_of(a: u64, x: u64) -> u64 {
 }
 
 // An answer as a number: the row, 0 if closed, or the refusal.
-fn told(o: Opening) -> u64 {
-    match o {
-        Opening::Row(r) => r,
-        Opening::Closed => 0,
-        Opening::Refused => cases::REFUSED + 29,
+fn told(opening: Result<Option<u64>, BadHours>) -> u64 {
+    match opening {
+        Ok(row) => row.unwrap_or(0),
+        Err(BadHours) => cases::REFUSED + 29,
     }
 }
 
@@ -148,23 +145,21 @@ fn answer(a: u64, x: u64, y: u64) -> u64 {
 // What a figure counts of an answer: rows, closed, refusals.
 fn counted(which: u64, answer: u64) -> u64 {
     match which {
-        1 => ((answer > 0) & (answer < 800)) as u64,
-        2 => (answer == 0) as u64,
-        _ => (answer > 800) as u64,
+        1 => u64::from(answer > 0 && answer < 800),
+        2 => u64::from(answer == 0),
+        _ => u64::from(answer > 800),
     }
 }
 
 // The checksum of all answers, or how many are of a kind.
 fn over_all(which: u64) -> u64 {
-    let mut case = cases::before_all();
     let mut sum = 0;
-    while case.left > 0 {
-        case = cases::case_after(case);
+    for case in cases::all() {
         let answer = answer(case.a, case.x, case.y);
         sum = if which == 0 {
             cases::fold(sum, answer)
         } else {
-            num::wrapping_add_u64(sum, counted(which, answer))
+            sum.wrapping_add(counted(which, answer))
         };
     }
     sum
@@ -206,14 +201,29 @@ fn figure(which: u64) -> u64 {
     }
 }
 
+// The names of the lines.
+const NAMES: [&str; 16] = [
+    "day 0, a Saturday, minute 0",
+    "day 0, minute 1439",
+    "day 0, minute 1440",
+    "day 2, a Monday, minute 59",
+    "day 2, minute 60",
+    "day 2, minute 119",
+    "day 2, minute 120",
+    "day 7, closed, minute 0",
+    "day 14, minute 0",
+    "day 2^64 - 1, minute 1438",
+    "day 2^64 - 1, minute 1439",
+    "day 2^64 - 8, a Sunday, minute 1",
+    "all answers",
+    "rows",
+    "closed",
+    "refusals",
+];
+
 fn main(rt: HostRuntime) -> io::Result<()> {
-    let names = b"day 0, a Saturday, minute 0\nday 0, minute 1439\nday 0, minute 1440\n\
-        day 2, a Monday, minute 59\nday 2, minute 60\nday 2, minute 119\nday 2, minute 120\n\
-        day 7, closed, minute 0\nday 14, minute 0\n\
-        day 2^64 - 1, minute 1438\nday 2^64 - 1, minute 1439\nday 2^64 - 8, a Sunday, minute 1\n\
-        all answers\nrows\nclosed\nrefusals\n";
-    for which in 0..16 {
-        cases::lines::write_line(&rt, names, which, figure(which))?;
+    for (name, which) in NAMES.iter().zip(0..) {
+        cases::lines::write_line(&rt, name, figure(which))?;
     }
     Ok(())
 }

@@ -8,7 +8,7 @@ ghost use Rattle.std.specs.Prelude.{◌<◌, ◌≤◌};
 use crate::STATE;
 use crate::numbers::{number, number_at, write_text};
 use machine::Store;
-use std::{io, num};
+use std::io;
 
 // How many counts there are for a width: 36 operations, then from 36 on tests, from 50 modes, from 59 refusals, from 81 set-ups,
 // from 89 stores, from 93 refusal 17 without and with free blocks, and 95 refusal 31.
@@ -21,9 +21,8 @@ const MAP_END: usize = 6675;
 
 // One more of count i.
 fn add(counts: &mut [u64; COUNTS], i: u64) {
-    if i < 96 {
-        let at = i as usize;
-        counts[at] = num::wrapping_add_u64(counts[at], 1);
+    if let Some(count) = counts.get_mut(i as usize) {
+        *count = count.wrapping_add(1);
     }
 }
 
@@ -34,22 +33,15 @@ fn number_of(table: &[u64], row: u64, i: usize) -> u64
     number(table, (row % 65536) as usize * 10 + i)
 }
 
-// 1 if it is so, otherwise 0.
-fn bit(so: bool) -> u64
-    ensures { result ≤ 1 }
-{
-    if so { 1 } else { 0 }
-}
-
 // The step of a line's tests.
 fn tests(counts: &mut [u64; COUNTS], table: &[u64], line: u64, satisfied: bool) {
     let mode = number_of(table, line, 2) % 8;
-    add(counts, 49 + 2 * mode + bit(satisfied));
+    add(counts, 49 + 2 * mode + u64::from(satisfied));
     let test = number_of(table, line, 4);
     let code = number_of(table, test, 2) % 8;
     let held = satisfied == (mode <= 2);
     if (mode != 0) & (number_of(table, test, 1) == 0) {
-        add(counts, 34 + 2 * code + bit(held));
+        add(counts, 34 + 2 * code + u64::from(held));
     }
 }
 
@@ -71,7 +63,7 @@ fn set_up_count(d: u64) -> u64 {
 pub fn store_count(store: Store, width: u64) -> u64 {
     if store.address == 0 {
         92
-    } else if (store.left == 0) & (store.right as u64 + 1 == width) {
+    } else if (store.left == 0) & (u64::from(store.right) + 1 == width) {
         90
     } else {
         91
@@ -80,17 +72,14 @@ pub fn store_count(store: Store, width: u64) -> u64 {
 
 // Whether an operation always makes a store into its first operand.
 fn stores(code: u64) -> bool {
-    match code {
-        6 | 8..=24 | 26..=31 | 33 => true,
-        _ => false,
-    }
+    matches!(code, 6 | 8..=24 | 26..=31 | 33)
 }
 
 // The step of an operation; `store` is its first store's count if that goes to a field.
 fn operation(counts: &mut [u64; COUNTS], table: &[u64], row: u64, store: u64) {
     let code = number_of(table, row, 2) % 64;
     let first = number_of(table, row, 5);
-    add(counts, num::wrapping_sub_u64(code, 1));
+    add(counts, code.wrapping_sub(1));
     if code == 1 {
         add(counts, set_up_count(first));
     }
@@ -119,20 +108,13 @@ pub fn done(
 
 // Whether a block of a state's map is free.
 fn has_free(state: &[u8; STATE]) -> bool {
-    let mut i = MAP;
-    while i < MAP_END {
-        if state[i] % 2 == 1 {
-            return true;
-        }
-        i += 1;
-    }
-    false
+    state[MAP..MAP_END].iter().any(|byte| byte % 2 == 1)
 }
 
 // How a case ends: with a refusal, or not (0 or 100).
 pub fn ended(counts: &mut [u64; COUNTS], answer: u64, state: &[u8; STATE]) {
     if answer == 17 {
-        add(counts, 93 + bit(has_free(state)));
+        add(counts, 93 + u64::from(has_free(state)));
     }
     if answer == 31 {
         add(counts, 95);
@@ -151,13 +133,10 @@ pub fn write(
     from: usize,
 ) -> io::Result<usize> {
     let mut at = from;
-    let mut i = 0;
-    while i < 96 {
+    for count in counts {
         let length = number_at(file, at);
         at = write_text(rt, file, length.next, length.value)?;
-        let count = counts[i];
         println!(rt; ": {count}")?;
-        i += 1;
     }
     Ok(at)
 }

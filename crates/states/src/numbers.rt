@@ -1,8 +1,8 @@
 // The input taken apart: numbers in groups of seven bits, and the parts of a case.
 ghost use Rattle.std.specs.Prelude.{◌≤◌};
 
-use cases::lines;
 use std::io;
+use std::io::Write;
 
 // The most numbers of a case.
 pub const NUMBERS: usize = 16384;
@@ -29,21 +29,22 @@ pub struct Case {
 
 // The number that starts at a place: groups of seven bits, the lowest first, every byte but the last with 128 added.
 pub fn number_at(file: &[u8], from: usize) -> Read {
-    let mut at = from;
-    let mut value: u64 = 0;
+    let mut value = 0;
     let mut shift: u64 = 0;
-    while at < file.len() {
-        let byte = cases::wide(file[at]);
-        at += 1;
+    for at in from..file.len() {
+        let byte = u64::from(file[at]);
         value |= (byte % 128) << shift;
         shift = (shift + 7) % 64;
         if byte < 128 {
-            break;
+            return Read {
+                value,
+                next: at + 1,
+            };
         }
     }
     Read {
-        value: value,
-        next: at,
+        value,
+        next: from.max(file.len()),
     }
 }
 
@@ -52,12 +53,10 @@ pub fn read_numbers(file: &[u8], from: usize, count: usize, numbers: &mut [u64; 
     requires { count ≤ 16384 }
 {
     let mut at = from;
-    let mut i = 0;
-    while i < count {
+    for number in &mut numbers[..count] {
         let read = number_at(file, at);
-        numbers[i] = read.value;
+        *number = read.value;
         at = read.next;
-        i += 1;
     }
     at
 }
@@ -71,24 +70,20 @@ pub fn write_text(rt: &impl Print, file: &[u8], from: usize, length: u64) -> io:
         return Ok(from);
     }
     let end = from + length as usize;
-    lines::write_bytes(rt, &file[from..end])?;
+    io::writer(rt).write_all(&file[from..end])?;
     Ok(end)
 }
 
 // Number i, or 0 if there is none.
 pub fn number(numbers: &[u64], i: usize) -> u64 {
-    if i < numbers.len() { numbers[i] } else { 0 }
+    numbers.get(i).copied().unwrap_or(0)
 }
 
 // A number, or the most that it may be.
 pub fn within(number: u64, most: usize) -> usize
     ensures { result ≤ most }
 {
-    if number < most as u64 {
-        number as usize
-    } else {
-        most
-    }
+    number.min(most as u64) as usize
 }
 
 // The lengths and counts of a case.
@@ -109,9 +104,8 @@ pub fn case_of(numbers: &[u64]) -> Case
 
 // Numbers below 256 as bytes; zeros where there are fewer numbers than bytes.
 pub fn to_bytes(numbers: &[u64], bytes: &mut [u8]) {
-    let mut i = 0;
-    while i < bytes.len() {
-        bytes[i] = (number(numbers, i) % 256) as u8;
-        i += 1;
+    bytes.fill(0);
+    for (byte, number) in bytes.iter_mut().zip(numbers) {
+        *byte = (number % 256) as u8;
     }
 }

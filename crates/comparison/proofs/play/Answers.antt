@@ -1,6 +1,5 @@
 -- `comparison::play` meets its contract: each call leaves storage and output as long as they were. Assumes nothing.
 use mathlib.Core.Path.{◌∙◌}
-use borrow.Author.Rules.{rules}
 use Rattle.comparison.proofs.play.Goals as goal
 
 pub shape_of-storage : goal.shape_of-storage

@@ -14,4 +14,4 @@ slice_bounds-play-end g c =
     sym (length-take-le _ _ (omega (arith, table_most c.args.tab.now, c.read_table-count.ensures.value)))
 
 pub slice_bounds-play-end-2 : goal.slice_bounds-play-end-2
-slice_bounds-play-end-2 g c = sym (length-take-le _ _ (omega (arith, c.at_most_4096-given.ensures)))
+slice_bounds-play-end-2 g c = sym (length-take-le _ _ (omega (arith, c.min-given.ensures)))

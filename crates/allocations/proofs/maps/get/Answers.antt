@@ -16,13 +16,13 @@ first-mem (x ∷ xs) a e = let same : a ≡ x = cc in Memᴰ.head same
 pub level_of-j-requires : goal.level_of-j-requires
 level_of-j-requires c = rw c.top_of.ensures (top_le _)
 
-pub lowest_run-found-requires : goal.lowest_run-found-requires
-lowest_run-found-requires c = (search rules, search rules, rw (c.level_of-j.ensures, c.top_of.ensures) (level_le _ _))
+pub lowest_run-requires : goal.lowest_run-requires
+lowest_run-requires c = (search rules, search rules, rw (c.level_of-j.ensures, c.top_of.ensures) (level_le _ _))
 
 pub deliver-requires : goal.deliver-requires
 unfolding first_of
 deliver-requires c =
-    let found = sym (told_first _ c.lowest_run-found.ensures) ∙ c.in-At.is in
+    let found = sym (told_first _ c.lowest_run.ensures) ∙ c.in-Some.is in
     let run = runs_sound _ _ _ (size_pos _) (first-mem _ _ found) in (
       search rules,
       search rules,

@@ -1,5 +1,5 @@
 -- `near` rounds an address down. The measure is how far the rounding is from 128. Assumes nothing.
-use Rattle.std.proofs.Common.{◌-◌, ◌<◌, div-mul-le_self, arith, rules}
+use Rattle.std.proofs.Common.{div-mul-le_self, arith}
 use Rattle.allocations.proofs.maps.near.Goals as goal
 
 pub overflow_mul-rounded : goal.overflow_mul-rounded

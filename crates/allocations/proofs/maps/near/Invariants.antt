@@ -1,4 +1,4 @@
-use Rattle.std.proofs.Common.{◌-◌, ◌<◌, div-mul-le_self, arith, rules}
+use Rattle.std.proofs.Common.{◌-◌, ◌<◌}
 use Rattle.allocations.proofs.maps.near.Given as goal
 
 abbrev pub invariant-loop-n : goal.invariant-loop-n

@@ -1,5 +1,5 @@
 -- `allocations::references::definitions` meets its contract. What is set is in range; the measure is the fields left. Assumes nothing.
-use Rattle.std.proofs.Common.{◌≡◌, ℕ, ◌-◌, ◌%◌, true, refl, arith, rules, lt-ltb, le-leb}
+use Rattle.std.proofs.Common.{◌≡◌, ℕ, ◌%◌, true, refl, arith, lt-ltb, le-leb}
 use Rattle.machine.specs.Sound.{every, is_definition, in_range}
 use Rattle.machine.proofs.Every.{every_set}
 use Rattle.allocations.proofs.references.definitions.Goals as goal

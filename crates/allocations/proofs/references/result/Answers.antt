@@ -1,5 +1,5 @@
 -- `allocations::references::result` meets its contract: the packed definitions are those made. Assumes nothing.
-use Rattle.std.proofs.Common.{◌≡◌, true, List, sym, subst, rules}
+use Rattle.std.proofs.Common.{◌≡◌, true, List, sym, subst}
 use Rattle.machine.specs.declared.Definition.{Definition}
 use Rattle.machine.specs.Sound.{every, is_definition}
 use Rattle.allocations.proofs.references.result.Goals as goal

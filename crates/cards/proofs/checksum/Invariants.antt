@@ -1,9 +1,0 @@
-use native.Mathlib.Omega.{arith}
-use borrow.Author.Rules.{rules}
-use Rattle.cards.proofs.checksum.Given as goal
-
-abbrev pub invariant-loop-case : goal.invariant-loop-case
-invariant-loop-case l = Unit {0}
-
-abbrev pub decreases-loop-case : goal.decreases-loop-case
-decreases-loop-case l = l.case.left

@@ -1,7 +1,0 @@
-use Rattle.corrections.proofs.try_all.Given as goal
-
-abbrev pub invariant-loop-case : goal.invariant-loop-case
-invariant-loop-case l = Unit {0}
-
-abbrev pub decreases-loop-case : goal.decreases-loop-case
-decreases-loop-case l = l.case.left
