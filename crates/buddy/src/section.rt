@@ -138,7 +138,7 @@ fn whole_trees(k: u8, before: usize, from: usize, end: usize, map: &[u8]) -> Who
     Whole { at: i, count }
 }
 
-// One more than the number of blocks in so many trees of the k-th size, 0 if one is broken.
+// One more than the number of blocks in so many trees of the k-th size, 0 if one is broken. The definition has that 0.
 fn all_blocks(k: u8, count: usize, map: &[u8]) -> usize
     requires { (k ≤ 7) × (count ≤ 65536) × (count * size k ≤ 65536) × (count * size k ≤ length map.now) }
     ensures { result ≡ all_counted k count 1 map.now }
@@ -182,7 +182,7 @@ pub fn keeps_section(setup: SetUp, map: &[u8]) -> bool
     (blocks == 1 + marks_of(&map[..end])) & zero_from(end, map)
 }
 
-// The size of the live block of which a byte is the tag; 0 if it is none.
+// The size of the live block of which a byte is the tag; 0 if it is none, as sizes in the definitions are, here and below.
 fn tag_size(tag: u8) -> u64
     ensures { result ≡ tag_size tag }
 {

@@ -76,8 +76,8 @@ fn starts_block(k: u8, i: usize, bytes: &[u8]) -> bool
     !is_rest(tag, n, i, bytes)
 }
 
-// How many blocks a tree of the k-th size has, counted one after the other, 0 if one breaks the section. Bytes between them are not
-// looked at.
+// How many blocks a tree of the k-th size has, counted one after the other, 0 if one breaks the section, as the definition
+// has it. Bytes between them are not looked at.
 pub(crate) fn count_blocks(k: u8, bytes: &[u8]) -> usize
     requires { (k ≤ 7) × (length bytes.now ≡ size k) }
     ensures { result ≡ counted k bytes.now }
@@ -135,7 +135,8 @@ fn is_joined(k: u8, j: u8, at: usize, tags: &[u8]) -> bool
     tags[start + start + n - at] == free_tag(j)
 }
 
-// Frees a live block of a tree: as long as the other half of the block around it is free too, that block is freed instead.
+// Frees a live block of a tree: as long as the other half of the block around it is free too, that block is freed instead. It goes up
+// by levels, and the test asks the tree at each: no range has them.
 pub(crate) fn free_up(k: u8, level: u8, offset: usize, tags: &mut [u8])
     requires { (k ≤ 7) × (length tags.old ≡ size k) × Rising k level offset tags.old }
     ensures { (new : List ℕ) → Rises k level offset tags.old new → tags.new ≡ new }

@@ -110,7 +110,8 @@ fn put_bytes(bytes: &mut [u8], to: usize, n: usize, all: u64)
     }
 }
 
-// Writes the bytes of a group: those of the first bits where the width is no multiple of eight, and then eight at a time.
+// Writes the bytes of a group: those of the first bits where the width is no multiple of eight, and then eight at a time,
+// by a count of eights: with step_by(8) it took one in a hundred instructions more.
 fn save_group(b: u64, group: &[u64], bytes: &mut [u8], to: usize)
     requires { (b ≤ 48) × (length group.now ≡ 8) × (to + b ≤ length bytes.old) }
     ensures { bytes.new ≡ sets bytes.old to (turned b group.now) }

@@ -1,4 +1,4 @@
-// Words of the storage: zeroed, and copied.
+// Words of the storage: zeroed, and copied. A call of the library each, with what it leaves as the definitions have it.
 ghost use Rattle.std.specs.Prelude.{◌≡◌, ◌+◌, ◌≤◌, ◌⊎◌, length, take, drop, replicate};
 ghost use Rattle.machine.specs.Storage.{placed};
 

@@ -6,7 +6,7 @@ ghost use Rattle.defined.specs.Kinds.{names_kind, line_names, operation_names, r
 use table::rows::row_at;
 use table::{Row, codes, rows};
 
-// The kind of row r, 0 where there is no such row.
+// The kind of row r, 0 where there is no such row, as a row that the definitions read there.
 pub fn kind_at(table: &[u64], r: u64) -> u64
     ensures { result ≡ (row_at table.now r).kind }
 {

@@ -49,7 +49,7 @@ impl Rounds {
         walk_line(table, l, x, &mut self.sets);
     }
 
-    // Every such line, once.
+    // Every such line, once. A loop here, in walk_rests and in marks: a closure that changes what it captures would be no plainer.
     fn walk_lines(&mut self, table: &Table)
         ensures { self.new ≡ lines_walked table.now.numbers.now self.old }
     {

@@ -180,6 +180,7 @@ pub fn walk(
     let mut map = state.map;
     let mut fields = [0u32; machine::FIELDS];
     pack_all(definitions, &mut fields);
+    // the count of steps is what a run tells: they end by a step, not by it
     let mut count: u64 = 0;
     loop {
         count += 1;

@@ -68,7 +68,7 @@ pub fn extend(storage: &mut [u64], state: State, last: u64) -> Extended
     }
 }
 
-// The number of an answer: 0 where nothing is refused.
+// The number of an answer: 0 where nothing is refused. C is told it.
 #[tactic(auto, unfolding(machine::specs::Extend::told_extension, word::specs::Told::number))]
 pub fn number_of(answer: Result<(), ExtensionError>) -> u64
     ensures { result ≡ number (told_extension answer) }

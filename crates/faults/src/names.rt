@@ -50,7 +50,7 @@ pub fn key_of(w: &[u8]) -> u64
     key
 }
 
-// The row beside a number, 0 where there is none.
+// The row beside a number, 0 where there is none. The definition has that 0.
 fn row_beside(known: &[Label], key: u64) -> u64
     ensures { result ≡ beside known.now key }
 {

@@ -44,8 +44,8 @@ pub fn read_file(rt: &impl Files, name: &[u8], bytes: &mut [u8]) -> usize
     }
 }
 
-// The word after the program's name, and how long it is, 0 where there is none. One that is empty or too long counts as eight
-// characters.
+// The word after the program's name, and how long it is, 0 where there is none: an empty slice then. One that is empty or too long
+// counts as eight characters.
 pub fn first_word(rt: &impl Env, word: &mut [u8; 8]) -> usize
     ensures { IsPrefixLen result word.new }
 {

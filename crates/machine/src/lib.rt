@@ -88,7 +88,7 @@ pub struct Definition {
     pub right: u8,
 }
 
-// A stack: the first count entries are used.
+// A stack: the first count entries are used. No Vec: there is no heap, and all entries are bytes of the state that C lends.
 #[derive(Clone, Copy)]
 pub struct Stack<T> {
     pub entries: [T; STACK],

@@ -184,7 +184,8 @@ pub fn locate_through(
 }
 
 // Where a reference of more than a bug leads: from its bug along the fields, up to the first link that is refused. Of the set-up it
-// is told the first address alone, so the promise is of every set-up that can be read with it.
+// is told the first address alone, so the promise is of every set-up that can be read with it. No one loop with locate_through:
+// nearly every step takes this one, which looks at no delivery.
 fn follow(
     b: u64,
     bugs: &BugWords,

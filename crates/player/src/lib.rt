@@ -233,7 +233,7 @@ pub extern "C" fn l6_check(width: u64, table: &[u64], row: &mut u64) -> u64
     }
 }
 
-// What is wrong with a state that blocks are asked of, 0 where nothing is.
+// What is wrong with a state that blocks are asked of, 0 where nothing is: the number that C is told.
 fn state_fault(state: &[u8]) -> u64
     ensures { result ≡ state_fault state.now }
 {

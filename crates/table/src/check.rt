@@ -257,7 +257,7 @@ pub fn is_usable(kind: u64, b: u64, table: &[u64], r: usize) -> bool
     well_formed_as(kind, b, rows as u64, r as u64, rows::row_at(table, r))
 }
 
-// The lowest ill-formed row of words of b bits, 0 if none.
+// The lowest ill-formed row of words of b bits, 0 if none: document 01's answer, which C is given as it is.
 pub fn lowest_ill_formed(b: u64, table: &[u64]) -> u64
     ensures { result ≡ lowest_from b table.now 1 (rows table.now - 1) }
 {

@@ -44,7 +44,8 @@ pub fn is_reference(v: u64) -> bool
     is_name(A, rest)
 }
 
-// The names of a reference, the last one first found.
+// The names of a reference, the last one first found. It is no one loop with that above, which judges a number: this one takes a
+// judged one apart, and its place steps while digits are taken off.
 pub fn names_in(v: u64) -> Names
     requires { is_reference v ≡ true }
     ensures { (names_of result ≡ reference_of v) × (length result.fields ≡ 5) }

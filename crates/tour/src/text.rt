@@ -1,4 +1,5 @@
 // The two lines that tourrun prints, put before a place of a buffer, last character first. Each function returns where it starts.
+// No Display: there is no heap, and the contracts have the bytes, here and in the crates above that print so.
 ghost use Rattle.std.specs.Prelude.{◌≡◌, ◌∷◌, [], ◌+◌, ◌-◌, ◌*◌, ◌/◌, ◌%◌, ◌≤◌, ◌<◌, length};
 ghost use Rattle.tour.specs.Tour.{codes_line, octals, decimal, digits_within, answer_text, last_line, lines};
 ghost use Rattle.tour.specs.Put.{put_before};

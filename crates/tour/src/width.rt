@@ -15,7 +15,7 @@ fn width_of_two(x: u8, y: u8) -> u64
     0
 }
 
-// Of the word after the program's name: 36 where there is none, 0 where it is no width.
+// Of the word after the program's name: 36 where there is none, 0 where it is no width, which is refused where a width is.
 pub fn width_of(word: &[u8]) -> u64
     ensures { result ≡ width_of word.now }
 {

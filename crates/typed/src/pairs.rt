@@ -27,7 +27,7 @@ fn gives_name(kind: Kind) -> bool
     matches!(kind, Kind::Name | Kind::Definition)
 }
 
-// The name that arguments give in a form, 0 where none does.
+// The name that arguments give in a form, 0 where none does: the number that its row then has.
 pub fn name_in(form: &Form, s: &[u8]) -> u64
     ensures { result ≡ name_in (as_form form.now).arguments (split s.now) }
 {

@@ -100,7 +100,7 @@ pub fn value_from(kind: Kind, before: u64, w: &[u8]) -> u64
     v
 }
 
-// The last byte of a word, 0 where there is none.
+// The last byte of a word, 0 where there is none. The definition has that 0.
 pub fn last_byte(w: &[u8]) -> u8
     ensures { result ≡ last_byte_of w.now }
 {

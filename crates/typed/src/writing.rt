@@ -51,7 +51,7 @@ fn put_row(table: &mut [u64], row: usize, made: Row)
     put_numbers(&mut table[at..end], made);
 }
 
-// The row that comes next, 0 where none does.
+// The row that comes next, 0 where none does: the number that a row then has.
 fn following(last: bool, row: usize) -> u64
     ensures { result ≡ cond last 0 row }
 {
