@@ -6,7 +6,7 @@ pub mod lines;
 pub mod references;
 pub mod tables;
 
-ghost use Rattle.std.specs.Prelude.{◌<◌, ◌≤◌};
+ghost use Rattle.std.specs.Prelude.{◌≡◌, ◌<◌, ◌≤◌};
 ghost use Rattle.std.specs.Iterator.{at_most};
 
 // An answer is a number: a value below this one, or this one and the number of a refusal.
@@ -51,7 +51,10 @@ fn spread(drawn: u64) -> u64 {
 }
 
 // The 8,000 cases of a function.
-pub fn all() -> Cases {
+pub fn all() -> Cases
+    ensures start { result.state ≡ 1966 }
+    ensures count { result.left ≡ 8000 }
+{
     Cases {
         state: 1966,
         left: 8000,
