@@ -148,7 +148,7 @@ impl Labels<'_> {
 
     // The labels that a part of the text uses, that are not known and that lines of the text declare, as many as there is room
     // for: how many.
-    pub fn resolve(&self, part: &[u8], found: &mut [u64]) -> usize
+    fn resolve(&self, part: &[u8], found: &mut [u64]) -> usize
         ensures { (result ≤ length found.new)
             × ((length found.new ≡ length found.old)
             × Found self.now.b self.now.text.now (take result found.new)) }
@@ -173,7 +173,7 @@ impl Labels<'_> {
 
     // The labels found, and others from an operation on where it calls one that is not among them. The operation closes at a
     // place of its line's part.
-    pub fn renew(&self, part: &[u8], close: usize, found: &mut [u64], n: usize) -> usize
+    pub(crate) fn renew(&self, part: &[u8], close: usize, found: &mut [u64], n: usize) -> usize
         requires { (1 ≤ close) × ((close < length part.now) × (n ≤ length found.old)) }
         ensures { (result ≤ length found.new)
             × ((length found.new ≡ length found.old)
