@@ -174,7 +174,11 @@ pub fn locate_through(
         let j = name.0 as usize;
         let pointer = spot.holds;
         let size = size_after(setup, map, ahead.address, ahead.size, pointer);
-        let at = link(b, setup.s1, storage, unpack(fields[j]), size, pointer)?.at;
+        let answer = link(b, setup.s1, storage, unpack(fields[j]), size, pointer);
+        let Ok(next) = answer else {
+            return answer;
+        };
+        let at = next.at;
         spot = Spot {
             at,
             holds: contents_after(b, bugs, setup.s1, storage, ahead, at),
@@ -223,7 +227,11 @@ fn follow(
         let name = name_before(value, left);
         let j = name.0 as usize;
         let size = size_at(s1, map, spot.holds);
-        spot = link(b, s1, storage, unpack(fields[j]), size, spot.holds)?;
+        let answer = link(b, s1, storage, unpack(fields[j]), size, spot.holds);
+        let Ok(next) = answer else {
+            return answer;
+        };
+        spot = next;
     }
     Ok(spot)
 }

@@ -15,7 +15,7 @@ pub struct Outcome {
     pub next: u64,
 }
 
-// What a step does: the place to go to and the action there, or why it is refused. An enum, and no Result of a struct: that takes 5 to 8
+// What a step does: the place to go to and the action there, or why it is refused. An enum, and no Result of a struct: that takes 4 to 8
 // in 100 instructions more at each step of a run.
 #[derive(Clone, Copy)]
 pub enum Step {

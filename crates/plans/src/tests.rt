@@ -115,12 +115,20 @@ pub fn satisfied(
         mode (rows table.now) first) }
 {
     let mut r = first;
-    while r != 0 {
-        let test = test_at(known, bugs, fields, map, storage, table, r)?;
-        if test.holds == settling(mode) {
-            return Ok(settled_as(mode));
+    let outcome = loop {
+        if r == 0 {
+            break Ok(!settled_as(mode));
         }
-        r = test.next;
-    }
-    Ok(!settled_as(mode))
+        let answer = test_at(known, bugs, fields, map, storage, table, r);
+        match answer {
+            Ok(test) => {
+                if test.holds == settling(mode) {
+                    break Ok(settled_as(mode));
+                }
+                r = test.next;
+            }
+            Err(q) => break Err(q),
+        }
+    };
+    outcome
 }

@@ -2,9 +2,7 @@
 -- what the first links leave to follow leads where the whole reference does, from a spot that can be read. The measure is what is left.
 -- Assumes nothing.
 use native.Mathlib.Omega.{arith}
-use mathlib.Core.Path.{refl, sym, ap, ◌∙◌}
-use Rattle.operands.specs.Reading.{told_linked}
-use Rattle.operands.proofs.Answers.{exits}
+use mathlib.Core.Path.{refl, ◌∙◌}
 use Rattle.operands.proofs.Follows.{followed_first, followed_all, followed_last, followed_next, followed_stopped, name_left}
 use Rattle.operands.proofs.Follows.{one_field, one_name, link_seen, lying_seen}
 use Rattle.operands.proofs.Unpacking.{unpacked_at}
@@ -62,17 +60,16 @@ name_before-name-requires c =
 pub bounds-fields-j-in-loop-left : goal.bounds-fields-j-in-loop-left
 bounds-fields-j-in-loop-left c = c.name_before-name.ensures.1
 
-pub link-requires-in-loop-left : goal.link-requires-in-loop-left
-link-requires-in-loop-left c =
+pub link-answer-requires : goal.link-answer-requires
+link-answer-requires c =
     let (_, _, h) = c.requires.0 in
     (h.width, lying_seen _ _ h _ (c.unpack-in-loop-left.ensures ∙ unpacked_at _ _) _ c.size_at-size-in-loop-left.ensures)
 
-pub returns-in_err-spot : goal.returns-in_err-spot
-returns-in_err-spot c =
-    λ d s2 h. ap told_linked (exits c.from_residual.ensures.1 ∙ sym c.in_err-spot.was) ∙ followed_stopped _ _ _
-    (c.loop-left.invariant d s2 h) (omega arith) c.name_before-name.ensures.0
+pub returns-in_default : goal.returns-in_default
+returns-in_default c =
+    λ d s2 h. followed_stopped _ _ _ (c.loop-left.invariant d s2 h) (omega arith) c.name_before-name.ensures.0
     (link_seen _ _ h _ (c.unpack-in-loop-left.ensures ∙ unpacked_at _ _) _ c.size_at-size-in-loop-left.ensures
-    c.link-in-loop-left.ensures) c.in_err-spot.was
+    c.link-answer.ensures) c.in_default.is
 
 pub loop-left-smaller : goal.loop-left-smaller
 loop-left-smaller c =
@@ -84,7 +81,7 @@ pub loop-left-preserved : goal.loop-left-preserved
 loop-left-preserved c =
     λ d s2 h. followed_next _ _ _ (c.loop-left.invariant d s2 h) (omega arith) c.name_before-name.ensures.0
     (link_seen _ _ h _ (c.unpack-in-loop-left.ensures ∙ unpacked_at _ _) _ c.size_at-size-in-loop-left.ensures
-    c.link-in-loop-left.ensures) h c.in_ok-spot.was
+    c.link-answer.ensures) h c.in-Ok.is
 
 pub returns : goal.returns
 returns c = λ d s2 h. followed_all _ _ _ (c.loop-left.invariant d s2 h) (omega arith)

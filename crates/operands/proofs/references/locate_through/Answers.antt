@@ -4,7 +4,7 @@ use native.Mathlib.Omega.{arith}
 use mathlib.Core.Path.{sym, ap, ◌∙◌}
 use Rattle.operands.specs.Reading.{told_linked}
 use Rattle.operands.specs.Through.{through, delivered}
-use Rattle.operands.proofs.Answers.{at_is, stopped_is, exits}
+use Rattle.operands.proofs.Answers.{at_is, stopped_is}
 use Rattle.operands.proofs.Follows.{followed_first, followed_all, name_left, followed_at, followed_refused}
 use Rattle.operands.proofs.Follows.{link_reached}
 use Rattle.operands.proofs.Through.{delivery_low, delivery_lies, through_readable, through_reached, through_contents}
@@ -39,20 +39,20 @@ size_after-size-requires c =
 pub bounds-fields-j : goal.bounds-fields-j
 bounds-fields-j c = c.name_before-name.ensures.1
 
-pub link-requires : goal.link-requires
-link-requires c = (
+pub link-answer-requires : goal.link-answer-requires
+link-answer-requires c = (
   c.requires.0.width,
   through_lying _ _ c.requires.0 (delivered c.args.ahead) c.requires.1 _
       c.size_after-size.ensures _ (c.unpack.ensures ∙ unpacked_at _ _),
 )
 
-pub returns-in_err-at : goal.returns-in_err-at
+pub returns-in_default : goal.returns-in_default
 unfolding told_linked
-returns-in_err-at c =
-    ap told_linked (exits c.from_residual.ensures.1) ∙ followed_refused _ _ _ c.loop-bits.invariant c.loop-bits-test.true
+returns-in_default c =
+    ap told_linked c.in_default.is ∙ followed_refused _ _ _ c.loop-bits.invariant c.loop-bits-test.true
     c.name_before-name.ensures.0 (sym (through_link _ _ c.requires.0 (delivered c.args.ahead)
     c.requires.1 _ c.size_after-size.ensures _ (c.unpack.ensures ∙ unpacked_at _ _)) ∙
-    stopped_is _ _ c.link.ensures c.in_err-at.was)
+    stopped_is _ _ c.link-answer.ensures c.in_default.is)
 
 pub contents_after-requires : goal.contents_after-requires
 unfolding through
@@ -65,7 +65,7 @@ contents_after-requires c =
       through_reached _ _ c.requires.0 ahead c.requires.1 _ (link_reached _ _
           (through_readable _ _ c.requires.0 ahead c.requires.1) _ _ _ (sym (through_link _ _ c.requires.0 ahead
           c.requires.1 _ c.size_after-size.ensures _ (c.unpack.ensures ∙ unpacked_at _ _)) ∙
-          at_is _ _ c.link.ensures c.in_ok-at.was)),
+          at_is _ _ c.link-answer.ensures c.in-Ok.is)),
     )
 
 pub loop-bits-smaller : goal.loop-bits-smaller
@@ -77,7 +77,7 @@ loop-bits-preserved c =
     followed_at _ _ _ c.loop-bits.invariant c.loop-bits-test.true c.name_before-name.ensures.0
     (through_readable _ _ c.requires.0 ahead c.requires.1) _ (sym (through_link _ _ c.requires.0 ahead
     c.requires.1 _ c.size_after-size.ensures _ (c.unpack.ensures ∙ unpacked_at _ _)) ∙ at_is _
-    _ c.link.ensures c.in_ok-at.was)
+    _ c.link-answer.ensures c.in-Ok.is)
     (through_contents _ _ c.requires.0 ahead c.requires.1 _ c.contents_after.ensures)
 
 pub returns : goal.returns
