@@ -228,7 +228,7 @@ fn is_whole(b: u64, groups: usize, length: usize) -> bool
     ensures { result ≡ eqb length (b * groups) }
 {
     let n = b as usize;
-    length % n == 0 && length / n == groups
+    (length % n == 0) & (length / n == groups)
 }
 
 // Saves words of b bits: refusals 31, 33, 35. Bytes past those written stay.

@@ -44,7 +44,7 @@ fn number(n: usize, place: usize, day: u64, drawn: u64) -> u64 {
     if place == 0 {
         return name_of(n, day, drawn);
     }
-    if n == 5 && drawn >> 62 == 0 {
+    if (n == 5) & (drawn >> 62 == 0) {
         return u64::from(place == 4);
     }
     open_number(place, drawn)
@@ -145,7 +145,7 @@ fn answer(a: u64, x: u64, y: u64) -> u64 {
 // What a figure counts of an answer: rows, closed, refusals.
 fn counted(which: u64, answer: u64) -> u64 {
     match which {
-        1 => u64::from(answer > 0 && answer < 800),
+        1 => u64::from((answer > 0) & (answer < 800)),
         2 => u64::from(answer == 0),
         _ => u64::from(answer > 800),
     }
