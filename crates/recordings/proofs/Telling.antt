@@ -6,7 +6,7 @@ use mathlib.Core.Bool.{Bool, true, false, ◌&&◌, cond}
 use mathlib.Core.List.{List, [], ◌∷◌, ◌++◌, append_assoc, append-nil}
 use mathlib.Core.Path.{◌≡◌, refl, sym, ap, ap₂, ◌∙◌}
 use borrow.Author.Tests.{lt-ltb, le-leb, lt-leb, leb-false}
-use lib.Dec.{eqb, leb}
+use lib.Dec.{eqb, leb, ltb}
 use lib.ListN.{length}
 use Rattle.std.proofs.Common.{Option, Some, None, Result, Ok, Err}
 use Rattle.word.specs.Told.{Told, tells, gives, refuses, value}
@@ -15,8 +15,22 @@ use Rattle.recordings.specs.declared.CorrectionError.{CorrectionError}
 use Rattle.recordings.specs.declared.CorrectionError.TheVariants.{BadList, RowTwice, OutputShort}
 use Rattle.recordings.specs.Recordings.{row_count, is_list, chain, has_twice, all_standing, Left, written, correcting, told_written, correcting_told}
 use Rattle.recordings.specs.Walking.{Answered, ManyStops, has_few, told_few, few_told, few_output}
-use Rattle.recordings.specs.Walking.{lesser, least_from}
+use Rattle.recordings.specs.Walking.{lesser, least_from, told_least, lesser_told, least_told}
 use Rattle.recordings.proofs.Stops.{LeastOf, least_none, least_more}
+
+-- the least stop
+lesser_told_lem : (low : ℕ) (found : Option ℕ) (s : ℕ) → told_least (lesser low found s) ≡ lesser_told low found s
+unfolding told_least lesser lesser_told
+lesser_told_lem low None s = by_test (λ t. told_least (cond t (Some s) None) ≡ cond t (gives s) (tells 0 [])) (leb low s) (λ _. refl) (λ _. refl)
+lesser_told_lem low (Some found) s =
+    by_test (λ t. told_least (cond t (Some s) (Some found)) ≡ cond t (gives s) (gives found)) (leb low s && ltb s found) (λ _. refl) (λ _. refl)
+
+pub lesser_tells : (low : ℕ) (found : Option ℕ) (s : ℕ) {r : Option ℕ} → r ≡ lesser low found s → told_least r ≡ lesser_told low found s
+lesser_tells low found s e = ap told_least e ∙ lesser_told_lem low found s
+
+pub least_tells : (low : ℕ) (l : List ℕ) {r : Option ℕ} → r ≡ least_from low None l → told_least r ≡ least_told low l
+unfolding least_told
+least_tells low l e = ap told_least e
 
 module _ (low : ℕ) where
   least_on : (l rest : List ℕ) (found : Option ℕ) → LeastOf low l found → LeastOf low (l ++ rest) (least_from low found rest)

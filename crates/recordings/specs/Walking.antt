@@ -1,7 +1,7 @@
 -- What the contracts of inner functions name besides: the chain walked, rows entered one after the other, the chains of places by
 -- which a stop is found again, the least stop from a bound on. Assumes nothing.
 use Rattle.std.specs.Prelude.{ℕ, zero, suc, ◌+◌, ◌*◌, ◌/◌, ◌%◌, ◌<◌, ◌≤◌, Bool, true, false, ◌&&◌, cond, List, [], ◌∷◌, map, ◌≡◌, eqb, leb, ltb, length, drop, get_or, set, Option, Some, None, Result}
-use Rattle.word.specs.Told.{Told, tells}
+use Rattle.word.specs.Told.{Told, tells, gives}
 use Rattle.recordings.specs.declared.CorrectionError.{CorrectionError}
 use Rattle.recordings.specs.Recordings.{number_of, stop_of, day_of, recording_of, row_count, is_list, chain, has_twice, all_standing}
 use Rattle.recordings.specs.Recordings.{pairs}
@@ -194,3 +194,16 @@ lesser low (Some found) stop = cond (leb low stop && ltb stop found) (Some stop)
 unfoldable pub least_from : ℕ → Option ℕ → List ℕ → Option ℕ
 least_from low found [] = found
 least_from low found (x ∷ xs) = least_from low (lesser low found x) xs
+
+-- a least stop in numbers: 0 and the stop, 0 and no value where there is none. The papers give this answer no other number
+unfoldable pub told_least : Option ℕ → Told ℕ
+told_least (Some x) = gives x
+told_least None = tells 0 []
+
+-- what is told of the lesser, and of the least of these numbers that is not below a bound
+unfoldable pub lesser_told : ℕ → Option ℕ → ℕ → Told ℕ
+lesser_told low None stop = cond (leb low stop) (gives stop) (tells 0 [])
+lesser_told low (Some found) stop = cond (leb low stop && ltb stop found) (gives stop) (gives found)
+
+unfoldable pub least_told : ℕ → List ℕ → Told ℕ
+least_told low xs = told_least (least_from low None xs)

@@ -4,7 +4,7 @@
 ghost use Rattle.std.specs.Prelude.{◌≡◌, true, None, ◌++◌, ◌+◌, ◌*◌, ◌≤◌, ◌<◌, leb, length, drop};
 ghost use Rattle.recordings.specs.Recordings.{row_count, number_of, zeros_after, nexts_inside, is_list, chain};
 ghost use Rattle.recordings.specs.Recordings.{all_standing, correcting, told_written, correcting_told};
-ghost use Rattle.recordings.specs.Walking.{Walked, Noted, Fresh, stops, from, lesser, least_from};
+ghost use Rattle.recordings.specs.Walking.{Walked, Noted, Fresh, stops, from, lesser, least_from, told_least, lesser_told, least_told};
 ghost use Rattle.recordings.specs.Walking.{with_row, all_written, Answered, FewNoted, ManyStops, told_few, few_told, few_output};
 
 use places::{enter, first_of, grow, put_pair};
@@ -102,7 +102,8 @@ fn is_after(last: Option<u64>, stop: u64) -> bool
 
 // The lesser of what was found and a stop, unless the stop is no greater than the last one.
 fn lesser_of(last: Option<u64>, found: Option<u64>, stop: u64) -> Option<u64>
-    ensures { result ≡ lesser (from last) found stop }
+    ensures value { result ≡ lesser (from last) found stop }
+    ensures numbered { told_least result ≡ lesser_told (from last) found stop }
 {
     if !is_after(last, stop) {
         return found;
@@ -113,7 +114,8 @@ fn lesser_of(last: Option<u64>, found: Option<u64>, stop: u64) -> Option<u64>
 // The least stop of the chain that is greater than the last one.
 fn next_stop(list: &[u64], steps: usize, last: Option<u64>) -> Option<u64>
     requires { Walked list.now steps }
-    ensures { result ≡ least_from (from last) None (stops list.now (chain list.now)) }
+    ensures value { result ≡ least_from (from last) None (stops list.now (chain list.now)) }
+    ensures numbered { told_least result ≡ least_told (from last) (stops list.now (chain list.now)) }
 {
     let mut found = None;
     let mut row = number_of(list, 0, NEXT);

@@ -24,15 +24,15 @@ next_stop-requires c = c.requires.0
 
 pub returns-in_default : goal.returns-in_default
 returns-in_default c =
-    sym (room_none _ _ _ (rw c.in_default.is at (least_is _ _ _ c.next_stop.ensures))) ∙ c.loop-left.invariant
+    sym (room_none _ _ _ (rw c.in_default.is at (least_is _ _ _ c.next_stop.ensures.value))) ∙ c.loop-left.invariant
 
 pub loop-left-preserved : goal.loop-left-preserved
 loop-left-preserved c =
-    room_next _ _ _ _ (rw c.in-Some.is at (least_is _ _ _ c.next_stop.ensures)) (omega arith) ∙ c.loop-left.invariant
+    room_next _ _ _ _ (rw c.in-Some.is at (least_is _ _ _ c.next_stop.ensures.value)) (omega arith) ∙ c.loop-left.invariant
 
 pub next_stop-requires-2 : goal.next_stop-requires-2
 next_stop-requires-2 c = c.requires.0
 
 pub returns : goal.returns
 returns c =
-    sym (room_end _ _ _ (omega arith) _ (least_is _ _ _ c.next_stop-2.ensures) _ c.is_none.ensures) ∙ c.loop-left.invariant
+    sym (room_end _ _ _ (omega arith) _ (least_is _ _ _ c.next_stop-2.ensures.value) _ c.is_none.ensures) ∙ c.loop-left.invariant

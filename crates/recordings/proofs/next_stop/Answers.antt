@@ -5,7 +5,7 @@ use lib.ListN.{length}
 use Rattle.recordings.specs.Recordings.{next_of, stop_of, chain}
 use Rattle.recordings.proofs.Chain.{at_start, at_next, number_inside, some_row}
 use Rattle.recordings.proofs.Loops.{least_start, least_step, least_end}
-use Rattle.recordings.proofs.Telling.{least_found}
+use Rattle.recordings.proofs.Telling.{least_found, least_tells}
 use Rattle.recordings.proofs.next_stop.Goals as goal
 
 pub number_of-row-requires : goal.number_of-row-requires
@@ -29,10 +29,13 @@ loop-i-preserved c =
     let more : c.loop-i.i < length (chain c.args.list.now) = omega (arith, c.requires.all_steps) in (
       rw c.number_of-row-in-loop-i.ensures (at_next _ c.requires.is_list_lem c.loop-i.invariant.0 more),
       omega arith,
-      rw (c.lesser_of-found.ensures, c.number_of.ensures)
+      rw (c.lesser_of-found.ensures.value, c.number_of.ensures)
           (least_step _ _ c.requires.is_list_lem c.loop-i.invariant.0 more _ c.loop-i.invariant.2),
     )
 
-pub returns : goal.returns
-returns c =
+pub returns-clause-value : goal.returns-clause-value
+returns-clause-value c =
     least_found _ _ _ (least_end _ _ c.loop-i.i (omega (arith, c.requires.all_steps)) _ c.loop-i.invariant.2)
+
+pub returns-clause-numbered : goal.returns-clause-numbered
+returns-clause-numbered c = least_tells _ _ (returns-clause-value c)
