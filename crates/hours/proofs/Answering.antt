@@ -11,7 +11,7 @@ unfolding told_opening
 row_told true r o h = refl
 row_told false r o h = h
 
-search_told : (minute : ℕ) (es : List Entry) → told_opening (Ok (first_holding minute es)) ≡ holding_told minute es
+pub search_told : (minute : ℕ) (es : List Entry) → told_opening (Ok (first_holding minute es)) ≡ holding_told minute es
 unfolding first_holding holding_told told_opening
 search_told minute [] = refl
 search_told minute (e ∷ es) = row_told (holds minute e) e.row (first_holding minute es) (search_told minute es)

@@ -1,9 +1,9 @@
 // Opening hours: the row of the entry line at which a tour starts, by the day and the minute. Document 02: ticket 7.
 #![tactic(auto)]
 
-ghost use Rattle.std.specs.Prelude.{◌&&◌, eqb, ◌≡◌, ◌<◌, get_or};
+ghost use Rattle.std.specs.Prelude.{◌&&◌, eqb, ◌≡◌, ◌<◌, get_or, Ok};
 ghost use Rattle.hours.specs.Hours.{weekday, entry_of, entries, has_hours, has_zeros, has_name, keeps, all_keep_of, holds};
-ghost use Rattle.hours.specs.Hours.{any_names, naming, first_holding, list_keeps, accepts, open_at, told_opening, open_told};
+ghost use Rattle.hours.specs.Hours.{any_names, naming, first_holding, list_keeps, accepts, open_at, told_opening, holding_told, open_told};
 
 // How many numbers a window and an exception have.
 const WINDOW: usize = 4;
@@ -126,7 +126,8 @@ fn any_names(list: &[u64], n: usize, name: u64) -> bool
 // The row of the first entry that names this day or weekday and holds the minute.
 fn first_holding(list: &[u64], n: usize, name: u64, minute: u64) -> Option<u64>
     requires { 0 < n }
-    ensures { result ≡ first_holding minute (naming name (entries n list.now)) }
+    ensures value { result ≡ first_holding minute (naming name (entries n list.now)) }
+    ensures numbered { told_opening (Ok result) ≡ holding_told minute (naming name (entries n list.now)) }
 {
     list.chunks_exact(n)
         .map(entry_of)
