@@ -6,7 +6,7 @@ pub mod lines;
 pub mod references;
 pub mod tables;
 
-ghost use Rattle.std.specs.Prelude.{◌≡◌, ◌<◌, ◌≤◌};
+ghost use Rattle.std.specs.Prelude.{◌≡◌, ◌+◌, ◌<◌, ◌≤◌, MatchOption};
 ghost use Rattle.std.specs.Iterator.{at_most};
 
 // An answer is a number: a value below this one, or this one and the number of a refusal.
@@ -63,6 +63,9 @@ pub fn all() -> Cases
 
 impl Iterator for Cases {
     type Item = Case;
+
+    // A case, and one fewer left; none, and nothing changed, exactly where none is left.
+    ghost next_gives = { λ s r t. MatchOption r ((s.left ≡ 0) × (t ≡ s)) (λ case. s.left ≡ t.left + 1) };
 
     ghost remaining = { λ s. at_most s.left };
 
