@@ -18,13 +18,17 @@ pub enum Asked {
     Repeated,
 }
 
-// Whether some pair has the stop with a recording.
+// Whether some pair has the stop with a recording. A loop: `any` takes an instruction more for each pair.
 fn has_recording(pairs: &[u64], stop: u64) -> bool
     ensures { result ≡ has_recording stop pairs.now }
 {
-    pairs
-        .chunks_exact(2)
-        .any(|pair| (pair[0] == stop) & (pair[1] != 0))
+    let (whole, _) = pairs.as_chunks::<2>();
+    for pair in whole {
+        if (pair[0] == stop) & (pair[1] != 0) {
+            return true;
+        }
+    }
+    false
 }
 
 // Whether the stop at a place of a list stands again later, and not before.
