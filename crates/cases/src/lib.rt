@@ -8,6 +8,8 @@ pub mod tables;
 
 ghost use Rattle.std.specs.Prelude.{◌≡◌, ◌+◌, ◌<◌, ◌≤◌, MatchOption};
 ghost use Rattle.std.specs.Iterator.{at_most};
+ghost use Rattle.std.specs.List.{FoldsTo};
+ghost use Rattle.cases.specs.Folding.{next, fold, Folds};
 
 // An answer is a number: a value below this one, or this one and the number of a refusal.
 pub const REFUSED: u64 = 9223372036854775808;
@@ -29,14 +31,18 @@ pub struct Cases {
 }
 
 // The generator's next state: a shift register of 64 bits.
-pub fn next(state: u64) -> u64 {
+pub fn next(state: u64) -> u64
+    ensures { result ≡ next state }
+{
     let a = state ^ (state << 13);
     let b = a ^ (a >> 7);
     b ^ (b << 17)
 }
 
 // The checksum after one more result.
-pub fn fold(sum: u64, res: u64) -> u64 {
+pub fn fold(sum: u64, res: u64) -> u64
+    ensures { result ≡ fold sum res }
+{
     next(sum ^ res)
 }
 
@@ -104,7 +110,9 @@ pub fn below(n: u64, drawn: u64) -> u64
 }
 
 // Words or bytes folded into a checksum.
-pub fn fold_all<T: Copy + Into<u64>>(before: u64, numbers: &[T]) -> u64 {
+pub fn fold_all<T: Copy + Into<u64>>(before: u64, numbers: &[T]) -> u64
+    ensures { FoldsTo (Folds T.converts) before numbers.now result }
+{
     let mut sum = before;
     for number in numbers {
         sum = fold(sum, (*number).into());

@@ -1,0 +1,2 @@
+-- The lemmas, where this crate's proofs find them.
+mod Folded

@@ -1,0 +1,2 @@
+-- What the test programs share, in numbers.
+pub mod Folding
