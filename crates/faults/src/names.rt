@@ -99,12 +99,13 @@ pub fn collect(b: u64, text: &[u8], room: &mut [Label]) -> usize
 {
     let mut n = 0;
     let mut before: u64 = 0;
+    // Tested at a turn's end, so that the line after the last one that is wanted is not looked through.
     for s in text.split_inclusive(|x| *x == b'\n') {
+        let it = note_line(b, s, n, before, room);
+        n = it.count;
         if rows::MOST <= n {
             return n;
         }
-        let it = note_line(b, s, n, before, room);
-        n = it.count;
         before += it.size;
     }
     n

@@ -85,11 +85,15 @@ fn seek(b: u64, text: &[u8], sought: &mut [u64], n: usize) -> usize
         × Found b text.now (take result sought.new)) }
 {
     let mut m = 0;
+    if n == 0 {
+        return m;
+    }
+    // Tested at a turn's end, so that the line after the last one that is wanted is not looked through.
     for s in text.split_inclusive(|x| *x == b'\n') {
+        m = seek_line(b, s, sought, m, n);
         if n <= m {
             return m;
         }
-        m = seek_line(b, s, sought, m, n);
     }
     m
 }
