@@ -1,40 +1,44 @@
--- `lines::fitting::is_form` meets its contract: as many arguments as kinds, each of its kind. Assumes nothing.
-use mathlib.Core.Path.{sym, ap, ◌∙◌}
+-- `lines::fitting::is_form` meets its contract. The loop's invariant: the kinds that are left are asked of the arguments that are left.
+-- Assumes nothing.
+use native.Mathlib.Omega.{arith}
 use lib.Dec.{eqb}
-use lib.ListN.{length}
-use Prim.Native.Nat.{ℕ}
-use mathlib.Core.List.{List}
-use Rattle.std.specs.Prelude.{zip}
-use Rattle.std.specs.List.{list_all}
-use Rattle.std.proofs.Common.{rules, tests}
-use Rattle.std.proofs.lemmas.Iterator.{YieldsList-from_slice, YieldsList-from_zip}
-use Rattle.std.proofs.lemmas.Iterator.Consumers.{count_from_yields_List, YieldsList-at}
-use Rattle.std.proofs.lemmas.Iterator.Search.{all_from_yields_List}
-use Rattle.std.proofs.lemmas.Iterator.Splits.{YieldsList-from_slice_split}
-use Rattle.lines.specs.Words.{is_kind}
+use mathlib.Core.Path.{sym, ◌∙◌}
+use Rattle.std.proofs.Common.{rules, of_calls}
+use Rattle.std.proofs.lemmas.List.Sorted.{answers_always}
+use Rattle.std.proofs.lemmas.Option.{MatchOption-at_none, MatchOption-at_some}
 use Rattle.lines.specs.Forms.{fits}
-use Rattle.lines.specs.Walking.{kind_of, as_form}
-use Rattle.lines.proofs.Library.{split_lem}
-use Rattle.lines.proofs.Matching.{kinds_many, kinds_all}
+use Rattle.lines.specs.Walking.{as_form}
+use Rattle.lines.proofs.Matching.{argument_first, fitting_none, fitting_over, fitting_not, fitting_more, fitting_all}
 use Rattle.lines.proofs.fitting.is_form.Goals as goal
 
-pub returns-then-form-count : goal.returns-then-form-count
+pub loop-kind-init : goal.loop-kind-init
+loop-kind-init c =
+    (search of_calls, fitting_none _ _ _ c.splitn-parts.ensures.count c.splitn-parts.ensures.done c.splitn-parts.ensures.rest)
+
+pub returns-in_default : goal.returns-in_default
 unfolding fits as_form
-returns-then-form-count c =
-    let many = count_from_yields_List c.split.result _ c.count.ensures.ran
-    (YieldsList-from_slice_split _ (λ x. eqb x 44) c.args.s.now c.split.ensures.rest c.split.ensures.done c.split.ensures.closure
-    (λ x b q k. search (rules, tests))) ∙ ap length (split_lem c.args.s.now) in
-    kinds_many _ _ _ (λ e. c.if-form-count.true (e ∙ sym many))
+returns-in_default c = fitting_over _ _ _ c.loop-kind.invariant.1 c.loop-kind-test.true c.in_default.ensures.steps.1
+
+pub returns-then-not-is_kind : goal.returns-then-not-is_kind
+unfolding fits as_form
+returns-then-not-is_kind c =
+    let h = c.loop-kind.invariant.1 in
+    let (count, (some, last, parts, there, by_test)) = c.in-Some.ensures.steps in
+    let first = argument_first _ _ _ _ parts (by_test (omega (arith, h.many)) (λ x. eqb x 44) (answers_always _ _ _ (λ f a r g called. search rules))).1 in
+    fitting_not _ _ _ h _ _ _ _ c.loop-kind-test.true there first (sym c.is_kind.ensures ∙ c.if-not-is_kind.true)
+
+pub loop-kind-preserved : goal.loop-kind-preserved
+loop-kind-preserved c =
+    let h = c.loop-kind.invariant.1 in
+    let (count, (some, last, parts, there, by_test)) = c.in-Some.ensures.steps in
+    let first = argument_first _ _ _ _ parts (by_test (omega (arith, h.many)) (λ x. eqb x 44) (answers_always _ _ _ (λ f a r g called. search rules))).1 in (
+      search of_calls,
+      fitting_more _ _ _ h _ _ _ _ c.loop-kind-test.true there first (sym c.is_kind.ensures ∙ c.if-not-is_kind.false) count,
+    )
 
 pub returns : goal.returns
 unfolding fits as_form
 returns c =
-    let many = count_from_yields_List c.split.result _ c.count.ensures.ran
-    (YieldsList-from_slice_split _ (λ x. eqb x 44) c.args.s.now c.split.ensures.rest c.split.ensures.done c.split.ensures.closure
-    (λ x b q k. search (rules, tests))) ∙ ap length (split_lem c.args.s.now) in
-    all_from_yields_List (λ p. is_kind c.args.b (kind_of p.0) p.1) c.all.new.self _ c.all.result c.all.ensures.ran
-    (YieldsList-from_zip (YieldsList-from_slice c.args.form.now.arguments.now cc) (YieldsList-at c.zip.ensures.second
-    (YieldsList-from_slice_split _ (λ x. eqb x 44) c.args.s.now c.split-parts.ensures.rest c.split-parts.ensures.done c.split-parts.ensures.closure
-    (λ x b q k. search (rules, tests))))) (λ x b q k. search (rules, tests))
-    ∙ ap (λ (ws : List (List ℕ)). list_all (λ p. is_kind c.args.b (kind_of p.0) p.1) (zip c.args.form.now.arguments.now ws)) (split_lem c.args.s.now)
-    ∙ kinds_all _ _ _ (c.if-form-count.false ∙ many)
+    let steps = c.next-2.ensures.steps.1 in
+    fitting_all _ _ _ c.loop-kind.invariant.1 c.loop-kind-test.false _ _ c.is_none.ensures (λ e. MatchOption-at_none _ _ e steps)
+    (λ w e. (MatchOption-at_some _ _ w e steps).3)
