@@ -76,7 +76,15 @@ impl Labels<'_> {
                 unreachable!()
             };
             let from = start + 1;
-            n = self.renew(&s[start..], close - start, found, n);
+            n = seeking::renew(
+                self.b,
+                self.text,
+                &s[start..],
+                close - start,
+                self.known,
+                found,
+                n,
+            );
             if self.calls_missing(&found[0..n], &s[from..close]) {
                 return true;
             }

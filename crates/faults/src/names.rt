@@ -22,10 +22,7 @@ impl Labels<'_> {
     pub fn row_of(&self, w: &[u8]) -> u64
         ensures { result ≡ known_row self.now.known.now w.now }
     {
-        if !kinds::is_label(w) {
-            return 0;
-        }
-        row_beside(self.known, key_of(w))
+        known_row(self.known, w)
     }
 }
 
@@ -60,6 +57,16 @@ fn row_beside(known: &[Label], key: u64) -> u64
         }
     }
     0
+}
+
+// The row beside a label, 0 where it is none or not there.
+pub fn known_row(known: &[Label], w: &[u8]) -> u64
+    ensures { result ≡ known_row known.now w.now }
+{
+    if !kinds::is_label(w) {
+        return 0;
+    }
+    row_beside(known, key_of(w))
 }
 
 // A label put after the first n, unless it is empty.

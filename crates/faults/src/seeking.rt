@@ -3,7 +3,7 @@ ghost use Rattle.std.specs.Prelude.{◌≡◌, true, false, List, ℕ, suc, ◌+
 ghost use Rattle.faults.specs.Places.{missing};
 ghost use Rattle.faults.specs.Names.{Known, Found, Told, LineOf, Kept, Moved};
 
-use crate::names::{Labels, key_of};
+use crate::names::key_of;
 use crate::{Label, line, names};
 use lines::{arguments, kinds, words};
 use table::rows;
@@ -98,96 +98,110 @@ fn seek(b: u64, text: &[u8], sought: &mut [u64], n: usize) -> usize
     m
 }
 
-impl Labels<'_> {
-    // A label put after the first n that are sought, unless it is known or sought.
-    fn want(&self, sought: &mut [u64], n: usize, w: &[u8]) -> usize
-        requires { n < length sought.old }
-        ensures { (result ≤ suc n) × (length sought.new ≡ length sought.old) }
-    {
-        if !kinds::is_label(w) {
+// A label put after the first n that are sought, unless it is known or sought.
+fn want(known: &[Label], sought: &mut [u64], n: usize, w: &[u8]) -> usize
+    requires { n < length sought.old }
+    ensures { (result ≤ suc n) × (length sought.new ≡ length sought.old) }
+{
+    if !kinds::is_label(w) {
+        return n;
+    }
+    if names::known_row(known, w) != 0 {
+        return n;
+    }
+    let key = key_of(w);
+    if sought[0..n].contains(&key) {
+        return n;
+    }
+    sought[n] = key;
+    n + 1
+}
+
+// A word put there if it is used.
+fn want_word(
+    part: &[u8],
+    from: usize,
+    end: usize,
+    known: &[Label],
+    sought: &mut [u64],
+    n: usize,
+) -> usize
+    requires { ((from ≤ end) × (end < length part.now)) × (n < length sought.old) }
+    ensures { (result ≤ suc n) × (length sought.new ≡ length sought.old) }
+{
+    if !is_use(part, from, end) {
+        return n;
+    }
+    want(known, sought, n, &part[from..end])
+}
+
+// The labels that a part of a text uses and that are not known, as many as there is room for: how many.
+fn gather(part: &[u8], known: &[Label], sought: &mut [u64]) -> usize
+    ensures { (result ≤ length sought.new) × (length sought.new ≡ length sought.old) }
+{
+    let mut from = 0;
+    let mut n = 0;
+    // No range to go over: a word begins past the end of the one before it.
+    while from < part.len() {
+        if sought.len() <= n {
             return n;
         }
-        if self.row_of(w) != 0 {
+        let end = words::word_end(part, from);
+        if part.len() <= end {
             return n;
         }
-        let key = key_of(w);
-        if sought[0..n].contains(&key) {
-            return n;
-        }
-        sought[n] = key;
-        n + 1
+        n = want_word(part, from, end, known, sought, n);
+        from = end + 1;
     }
+    n
+}
 
-    // A word put there if it is used.
-    fn want_word(&self, part: &[u8], from: usize, end: usize, sought: &mut [u64], n: usize) -> usize
-        requires { ((from ≤ end) × (end < length part.now)) × (n < length sought.old) }
-        ensures { (result ≤ suc n) × (length sought.new ≡ length sought.old) }
-    {
-        if !is_use(part, from, end) {
-            return n;
-        }
-        self.want(sought, n, &part[from..end])
-    }
+// The labels that a part of a text uses, that are not known and that lines of the text declare, as many as there is room for:
+// how many.
+pub fn resolve(b: u64, text: &[u8], part: &[u8], known: &[Label], found: &mut [u64]) -> usize
+    requires { b ≤ 48 }
+    ensures { (result ≤ length found.new)
+        × ((length found.new ≡ length found.old)
+        × Found b text.now (take result found.new)) }
+{
+    let n = gather(part, known, found);
+    seek(b, text, found, n)
+}
 
-    // The labels that a part of the text uses and that are not known, as many as there is room for: how many.
-    fn gather(&self, part: &[u8], sought: &mut [u64]) -> usize
-        ensures { (result ≤ length sought.new) × (length sought.new ≡ length sought.old) }
-    {
-        let mut from = 0;
-        let mut n = 0;
-        // No range to go over: a word begins past the end of the one before it.
-        while from < part.len() {
-            if sought.len() <= n {
-                return n;
-            }
-            let end = words::word_end(part, from);
-            if part.len() <= end {
-                return n;
-            }
-            n = self.want_word(part, from, end, sought, n);
-            from = end + 1;
-        }
-        n
+// Whether an operation, by what stands inside it, calls a label that is neither known nor found.
+fn is_new(known: &[Label], found: &[u64], s: &[u8]) -> bool {
+    if known.len() < rows::MOST {
+        return false;
     }
+    let Some(label) = arguments::called(s) else {
+        return false;
+    };
+    if names::known_row(known, label) != 0 {
+        return false;
+    }
+    !is_found(found, label)
+}
 
-    // The labels that a part of the text uses, that are not known and that lines of the text declare, as many as there is room
-    // for: how many.
-    fn resolve(&self, part: &[u8], found: &mut [u64]) -> usize
-        ensures { (result ≤ length found.new)
-            × ((length found.new ≡ length found.old)
-            × Found self.now.b self.now.text.now (take result found.new)) }
-    {
-        let n = self.gather(part, found);
-        seek(self.b, self.text, found, n)
+// The labels found, and others from an operation on where it calls one that is not among them. The operation closes at a place
+// of its line's part.
+pub fn renew(
+    b: u64,
+    text: &[u8],
+    part: &[u8],
+    close: usize,
+    known: &[Label],
+    found: &mut [u64],
+    n: usize,
+) -> usize
+    requires { (b ≤ 48) × ((1 ≤ close) × ((close < length part.now) × (n ≤ length found.old))) }
+    ensures { (result ≤ length found.new)
+        × ((length found.new ≡ length found.old)
+        × Kept b text.now n found.old result found.new) }
+{
+    if !is_new(known, &found[0..n], &part[1..close]) {
+        return n;
     }
-
-    // Whether an operation, by what stands inside it, calls a label that is neither known nor found.
-    fn is_new(&self, found: &[u64], s: &[u8]) -> bool {
-        if self.known.len() < rows::MOST {
-            return false;
-        }
-        let Some(label) = arguments::called(s) else {
-            return false;
-        };
-        if self.row_of(label) != 0 {
-            return false;
-        }
-        !is_found(found, label)
-    }
-
-    // The labels found, and others from an operation on where it calls one that is not among them. The operation closes at a
-    // place of its line's part.
-    pub(crate) fn renew(&self, part: &[u8], close: usize, found: &mut [u64], n: usize) -> usize
-        requires { (1 ≤ close) × ((close < length part.now) × (n ≤ length found.old)) }
-        ensures { (result ≤ length found.new)
-            × ((length found.new ≡ length found.old)
-            × Kept self.now.b self.now.text.now n found.old result found.new) }
-    {
-        if !self.is_new(&found[0..n], &part[1..close]) {
-            return n;
-        }
-        self.resolve(part, found)
-    }
+    resolve(b, text, part, known, found)
 }
 
 // Labels that are found put after those that are known, as many as there is room for: how many then.
@@ -225,8 +239,6 @@ pub fn learn(b: u64, text: &[u8], room: &mut [Label]) -> usize
         return n;
     }
     let mut found = no_labels();
-    let known = &room[0..n];
-    let labels = Labels { b, text, known };
-    let m = labels.resolve(text, &mut found);
+    let m = resolve(b, text, text, &room[0..n], &mut found);
     append(room, n, &found[0..m])
 }

@@ -1,11 +1,9 @@
 -- `faults::seeking::learn` meets its contract: the labels collected are known, and with those that `resolve` finds appended they still are.
 -- Assumes nothing.
-use Prim.Native.Nat.{ℕ, ◌-◌}
-use native.Mathlib.Omega.{arith}
-use lib.ListN.{take}
-use mathlib.Core.Path.{◌≡◌, sym, subst}
+use Prim.Native.Nat.{ℕ}
+use mathlib.Core.Path.{sym, subst}
 use mathlib.Core.List.{List}
-use Rattle.faults.specs.Names.{Known, Found}
+use Rattle.faults.specs.Names.{Found}
 use Rattle.lines.proofs.Parts.{part_slice}
 use Rattle.faults.proofs.seeking.learn.Goals as goal
 
@@ -14,14 +12,6 @@ collect-n-requires c = c.requires
 
 pub returns-then-n-lt-MOST : goal.returns-then-n-lt-MOST
 returns-then-n-lt-MOST c = c.collect-n.ensures
-
-pub invariant_of-labels : goal.invariant_of-labels
-invariant_of-labels c =
-    let whole : c.collect-n.result ≡ c.collect-n.result - 0 = omega arith in
-    record {
-      width = c.requires.0;
-      right = subst (λ (n : ℕ). Known c.args.b c.args.text.now (take n c.collect-n.new.room)) whole c.collect-n.ensures.1;
-    }
 
 pub returns : goal.returns
 returns c = (

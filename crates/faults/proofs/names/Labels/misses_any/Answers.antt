@@ -59,7 +59,7 @@ renew-n-requires c =
     (rw c.in-Some-Paren.field-0-is at c.in-Some-Paren.ensures) in
     let rest = ap length (part_rest c.blanks_end-start.result c.args.s.now) ∙ length-drop c.blanks_end-start.result
     c.args.s.now in
-    (omega (arith, k.opens), (omega (arith, k.opens, k.closes), c.loop-left.invariant.1.0))
+    (c.args.self.now.width, (omega (arith, k.opens), (omega (arith, k.opens, k.closes), c.loop-left.invariant.1.0)))
 
 pub slice_bounds-calls_missing-count-in-loop-left : goal.slice_bounds-calls_missing-count-in-loop-left
 slice_bounds-calls_missing-count-in-loop-left c =

@@ -1,10 +1,10 @@
--- `faults::names::Labels::gather` meets its contract. The loop's invariant: the place lies in the text and no more is put than there is room for.
+-- `faults::seeking::gather` meets its contract. The loop's invariant: the place lies in the text and no more is put than there is room for.
 -- The measure is what is left of the text. Assumes nothing.
 use native.Mathlib.Omega.{arith}
 use mathlib.Core.Path.{refl, ◌∙◌}
 use Rattle.lines.specs.Words.{is_name}
 use Rattle.lines.proofs.Scanning.{end_inside}
-use Rattle.faults.proofs.names.Labels.gather.Goals as goal
+use Rattle.faults.proofs.seeking.gather.Goals as goal
 
 pub loop-from-init : goal.loop-from-init
 loop-from-init c = (omega arith, (omega arith, refl))

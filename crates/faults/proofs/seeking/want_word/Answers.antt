@@ -1,7 +1,7 @@
--- `faults::names::Labels::want_word` meets its contract: a word that is no use puts nothing, and another what `want` does. Assumes nothing.
+-- `faults::seeking::want_word` meets its contract: a word that is no use puts nothing, and another what `want` does. Assumes nothing.
 use native.Mathlib.Omega.{arith}
 use mathlib.Core.Path.{refl}
-use Rattle.faults.proofs.names.Labels.want_word.Goals as goal
+use Rattle.faults.proofs.seeking.want_word.Goals as goal
 
 pub is_use-requires : goal.is_use-requires
 is_use-requires c = c.requires.0
