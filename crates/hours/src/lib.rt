@@ -3,7 +3,8 @@
 
 ghost use Rattle.std.specs.Prelude.{◌&&◌, eqb, ◌≡◌, ◌<◌, get_or, Ok};
 ghost use Rattle.hours.specs.Hours.{weekday, entry_of, entries, has_hours, has_zeros, has_name, keeps, all_keep_of, holds};
-ghost use Rattle.hours.specs.Hours.{any_names, naming, first_holding, list_keeps, accepts, open_at, told_opening, holding_told, open_told};
+ghost use Rattle.hours.specs.Hours.{any_names, naming, first_holding, list_keeps, accepts, open_at};
+ghost use Rattle.hours.specs.Hours.{told_opening, holding_told, open_told};
 
 // How many numbers a window and an exception have.
 const WINDOW: usize = 4;

@@ -4,7 +4,8 @@
 ghost use Rattle.std.specs.Prelude.{◌≡◌, true, None, ◌++◌, ◌+◌, ◌*◌, ◌≤◌, ◌<◌, leb, length, drop};
 ghost use Rattle.recordings.specs.Recordings.{row_count, number_of, zeros_after, nexts_inside, is_list, chain};
 ghost use Rattle.recordings.specs.Recordings.{all_standing, correcting, told_written, correcting_told};
-ghost use Rattle.recordings.specs.Walking.{Walked, Noted, Fresh, stops, from, lesser, least_from, told_least, lesser_told, least_told};
+ghost use Rattle.recordings.specs.Walking.{Walked, Noted, Fresh, stops, from, lesser, least_from};
+ghost use Rattle.recordings.specs.Walking.{told_least, lesser_told, least_told};
 ghost use Rattle.recordings.specs.Walking.{with_row, all_written, Answered, FewNoted, ManyStops, told_few, few_told, few_output};
 
 use places::{enter, first_of, grow, put_pair};
