@@ -1,4 +1,4 @@
--- Records of one length, one after the other: put, read, and read back. One law for words, definitions, places and the map's bytes.
+-- Records of one length, one after the other: put, read, and read back. One law for words, definitions and places.
 -- Assumes nothing.
 use Prim.Native.Nat.{ℕ, zero, suc, ◌+◌, ◌*◌, ◌≤◌, ◌<◌}
 use native.Mathlib.Nat.{mul-zero, mul-suc, mul-le-mul_left}

@@ -1,4 +1,4 @@
--- What the numbers that are read make of a place, a definition and a byte. Assumes nothing.
+-- What the numbers that are read make of a place, a definition and a state. Assumes nothing.
 use Prim.Native.Nat.{ℕ, ◌+◌, ◌≤◌, ◌<◌}
 use native.Mathlib.Nat.{add-zero}
 use native.Mathlib.Omega.{arith}
