@@ -18,7 +18,8 @@ pub fn kind_at(table: &[u64], r: u64) -> u64
 fn names_kind(table: &[u64], kind: u64, r: u64) -> bool
     ensures { result ≡ names_kind table.now kind r }
 {
-    r == 0 || kind_at(table, r) == kind
+    let found = kind_at(table, r);
+    (r == 0) | (found == kind)
 }
 
 // The rows that a line names.
@@ -35,7 +36,8 @@ fn line_names(table: &[u64], row: Row) -> bool
 fn operation_names(table: &[u64], row: Row) -> bool
     ensures { result ≡ operation_names table.now row }
 {
-    row.code != codes::DO || kind_at(table, row.first.value) == codes::LINE
+    let kind = kind_at(table, row.first.value);
+    (row.code != codes::DO) | (kind == codes::LINE)
 }
 
 // The rows that a row names.
